@@ -1,0 +1,139 @@
+-- The small histories of document 01, H1 to H11, as one statement over the group, proved by computing with the rules; and two of
+-- our own, for the faults that H1 to H11 do not tell apart.
+use Prim.Native.Nat.{ℕ}
+use mathlib.Core.Path.{_≡_, refl}
+use mathlib.Core.List.{List, [], _∷_, map}
+use Rattle.rules.specs.Tables.{Tables, fresh, head, own}
+use Rattle.rules.specs.Comparison.{claim}
+use Rattle.rules.specs.Reach.{listOf}
+use Rattle.rules.specs.Answers.{Answer, node, out, on, wait, held, back, refused}
+use Rattle.rules.specs.Board.{holders}
+use Rattle.rules.specs.Play.{Call, beginCall, stepCall, releaseCall, Turn, trace, afterAll, ascii, play}
+use Rattle.rules.specs.declared.Row.{Row}
+use Rattle.rules.proofs.Opened.{rules}
+
+-- calls as a script writes them
+abbrev b : ℕ → ℕ → ℕ → ℕ → Call
+b seat start end kind = beginCall seat (claim start end kind)
+
+abbrev s : ℕ → Call
+s seat = stepCall seat
+
+abbrev r : ℕ → Call
+r seat = releaseCall seat
+
+abbrev row : ℕ → ℕ → ℕ → ℕ → Row
+row seat first end kind = record { seat = seat; first = first; end = end; kind = kind }
+
+-- the answers of the calls, in order
+abbrev answers : Tables → List Call → List Answer
+answers t calls = map (λ (turn : Turn). turn .did .answer) (trace t calls)
+
+-- ---- H1: the script above
+abbrev pub H1 : Type 0
+H1 =
+    play (ascii "4 3 10\nb 0 10 20 2\ns 0\ns 0\nb 1 15 25 2\ns 1\nr 0\ns 1\ns 1\ns 1\ns 1\n")
+    ≡ ascii "1 node 1\n2 on\n3 held\n4 node 2\n5 wait 1\n6 out\n7 on\n8 on\n9 on\n10 held\nlist 2\nhold 1 15 25 2\ncovered 10\n"
+
+-- ---- H2: writers 10..20 and 20..30 both hold
+abbrev pub H2calls : List Call
+H2calls = b 0 10 20 2 ∷ s 0 ∷ s 0 ∷ b 1 20 30 2 ∷ s 1 ∷ s 1 ∷ s 1 ∷ s 1 ∷ []
+
+abbrev pub H2 : Type 0
+H2 =
+    (answers (fresh 4 4) H2calls ≡ node 1 ∷ on ∷ held ∷ node 2 ∷ on ∷ on ∷ on ∷ held ∷ [])
+    × (holders (afterAll (fresh 4 4) H2calls) ≡ row 0 10 20 2 ∷ row 1 20 30 2 ∷ [])
+
+-- ---- H3: with writer 10..20 held, writer 19..30 waits
+abbrev pub H3 : Type 0
+H3 = answers (fresh 4 4) (b 0 10 20 2 ∷ s 0 ∷ s 0 ∷ b 1 19 30 2 ∷ s 1 ∷ []) ≡ node 1 ∷ on ∷ held ∷ node 2 ∷ wait 1 ∷ []
+
+-- ---- H4: readers 0..100 and 50..60 both hold; a writer 70..80 waits at the first
+abbrev pub H4calls : List Call
+H4calls = b 0 0 100 1 ∷ s 0 ∷ s 0 ∷ b 1 50 60 1 ∷ s 1 ∷ s 1 ∷ s 1 ∷ b 2 70 80 2 ∷ s 2 ∷ []
+
+abbrev pub H4 : Type 0
+H4 =
+    (answers (fresh 4 4) H4calls ≡ node 1 ∷ on ∷ held ∷ node 2 ∷ on ∷ on ∷ held ∷ node 3 ∷ wait 1 ∷ [])
+    × (holders (afterAll (fresh 4 4) H4calls) ≡ row 0 0 100 1 ∷ row 1 50 60 1 ∷ [])
+
+-- ---- H5: two readers of 5..9 hold
+abbrev pub H5calls : List Call
+H5calls = b 0 5 9 1 ∷ s 0 ∷ s 0 ∷ b 1 5 9 1 ∷ s 1 ∷ s 1 ∷ s 1 ∷ []
+
+abbrev pub H5 : Type 0
+H5 =
+    (answers (fresh 4 4) H5calls ≡ node 1 ∷ on ∷ held ∷ node 2 ∷ on ∷ on ∷ held ∷ [])
+    × (holders (afterAll (fresh 4 4) H5calls) ≡ row 0 5 9 1 ∷ row 1 5 9 1 ∷ [])
+
+-- ---- H6: N = 1: hold, release, begin again: node 1
+abbrev pub H6 : Type 0
+H6 = answers (fresh 1 4) (b 0 0 10 2 ∷ s 0 ∷ s 0 ∷ r 0 ∷ b 0 0 10 2 ∷ []) ≡ node 1 ∷ on ∷ held ∷ out ∷ node 1 ∷ []
+
+-- ---- H7: N = 1: seat 0 holds, seat 1 begins: refusal 8
+abbrev pub H7 : Type 0
+H7 = answers (fresh 1 4) (b 0 0 10 2 ∷ s 0 ∷ s 0 ∷ b 1 0 10 2 ∷ []) ≡ node 1 ∷ on ∷ held ∷ refused 8 ∷ []
+
+-- ---- H8: N = 2: seat 0 holds node 1, seat 1 waits there, seat 0 releases and begins: refusal 8, head still 1
+abbrev pub H8calls : List Call
+H8calls = b 0 0 10 2 ∷ s 0 ∷ s 0 ∷ b 1 0 10 2 ∷ s 1 ∷ r 0 ∷ b 0 0 10 2 ∷ []
+
+abbrev pub H8 : Type 0
+H8 =
+    (answers (fresh 2 4) H8calls ≡ node 1 ∷ on ∷ held ∷ node 2 ∷ wait 1 ∷ out ∷ refused 8 ∷ [])
+    × (head (afterAll (fresh 2 4) H8calls) ≡ 1)
+
+-- ---- H9, N = 8: readers 1..10 (node 1) and 12..14 (node 2) hold. Seat 2 begins reader 5..20, seat 3 writer 15..20. Steps of
+-- seats 3, 3, 2, 2, 3, 2, 2, 3, 3, 2, 2, 2
+abbrev pub H9begun : List Call
+H9begun = b 0 1 10 1 ∷ s 0 ∷ s 0 ∷ b 1 12 14 1 ∷ s 1 ∷ s 1 ∷ s 1 ∷ b 2 5 20 1 ∷ b 3 15 20 2 ∷ []
+
+abbrev pub H9start : Tables
+H9start = afterAll (fresh 8 4) H9begun
+
+abbrev pub H9calls : List Call
+H9calls = s 3 ∷ s 3 ∷ s 2 ∷ s 2 ∷ s 3 ∷ s 2 ∷ s 2 ∷ s 3 ∷ s 3 ∷ s 2 ∷ s 2 ∷ s 2 ∷ []
+
+abbrev pub H9end : Tables
+H9end = afterAll H9start H9calls
+
+abbrev pub H9 : Type 0
+H9 =
+    (answers (fresh 8 4) H9begun ≡ node 1 ∷ on ∷ held ∷ node 2 ∷ on ∷ on ∷ held ∷ node 3 ∷ node 4 ∷ [])
+    × (holders H9start ≡ row 0 1 10 1 ∷ row 1 12 14 1 ∷ [])
+    × (answers H9start H9calls ≡ on ∷ on ∷ on ∷ on ∷ on ∷ on ∷ wait 4 ∷ on ∷ back ∷ on ∷ on ∷ held ∷ [])
+    × (listOf H9end ≡ 1 ∷ 3 ∷ 2 ∷ [])
+
+-- ---- H10: then seat 3 steps three times: on, on, wait 3; its new node is 4
+abbrev pub H10calls : List Call
+H10calls = s 3 ∷ s 3 ∷ s 3 ∷ []
+
+abbrev pub H10 : Type 0
+H10 = (answers H9end H10calls ≡ on ∷ on ∷ wait 3 ∷ []) × (own (afterAll H9end H10calls) 3 ≡ 4)
+
+-- ---- H11: begin 7..7 is refusal 3; 0..4294967295 is accepted
+abbrev pub H11 : Type 0
+H11 = answers (fresh 4 4) (b 0 7 7 2 ∷ b 0 0 4294967295 2 ∷ []) ≡ refused 3 ∷ node 1 ∷ []
+
+-- ---- the group
+pub histories : H1 × H2 × H3 × H4 × H5 × H6 × H7 × H8 × H9 × H10 × H11
+unfolding rules
+histories = (refl, (refl, refl), refl, (refl, refl), (refl, refl), refl, refl, (refl, refl), (refl, refl, refl, refl), (refl, refl), refl)
+
+-- ---- ours: seat 2 waits at node 1, and nodes 1 and 2 are released. Taken out, node 2 is at no seat's own, prev or cur; but
+-- seat 2 still reaches it through node 1, so it is not free
+abbrev pub ThroughRemoved : Type 0
+ThroughRemoved =
+    answers (fresh 3 3) (b 0 0 10 2 ∷ s 0 ∷ s 0 ∷ b 1 20 30 2 ∷ s 1 ∷ s 1 ∷ s 1 ∷ s 1 ∷ b 2 5 30 2 ∷ s 2 ∷ r 0 ∷ r 1 ∷ b 0 40 50 2 ∷ [])
+    ≡ node 1 ∷ on ∷ held ∷ node 2 ∷ on ∷ on ∷ on ∷ held ∷ node 3 ∷ wait 1 ∷ out ∷ out ∷ refused 8 ∷ []
+
+-- ---- ours: seat 1 has passed node 1 when that is released, and seat 2 takes it out and holds 20..30. Seat 1 must not enter
+-- behind node 1, where no one would see it: it starts again and waits at seat 2's node
+abbrev pub BehindMarked : Type 0
+BehindMarked =
+    answers (fresh 4 3) (b 0 0 10 2 ∷ s 0 ∷ s 0 ∷ b 1 20 30 1 ∷ s 1 ∷ r 0 ∷ b 2 20 30 2 ∷ s 2 ∷ s 2 ∷ s 2 ∷ s 1 ∷ s 1 ∷ [])
+    ≡ node 1 ∷ on ∷ held ∷ node 2 ∷ on ∷ out ∷ node 3 ∷ on ∷ on ∷ held ∷ on ∷ wait 3 ∷ []
+
+pub our-histories : ThroughRemoved × BehindMarked
+unfolding rules
+our-histories = (refl, refl)

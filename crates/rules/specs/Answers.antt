@@ -1,0 +1,53 @@
+-- What a call gives back, and how it is refused.
+use Prim.Native.Nat.{ℕ}
+use mathlib.Core.Bool.{Bool}
+use mathlib.Core.List.{List, [], _∷_}
+use Rattle.rules.specs.Notation.{if_then_else_, _is_}
+use Rattle.rules.specs.Tables.{Tables, phase, cur}
+
+-- "Begin: `node n`. Release: `out`. Step .. `wait n` .. `held` .. `back` .. `on`", or the number of the refusal
+pub data Answer : Type 0 where
+  node : ℕ → Answer
+  out : Answer
+  on : Answer
+  wait : ℕ → Answer
+  held : Answer
+  back : Answer
+  refused : ℕ → Answer
+
+-- an answer, and the tables after the call
+pub record Done (A : Type 0) : Type 0 where
+  pub answer : A
+  pub after : Tables
+
+abbrev pub done : {A : Type 0} → A → Tables → Done A
+done answer after = record { answer = answer; after = after }
+
+-- a reason to refuse: its number, and when
+pub record Refusal : Type 0 where
+  pub number : ℕ
+  pub holds : Bool
+
+infix 2 _when_
+abbrev pub _when_ : ℕ → Bool → Refusal
+number when test = record { number = number; holds = test }
+
+-- "Checked in rising number .. Each returns only its number .. and leaves tables .. as found": the first reason that holds,
+-- or what the call does if none does. `say` makes an answer of the number.
+abbrev pub refusing : {A : Type 0} → (ℕ → A) → List Refusal → Tables → Done A → Done A
+refusing say [] t accepted = accepted
+refusing say (reason ∷ more) t accepted =
+    if reason .holds then done (say (reason .number)) t
+    else refusing say more t accepted
+
+-- "Step, from the seat's new phase: 2 or 4 `wait n` with n = cur; 5 `held`; 6 `back`; else `on`."
+unfoldable pub answerOf : Tables → ℕ → Answer
+answerOf t s =
+    if phase t s is 2 then wait (cur t s)
+    else if phase t s is 4 then wait (cur t s)
+    else if phase t s is 5 then held
+    else if phase t s is 6 then back
+    else on
+
+abbrev pub answered : Tables → ℕ → Done Answer
+answered t s = done (answerOf t s) t

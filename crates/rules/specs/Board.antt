@@ -1,0 +1,62 @@
+-- The board: who holds what.
+use Prim.Native.Nat.{ℕ, zero, suc, _+_, _-_, _*_, _/_}
+use mathlib.Core.Bool.{Bool}
+use mathlib.Core.List.{List, [], _∷_, _++_}
+use lib.ListN.{length, drop}
+use Rattle.rules.specs.Notation.{if_then_else_, _is_, _<?_}
+use Rattle.rules.specs.Tables.{Tables, seatCount, start, end, kind, phase, own}
+use Rattle.rules.specs.Calls.{damaged}
+use Rattle.rules.specs.declared.Row.{Row}
+
+-- "rows, each with seat, first frame, end frame and kind"
+abbrev pub rowOf : Tables → ℕ → Row
+rowOf t s = record { seat = s; first = start t (own t s); end = end t (own t s); kind = kind t (own t s) }
+
+-- "one for each seat in phase 5, by rising seat number"
+unfoldable pub rowsBelow : ℕ → Tables → List Row
+rowsBelow zero t = []
+rowsBelow (suc s) t =
+    if phase t s is 5 then rowsBelow s t ++ (rowOf t s ∷ [])
+    else rowsBelow s t
+
+unfoldable pub holders : Tables → List Row
+holders t = rowsBelow (seatCount t) t
+
+-- "covered frames, the sum of end − start over the rows"
+unfoldable pub coveredBy : List Row → ℕ
+coveredBy [] = 0
+coveredBy (row ∷ rows) = (row .end - row .first) + coveredBy rows
+
+-- "It returns the row count and covered frames"
+pub data Boarded : Type 0 where
+  filled : ℕ → ℕ → Boarded
+  refused : ℕ → Boarded
+
+-- an answer, and the board after the call
+pub record Shown (A : Type 0) : Type 0 where
+  pub answer : Boarded
+  pub board : List A
+
+abbrev pub shown : {A : Type 0} → Boarded → List A → Shown A
+shown answer board = record { answer = answer; board = board }
+
+-- "Later rows stay."
+unfoldable pub board : Tables → List Row → Shown Row
+board t lent =
+    if damaged t then shown (refused 1) lent
+    else if length lent <? length (holders t) then shown (refused 9) lent
+    else shown (filled (length (holders t)) (coveredBy (holders t))) (holders t ++ drop (length (holders t)) lent)
+
+-- ---- the same on a lent list of numbers, four to a row
+abbrev pub rowWidth : ℕ
+rowWidth = 4
+
+unfoldable pub numbersOf : List Row → List ℕ
+numbersOf [] = []
+numbersOf (row ∷ rows) = row .seat ∷ row .first ∷ row .end ∷ row .kind ∷ numbersOf rows
+
+unfoldable pub boardNumbers : Tables → List ℕ → Shown ℕ
+boardNumbers t lent =
+    if damaged t then shown (refused 1) lent
+    else if length lent / rowWidth <? length (holders t) then shown (refused 9) lent
+    else shown (filled (length (holders t)) (coveredBy (holders t))) (numbersOf (holders t) ++ drop (rowWidth * length (holders t)) lent)

@@ -1,0 +1,56 @@
+-- The calls on the tables, each total: any tables, any numbers. A refused call gives its number and the tables as found.
+use Prim.Native.Nat.{ℕ}
+use mathlib.Core.Bool.{Bool, not}
+use mathlib.Core.List.{List, [], _∷_}
+use Rattle.rules.specs.Notation.{if_then_else_, _is_, _≤?_}
+use Rattle.rules.specs.Tables.{Tables, nodeCount, seatCount, phase, fresh}
+use Rattle.rules.specs.Comparison.{Claim}
+use Rattle.rules.specs.Shape.{lengthsFit, sound, isKind}
+use Rattle.rules.specs.Fetch.{Fetched, fetch}
+use Rattle.rules.specs.Answers.{Answer, node, out, refused, Done, done, Refusal, _when_, refusing}
+use Rattle.rules.specs.Steps.{leave, stepByPhase}
+
+-- | 1 | tables damaged |
+abbrev pub damaged : Tables → Bool
+damaged t = not (sound t)
+
+-- | 2 | seat number not below S |
+abbrev pub noSeat : Tables → ℕ → Bool
+noSeat t s = seatCount t ≤? s
+
+-- ---- clear: "Clear writes 0 everywhere". | 1 | .. for clear: only lengths wrong | "An accepted call with no other stated
+-- answer returns 0."
+unfoldable pub clear : Tables → Done ℕ
+clear t =
+    refusing (λ number. number) ((1 when not (lengthsFit t)) ∷ []) t
+    (done 0 (fresh (nodeCount t) (seatCount t)))
+
+-- ---- begin: "Begin: `node n`."
+unfoldable pub begun : Tables → Fetched → Done Answer
+begun t f =
+    if f .node is 0 then done (refused 8) t
+    else done (node (f .node)) (f .after)
+
+unfoldable pub begin : Tables → ℕ → Claim → Done Answer
+begin t s c =
+    refusing refused
+    ((1 when damaged t)
+    ∷ (2 when noSeat t s)
+    ∷ (3 when c .end ≤? c .start)
+    ∷ (4 when not (isKind (c .kind)))
+    ∷ (5 when not (phase t s is 0))
+    ∷ [])
+    t
+    (begun t (fetch t s c))
+
+-- ---- step
+unfoldable pub step : Tables → ℕ → Done Answer
+step t s =
+    refusing refused ((1 when damaged t) ∷ (2 when noSeat t s) ∷ (6 when phase t s is 0) ∷ []) t
+    (stepByPhase t s)
+
+-- ---- release: "Release: `out`."
+unfoldable pub release : Tables → ℕ → Done Answer
+release t s =
+    refusing refused ((1 when damaged t) ∷ (2 when noSeat t s) ∷ (7 when not (phase t s is 5)) ∷ []) t
+    (done out (leave t s))

@@ -1,0 +1,15 @@
+pub mod Notation
+pub mod Tables
+pub mod Comparison
+pub mod Shape
+pub mod Reach
+pub mod Fetch
+pub mod Answers
+pub mod Steps
+pub mod Calls
+pub mod FreeCount
+pub mod Run
+pub mod Board
+pub mod Script
+pub mod Play
+pub mod Reached

@@ -1,0 +1,69 @@
+-- Sound shape, clause by clause. "Any other table is damaged."
+use Prim.Native.Nat.{ℕ, zero, suc, _+_, _*_}
+use mathlib.Core.Bool.{Bool, not, _&&_, _||_}
+use lib.ListN.{length}
+use Rattle.rules.specs.Notation.{_is_, _≤?_, _<?_, all}
+use Rattle.rules.specs.Tables.{Tables, nodeCount, seatCount, beforeNodes, nodeWidth, seatWidth, start, end, kind, mark, next, head, phase, own, prev, cur}
+
+-- "lengths fit", where "N is 1 to 256" and "S is 1 to 64"
+unfoldable pub nodesFit : Tables → Bool
+nodesFit t = length (t .nodes) is beforeNodes + nodeWidth * nodeCount t && 1 ≤? nodeCount t && nodeCount t ≤? 256
+
+unfoldable pub seatsFit : Tables → Bool
+seatsFit t = length (t .seats) is seatWidth * seatCount t && 1 ≤? seatCount t && seatCount t ≤? 64
+
+unfoldable pub lengthsFit : Tables → Bool
+lengthsFit t = nodesFit t && seatsFit t
+
+-- "Kind 1 reads, 2 writes."
+unfoldable pub isKind : ℕ → Bool
+isKind k = k is 1 || k is 2
+
+-- "each node is all zeros (kind 0), or has kind 1 or 2, start < end, next at most N, mark 0 or 1"
+unfoldable pub zeroNode : Tables → ℕ → Bool
+zeroNode t a = start t a is 0 && end t a is 0 && kind t a is 0 && next t a is 0 && mark t a is 0
+
+unfoldable pub claimNode : Tables → ℕ → Bool
+claimNode t a = isKind (kind t a) && start t a <? end t a && next t a ≤? nodeCount t && mark t a ≤? 1
+
+-- "each nonzero head, next, own, prev and cur names a node of kind 1 or 2"
+unfoldable pub names : Tables → ℕ → Bool
+names t a = a is 0 || a ≤? nodeCount t && isKind (kind t a)
+
+unfoldable pub nodeSound : Tables → ℕ → Bool
+nodeSound t a = (zeroNode t a || claimNode t a) && names t (next t a)
+
+-- "phase is 0 to 6"
+unfoldable pub isPhase : Tables → ℕ → Bool
+isPhase t s = phase t s ≤? 6
+
+-- "an idle seat (0) has zeros in all four words, any other has own nonzero"
+unfoldable pub idleOrOwning : Tables → ℕ → Bool
+idleOrOwning t s = phase t s is 0 && own t s is 0 && prev t s is 0 && cur t s is 0 || not (phase t s is 0) && not (own t s is 0)
+
+-- "in phases 5 and 6 prev and cur are 0"
+unfoldable pub restingAtZero : Tables → ℕ → Bool
+restingAtZero t s = not (phase t s is 5 || phase t s is 6) || prev t s is 0 && cur t s is 0
+
+-- "in 2 and 4 cur is nonzero"
+unfoldable pub waitingAtCur : Tables → ℕ → Bool
+waitingAtCur t s = not (phase t s is 2 || phase t s is 4) || not (cur t s is 0)
+
+unfoldable pub seatSound : Tables → ℕ → Bool
+seatSound t s =
+    isPhase t s && idleOrOwning t s && restingAtZero t s && waitingAtCur t s
+    && names t (own t s) && names t (prev t s) && names t (cur t s)
+
+-- "from the head, 0 is met after at most N nodes"
+unfoldable pub endsWithin : ℕ → Tables → ℕ → Bool
+endsWithin zero t a = a is 0
+endsWithin (suc hops) t a = a is 0 || endsWithin hops t (next t a)
+
+unfoldable pub nodesSound : Tables → Bool
+nodesSound t = all (nodeCount t) (λ m. nodeSound t (m + 1))
+
+unfoldable pub seatsSound : Tables → Bool
+seatsSound t = all (seatCount t) (seatSound t)
+
+unfoldable pub sound : Tables → Bool
+sound t = lengthsFit t && nodesSound t && names t (head t) && seatsSound t && endsWithin (nodeCount t) t (head t)

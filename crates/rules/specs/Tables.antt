@@ -1,0 +1,159 @@
+-- The two tables: where each word stands, and how it is read and stored. No other definition knows an index.
+-- A read past the end is 0 and a store past the end does nothing. Node 0 is no node: its words read 0 and take no store, but
+-- for its link, which is the head of the list.
+use Prim.Native.Nat.{ℕ, zero, suc, _+_, _-_, _*_, _/_}
+use mathlib.Core.Bool.{Bool}
+use mathlib.Core.List.{List}
+use lib.ListN.{length, getD, set, replicate}
+use Rattle.rules.specs.Notation.{_is_}
+
+-- "Both are lent slices of 32-bit unsigned words."
+pub record Tables : Type 0 where
+  pub nodes : List ℕ
+  pub seats : List ℕ
+
+abbrev pub tables : List ℕ → List ℕ → Tables
+tables nodes seats = record { nodes = nodes; seats = seats }
+
+-- ---- "Nodes: one head word, then N nodes of five words: start, end, kind, next, mark."
+abbrev pub headAt : ℕ
+headAt = 0
+
+abbrev pub beforeNodes : ℕ
+beforeNodes = 1
+
+abbrev pub startAt : ℕ
+startAt = 0
+
+abbrev pub endAt : ℕ
+endAt = 1
+
+abbrev pub kindAt : ℕ
+kindAt = 2
+
+abbrev pub nextAt : ℕ
+nextAt = 3
+
+abbrev pub markAt : ℕ
+markAt = 4
+
+abbrev pub nodeWidth : ℕ
+nodeWidth = 5
+
+-- "Nodes are numbered 1 to N."
+unfoldable pub nodeWord : List ℕ → ℕ → ℕ → ℕ
+nodeWord nodes zero field = 0
+nodeWord nodes (suc m) field = getD nodes (beforeNodes + nodeWidth * m + field) 0
+
+unfoldable pub putNode : List ℕ → ℕ → ℕ → ℕ → List ℕ
+putNode nodes zero field value = nodes
+putNode nodes (suc m) field value = set nodes (beforeNodes + nodeWidth * m + field) value
+
+-- "The link of prev" is head if prev is 0, else prev's next.
+unfoldable pub linkWord : List ℕ → ℕ → ℕ
+linkWord nodes zero = getD nodes headAt 0
+linkWord nodes (suc m) = nodeWord nodes (suc m) nextAt
+
+unfoldable pub putLink : List ℕ → ℕ → ℕ → List ℕ
+putLink nodes zero value = set nodes headAt value
+putLink nodes (suc m) value = putNode nodes (suc m) nextAt value
+
+-- ---- "Seats: S seats of four words: phase, own, prev, cur. S is 1 to 64, numbered from 0."
+abbrev pub phaseAt : ℕ
+phaseAt = 0
+
+abbrev pub ownAt : ℕ
+ownAt = 1
+
+abbrev pub prevAt : ℕ
+prevAt = 2
+
+abbrev pub curAt : ℕ
+curAt = 3
+
+abbrev pub seatWidth : ℕ
+seatWidth = 4
+
+unfoldable pub seatWord : List ℕ → ℕ → ℕ → ℕ
+seatWord seats s field = getD seats (seatWidth * s + field) 0
+
+unfoldable pub putSeat : List ℕ → ℕ → ℕ → ℕ → List ℕ
+putSeat seats s field value = set seats (seatWidth * s + field) value
+
+-- ---- N and S, from the lengths
+unfoldable pub nodeCount : Tables → ℕ
+nodeCount t = (length (t .nodes) - beforeNodes) / nodeWidth
+
+unfoldable pub seatCount : Tables → ℕ
+seatCount t = length (t .seats) / seatWidth
+
+-- ---- reading by name
+abbrev pub start : Tables → ℕ → ℕ
+start t a = nodeWord (t .nodes) a startAt
+
+abbrev pub end : Tables → ℕ → ℕ
+end t a = nodeWord (t .nodes) a endAt
+
+abbrev pub kind : Tables → ℕ → ℕ
+kind t a = nodeWord (t .nodes) a kindAt
+
+abbrev pub mark : Tables → ℕ → ℕ
+mark t a = nodeWord (t .nodes) a markAt
+
+-- "Mark 1 means released or withdrawn."
+abbrev pub marked : Tables → ℕ → Bool
+marked t a = mark t a is 1
+
+abbrev pub link : Tables → ℕ → ℕ
+link t a = linkWord (t .nodes) a
+
+abbrev pub head : Tables → ℕ
+head t = link t 0
+
+-- of a node that is not 0
+abbrev pub next : Tables → ℕ → ℕ
+next t a = link t a
+
+abbrev pub phase : Tables → ℕ → ℕ
+phase t s = seatWord (t .seats) s phaseAt
+
+abbrev pub own : Tables → ℕ → ℕ
+own t s = seatWord (t .seats) s ownAt
+
+abbrev pub prev : Tables → ℕ → ℕ
+prev t s = seatWord (t .seats) s prevAt
+
+abbrev pub cur : Tables → ℕ → ℕ
+cur t s = seatWord (t .seats) s curAt
+
+-- ---- storing by name
+abbrev pub setNode : ℕ → Tables → ℕ → ℕ → Tables
+setNode field t a value = tables (putNode (t .nodes) a field value) (t .seats)
+
+abbrev pub setLink : Tables → ℕ → ℕ → Tables
+setLink t a value = tables (putLink (t .nodes) a value) (t .seats)
+
+abbrev pub setMark : Tables → ℕ → ℕ → Tables
+setMark = setNode markAt
+
+abbrev pub setSeat : ℕ → Tables → ℕ → ℕ → Tables
+setSeat field t s value = tables (t .nodes) (putSeat (t .seats) s field value)
+
+abbrev pub setPhase : Tables → ℕ → ℕ → Tables
+setPhase = setSeat phaseAt
+
+abbrev pub setOwn : Tables → ℕ → ℕ → Tables
+setOwn = setSeat ownAt
+
+abbrev pub setPrev : Tables → ℕ → ℕ → Tables
+setPrev = setSeat prevAt
+
+abbrev pub setCur : Tables → ℕ → ℕ → Tables
+setCur = setSeat curAt
+
+-- ---- "Clear writes 0 everywhere; that table is fresh."
+abbrev pub zeros : ℕ → List ℕ
+zeros n = replicate n 0
+
+unfoldable pub fresh : ℕ → ℕ → Tables
+fresh n s = tables (zeros (beforeNodes + nodeWidth * n)) (zeros (seatWidth * s))

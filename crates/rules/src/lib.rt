@@ -1,0 +1,48 @@
+// What the calls give back by value where it is more than a number. The rules themselves stand in specs/.
+
+// A row of the board: a holding seat, its claim's first frame, the frame after its last, and its kind.
+pub struct Row {
+    pub seat: u32,
+    pub first: u32,
+    pub end: u32,
+    pub kind: u32,
+}
+
+// A line of a script: its code (b 1, s 2, r 3) and four numbers.
+pub struct Line {
+    pub code: u32,
+    pub seat: u32,
+    pub start: u32,
+    pub end: u32,
+    pub kind: u32,
+}
+
+// A script as read: refusal 10 and the line that is wrong, or N, S, K and the rows. What a script does not fill is 0.
+pub struct Script {
+    pub refusal: u32,
+    pub wrong: u32,
+    pub n: u32,
+    pub s: u32,
+    pub k: u32,
+    pub rows: [Line; 1000],
+}
+
+// While a script is read: a number and the place after it.
+pub struct Found {
+    pub value: u32,
+    pub next: usize,
+}
+
+// A line and the place after it, or 0 where the line is wrong.
+pub struct Body {
+    pub line: Line,
+    pub next: usize,
+}
+
+// The numbers of line 1 and the place after it, or 0 where the line is wrong.
+pub struct Contents {
+    pub n: u32,
+    pub s: u32,
+    pub k: u32,
+    pub next: usize,
+}
