@@ -13,3 +13,4 @@ pub mod Board
 pub mod Script
 pub mod Play
 pub mod Reached
+pub mod Means

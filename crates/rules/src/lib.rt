@@ -46,3 +46,32 @@ pub struct Contents {
     pub k: u32,
     pub next: usize,
 }
+
+// What begin, step and release answer.
+pub enum Reply {
+    Node(u32),
+    Out,
+    On,
+    Wait(u32),
+    Held,
+    Back,
+    Refused(u32),
+}
+
+// What free count answers: the number of free nodes.
+pub enum CountReply {
+    Count(u32),
+    Refused(u32),
+}
+
+// What the board answers: the row count and the covered frames.
+pub enum BoardReply {
+    Rows(u32, u64),
+    Refused(u32),
+}
+
+// What run answers: the steps accepted, and the refusal met or 0.
+pub struct Ran {
+    pub steps: u32,
+    pub refusal: u32,
+}
