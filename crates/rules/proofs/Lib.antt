@@ -1,2 +1,4 @@
 pub mod Opened
 pub mod Histories
+pub mod Logic
+pub mod Words

@@ -1,0 +1,109 @@
+-- What a store leaves in each word of the tables: the one place beside specs/Tables.antt that knows where a word stands. Stated over the
+-- node, the seat, the field and the value; all above cites these.
+use Prim.Native.Nat.{ℕ, zero, suc, _+_, _-_, _*_, _/_, _<_, _≤_}
+use mathlib.Core.Path.{_≡_, refl, sym, ap, _∙_}
+use mathlib.Core.List.{List}
+use mathlib.Core.Logic.{_≢_}
+use native.Mathlib.Omega.{arith}
+use lib.ListN.{getD, set, length, length-set}
+use lib.Seq.{getD-set-same, getD-set-other}
+use Rattle.rules.specs.Tables.{Tables, tables, headAt, beforeNodes, nodeWidth, seatWidth, nextAt, nodeWord, putNode, linkWord, putLink, seatWord, putSeat, nodeCount, seatCount}
+
+-- ---- lengths
+pub put-node-length : (l : List ℕ) (a f v : ℕ) → length (putNode l a f v) ≡ length l
+unfolding putNode
+put-node-length l zero f v = refl
+put-node-length l (suc m) f v = simp length-set
+
+pub put-link-length : (l : List ℕ) (a v : ℕ) → length (putLink l a v) ≡ length l
+unfolding putLink
+put-link-length l zero v = simp length-set
+put-link-length l (suc m) v = put-node-length l (suc m) nextAt v
+
+pub put-seat-length : (l : List ℕ) (s f v : ℕ) → length (putSeat l s f v) ≡ length l
+unfolding putSeat
+put-seat-length l s f v = simp length-set
+
+-- N and S depend on the lengths alone
+pub same-node-count : (t u : Tables) → length (u .nodes) ≡ length (t .nodes) → nodeCount u ≡ nodeCount t
+unfolding nodeCount
+same-node-count t u e = rw e
+
+pub same-seat-count : (t u : Tables) → length (u .seats) ≡ length (t .seats) → seatCount u ≡ seatCount t
+unfolding seatCount
+same-seat-count t u e = rw e
+
+-- ---- a node's words after a store to a node's word
+pub node-put-same : (l : List ℕ) (a f v : ℕ) → f < nodeWidth → a ≢ 0 → beforeNodes + nodeWidth * a ≤ length l → nodeWord (putNode l a f v) a f ≡ v
+unfolding nodeWord putNode
+node-put-same l zero f v h z i = absurd (z refl)
+node-put-same l (suc m) f v h z i = getD-set-same l (beforeNodes + nodeWidth * m + f) v 0 (omega arith)
+
+pub node-put-field : (l : List ℕ) (a b f g v : ℕ) → f < nodeWidth → g < nodeWidth → f ≢ g → nodeWord (putNode l a f v) b g ≡ nodeWord l b g
+unfolding nodeWord putNode
+node-put-field l zero b f g v h i d = refl
+node-put-field l (suc m) zero f g v h i d = refl
+node-put-field l (suc m) (suc k) f g v h i d =
+    getD-set-other l (beforeNodes + nodeWidth * m + f) (beforeNodes + nodeWidth * k + g) v 0 (λ e. d (omega arith))
+
+pub node-put-node : (l : List ℕ) (a b f g v : ℕ) → f < nodeWidth → g < nodeWidth → a ≢ b → nodeWord (putNode l a f v) b g ≡ nodeWord l b g
+unfolding nodeWord putNode
+node-put-node l zero b f g v h i d = refl
+node-put-node l (suc m) zero f g v h i d = refl
+node-put-node l (suc m) (suc k) f g v h i d =
+    getD-set-other l (beforeNodes + nodeWidth * m + f) (beforeNodes + nodeWidth * k + g) v 0 (λ e. d (omega arith))
+
+-- node 0 has only zeros
+pub node-zero : (l : List ℕ) (f : ℕ) → nodeWord l 0 f ≡ 0
+unfolding nodeWord
+node-zero l f = refl
+
+-- ---- links
+pub link-node : (l : List ℕ) (a : ℕ) → a ≢ 0 → linkWord l a ≡ nodeWord l a nextAt
+unfolding linkWord
+link-node l zero z = absurd (z refl)
+link-node l (suc m) z = refl
+
+pub put-link-node : (l : List ℕ) (a v : ℕ) → a ≢ 0 → putLink l a v ≡ putNode l a nextAt v
+unfolding putLink
+put-link-node l zero v z = absurd (z refl)
+put-link-node l (suc m) v z = refl
+
+-- a store to any other field leaves every link
+pub link-put-field : (l : List ℕ) (a b f v : ℕ) → f < nodeWidth → f ≢ nextAt → linkWord (putNode l a f v) b ≡ linkWord l b
+unfolding linkWord putNode
+link-put-field l zero b f v h d = refl
+link-put-field l (suc m) zero f v h d = getD-set-other l (beforeNodes + nodeWidth * m + f) headAt v 0 (λ e. omega arith)
+link-put-field l (suc m) (suc k) f v h d = node-put-field l (suc m) (suc k) f nextAt v h (omega arith) d
+
+-- a store to a link leaves every other field
+pub node-put-link : (l : List ℕ) (a b g v : ℕ) → g < nodeWidth → g ≢ nextAt → nodeWord (putLink l a v) b g ≡ nodeWord l b g
+unfolding putLink nodeWord
+node-put-link l zero zero g v h d = refl
+node-put-link l zero (suc k) g v h d = getD-set-other l headAt (beforeNodes + nodeWidth * k + g) v 0 (λ e. omega arith)
+node-put-link l (suc m) b g v h d = node-put-field l (suc m) b nextAt g v (omega arith) h (λ e. d (sym e))
+
+pub link-put-same : (l : List ℕ) (a v : ℕ) → beforeNodes + nodeWidth * a ≤ length l → linkWord (putLink l a v) a ≡ v
+unfolding linkWord putLink
+link-put-same l zero v h = getD-set-same l headAt v 0 (omega arith)
+link-put-same l (suc m) v h = node-put-same l (suc m) nextAt v (omega arith) (λ e. omega arith) h
+
+pub link-put-other : (l : List ℕ) (a b v : ℕ) → a ≢ b → linkWord (putLink l a v) b ≡ linkWord l b
+unfolding linkWord putLink nodeWord putNode
+link-put-other l zero zero v d = absurd (d refl)
+link-put-other l zero (suc k) v d = getD-set-other l headAt (beforeNodes + nodeWidth * k + nextAt) v 0 (λ e. omega arith)
+link-put-other l (suc m) zero v d = getD-set-other l (beforeNodes + nodeWidth * m + nextAt) headAt v 0 (λ e. omega arith)
+link-put-other l (suc m) (suc k) v d = node-put-node l (suc m) (suc k) nextAt nextAt v (omega arith) (omega arith) d
+
+-- ---- a seat's words after a store to a seat's word
+pub seat-put-same : (l : List ℕ) (s f v : ℕ) → f < seatWidth → seatWidth * s + seatWidth ≤ length l → seatWord (putSeat l s f v) s f ≡ v
+unfolding seatWord putSeat
+seat-put-same l s f v h i = getD-set-same l (seatWidth * s + f) v 0 (omega arith)
+
+pub seat-put-field : (l : List ℕ) (s r f g v : ℕ) → f < seatWidth → g < seatWidth → f ≢ g → seatWord (putSeat l s f v) r g ≡ seatWord l r g
+unfolding seatWord putSeat
+seat-put-field l s r f g v h i d = getD-set-other l (seatWidth * s + f) (seatWidth * r + g) v 0 (λ e. d (omega arith))
+
+pub seat-put-seat : (l : List ℕ) (s r f g v : ℕ) → f < seatWidth → g < seatWidth → s ≢ r → seatWord (putSeat l s f v) r g ≡ seatWord l r g
+unfolding seatWord putSeat
+seat-put-seat l s r f g v h i d = getD-set-other l (seatWidth * s + f) (seatWidth * r + g) v 0 (λ e. d (omega arith))
