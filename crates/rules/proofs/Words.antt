@@ -7,7 +7,7 @@ use mathlib.Core.Logic.{_≢_}
 use native.Mathlib.Omega.{arith}
 use lib.ListN.{getD, set, length, length-set, List·getD-eq-default}
 use lib.Seq.{getD-set-same, getD-set-other}
-use Rattle.rules.specs.Tables.{Tables, tables, headAt, beforeNodes, nodeWidth, seatWidth, nextAt, nodeWord, putNode, linkWord, putLink, seatWord, putSeat, nodeCount, seatCount}
+use Rattle.rules.specs.Tables.{Tables, tables, headAt, beforeNodes, nodeWidth, seatWidth, nextAt, nodeWord, putNode, linkWord, putLink, seatWord, putSeat, nodeCountOf, seatCountOf, nodeCount, seatCount}
 
 -- ---- lengths
 pub put-node-length : (l : List ℕ) (a f v : ℕ) → length (putNode l a f v) ≡ length l
@@ -26,11 +26,11 @@ put-seat-length l s f v = simp length-set
 
 -- N and S depend on the lengths alone
 pub same-node-count : (t u : Tables) → length (u .nodes) ≡ length (t .nodes) → nodeCount u ≡ nodeCount t
-unfolding nodeCount
+unfolding nodeCountOf
 same-node-count t u e = rw e
 
 pub same-seat-count : (t u : Tables) → length (u .seats) ≡ length (t .seats) → seatCount u ≡ seatCount t
-unfolding seatCount
+unfolding seatCountOf
 same-seat-count t u e = rw e
 
 -- ---- a node's words after a store to a node's word
