@@ -6,20 +6,30 @@ ghost use Rattle.rules.specs.Tables.{nodeWord, putNode, linkWord, putLink, seat
 
 // Where the words of a node stand in it.
 pub const START: u32 = 0;
+
 pub const END: u32 = 1;
+
 pub const KIND: u32 = 2;
+
 pub const NEXT: u32 = 3;
+
 pub const MARK: u32 = 4;
 
 // Where the words of a seat stand in it.
 pub const PHASE: u32 = 0;
+
 pub const OWN: u32 = 1;
+
 pub const PREV: u32 = 2;
+
 pub const CUR: u32 = 3;
 
 const HEAD: usize = 0;
+
 const BEFORE_NODES: usize = 1;
+
 const NODE_WIDTH: usize = 5;
+
 const SEAT_WIDTH: usize = 4;
 
 fn word(table: &[u32], at: usize) -> u32
@@ -42,7 +52,10 @@ pub fn node_word(nodes: &[u32], a: u32, field: u32) -> u32
     if a == 0 {
         return 0;
     }
-    word(nodes, BEFORE_NODES + NODE_WIDTH * (a - 1) as usize + field as usize)
+    word(
+        nodes,
+        BEFORE_NODES + NODE_WIDTH * (a - 1) as usize + field as usize,
+    )
 }
 
 pub fn put_node(nodes: &mut [u32], a: u32, field: u32, value: u32)
@@ -51,7 +64,11 @@ pub fn put_node(nodes: &mut [u32], a: u32, field: u32, value: u32)
     if a == 0 {
         return;
     }
-    put(nodes, BEFORE_NODES + NODE_WIDTH * (a - 1) as usize + field as usize, value);
+    put(
+        nodes,
+        BEFORE_NODES + NODE_WIDTH * (a - 1) as usize + field as usize,
+        value,
+    );
 }
 
 pub fn link(nodes: &[u32], a: u32) -> u32

@@ -1,0 +1,36 @@
+-- The place of each word as the code works it out: node a, from 1, stands at a - 1.
+use Prim.Native.Nat.{ℕ, zero, suc, _+_, _-_, _*_}
+use mathlib.Core.Path.{_≡_, refl, sym, _∙_}
+use mathlib.Core.List.{List}
+use mathlib.Core.Logic.{_≢_}
+use native.Mathlib.Omega.{arith}
+use lib.ListN.{getD, set}
+use Rattle.rules.specs.Tables.{beforeNodes, nodeWidth, headAt, nextAt, nodeWord, putNode, linkWord, putLink}
+use Rattle.rules.proofs.Words.{link-node, put-link-node}
+
+before : (m : ℕ) → suc m - 1 ≡ m
+before m = omega arith
+
+pub read-node : (l : List ℕ) (a f r : ℕ) → a ≢ 0 → r ≡ getD l (beforeNodes + nodeWidth * (a - 1) + f) 0 → r ≡ nodeWord l a f
+unfolding nodeWord
+read-node l zero f r z e = absurd (z refl)
+read-node l (suc m) f r z e = rw (before m) at e
+
+pub store-node : (l l′ : List ℕ) (a f v : ℕ) → a ≢ 0 → l′ ≡ set l (beforeNodes + nodeWidth * (a - 1) + f) v → l′ ≡ putNode l a f v
+unfolding putNode
+store-node l l′ zero f v z e = absurd (z refl)
+store-node l l′ (suc m) f v z e = rw (before m) at e
+
+pub read-head : (l : List ℕ) (a r : ℕ) → a ≡ 0 → r ≡ getD l headAt 0 → r ≡ linkWord l a
+unfolding linkWord
+read-head l a r z e = rw z e
+
+pub read-next : (l : List ℕ) (a r : ℕ) → a ≢ 0 → r ≡ nodeWord l a nextAt → r ≡ linkWord l a
+read-next l a r z e = e ∙ sym (link-node l a z)
+
+pub store-head : (l l′ : List ℕ) (a v : ℕ) → a ≡ 0 → l′ ≡ set l headAt v → l′ ≡ putLink l a v
+unfolding putLink
+store-head l l′ a v z e = rw z e
+
+pub store-next : (l l′ : List ℕ) (a v : ℕ) → a ≢ 0 → l′ ≡ putNode l a nextAt v → l′ ≡ putLink l a v
+store-next l l′ a v z e = e ∙ sym (put-link-node l a v z)
