@@ -2,7 +2,9 @@
 // a read past the end is 0, a store past the end does nothing, and node 0 has only zeros but for its link, the head.
 ghost use mathlib.Core.Path.{_≡_};
 ghost use lib.ListN.{getD, set};
-ghost use Rattle.rules.specs.Tables.{nodeWord, putNode, linkWord, putLink, seatWord, putSeat, nodeCountOf, seatCountOf};
+ghost use mathlib.Core.List.{[]};
+ghost use Rattle.rules.specs.Tables.{tables, nodeWord, putNode, linkWord, putLink, seatWord, putSeat, nodeCountOf, seatCountOf};
+ghost use Rattle.rules.specs.Shape.{nodesFit, seatsFit};
 
 // Where the words of a node stand in it.
 pub const START: u32 = 0;
@@ -116,4 +118,18 @@ pub fn seat_count(seats: &[u32]) -> usize
     ensures { λ r. ⌜ r ≡ seatCountOf (now (seats .entry)) ⌝ }
 {
     seats.len() / SEAT_WIDTH
+}
+
+pub fn nodes_fit(nodes: &[u32]) -> bool
+    ensures { λ r. ⌜ r ≡ nodesFit (tables (now (nodes .entry)) []) ⌝ }
+{
+    let n = node_count(nodes);
+    (nodes.len() == BEFORE_NODES + NODE_WIDTH * n) & (1 <= n) & (n <= 256)
+}
+
+pub fn seats_fit(seats: &[u32]) -> bool
+    ensures { λ r. ⌜ r ≡ seatsFit (tables [] (now (seats .entry))) ⌝ }
+{
+    let s = seat_count(seats);
+    (seats.len() == SEAT_WIDTH * s) & (1 <= s) & (s <= 64)
 }
