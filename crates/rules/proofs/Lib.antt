@@ -3,3 +3,4 @@ pub mod Histories
 pub mod Logic
 pub mod Words
 pub mod Shape
+pub mod Refused
