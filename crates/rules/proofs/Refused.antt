@@ -7,7 +7,9 @@ use Rattle.rules.specs.Notation.{_is_, _≤?_}
 use Rattle.rules.specs.Tables.{Tables, seatCount, phase, own}
 use Rattle.rules.specs.Comparison.{Claim, claimOf}
 use Rattle.rules.specs.Shape.{sound, isKind}
-use Rattle.rules.specs.Fetch.{Fetched, fetch}
+use borrow.Author.Tests.{eqb-false}
+use Rattle.rules.specs.Reach.{lowestFree}
+use Rattle.rules.specs.Fetch.{Fetched, takenOut, fetchAgain, fetch}
 use Rattle.rules.specs.Answers.{Answer, Done, done, answerOf, answered}
 use Rattle.rules.specs.Steps.{walking, waitingToEnter, validating, readerWaiting, refetched, withdrawn, stepByPhase}
 use Rattle.rules.specs.Calls.{begun, begin, step, release}
@@ -77,3 +79,11 @@ unfolding call
 call-keeps t (beginCall s c) = begin-keeps t s c
 call-keeps t (stepCall s) = step-keeps t s
 call-keeps t (releaseCall s) = release-keeps t s
+
+-- ---- where fetch finds no node it changes nothing
+pub fetch-none : (t : Tables) (s : ℕ) (c : Claim) → fetch t s c .node ≡ 0 → fetch t s c .after ≡ t
+unfolding fetch fetchAgain
+fetch-none t s c =
+    branch (λ (f : Fetched). f .node ≡ 0 → f .after ≡ t) (lowestFree t s is 0)
+    (λ e. branch (λ (f : Fetched). f .node ≡ 0 → f .after ≡ t) (lowestFree (takenOut t) s is 0) (λ e z. refl) (λ e z. absurd (eqb-false (lowestFree (takenOut t) s) 0 e z)))
+    (λ e z. absurd (eqb-false (lowestFree t s) 0 e z))
