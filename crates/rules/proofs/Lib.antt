@@ -4,3 +4,4 @@ pub mod Logic
 pub mod Words
 pub mod Shape
 pub mod Refused
+pub mod OneAnswer
