@@ -9,7 +9,7 @@ use native.Mathlib.Numerals.{add-one}
 use lib.ListN.{length, drop, getD}
 use lib.Seq.{drop-cons, drop-length}
 use lib.Dec.{eqb}
-use borrow.Author.Tests.{eq-eqb, ne-eqb}
+use borrow.Author.Tests.{ne-eqb, eqb-true}
 use Rattle.rules.specs.Tables.{Tables, tables}
 use Rattle.rules.specs.Shape.{sound}
 use Rattle.rules.specs.Answers.{Answer, Done, done}
@@ -108,3 +108,7 @@ run-sound n n′ t t′ schedule budget b r w p e = rw (sym p ∙ e) w
 pub run-damaged : (n t schedule : List ℕ) (budget : ℕ) (b : Bool) → b ≡ sound (tables n t) → b ≡ false → done (ran 0 1) (tables n t) ≡ run (tables n t) schedule budget
 unfolding run
 run-damaged n t schedule budget b p e = rw (sym p ∙ e)
+
+-- before the first step the tables are those that were tested
+pub first-known : (n t : List ℕ) (k : ℕ) → (k ≡ 0 → sound (tables n t) ≡ true) → eqb k 0 ≡ true → sound (tables n t) ≡ true
+first-known n t k f e = f (eqb-true k 0 e)

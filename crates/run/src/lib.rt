@@ -17,7 +17,12 @@ fn refusal_of(reply: Reply) -> u32
 {
     match reply {
         Reply::Refused(number) => number,
-        Reply::Node(_) | Reply::Out | Reply::On | Reply::Wait(_) | Reply::Held | Reply::Back => 0,
+        Reply::Node(_) => 0,
+        Reply::Out => 0,
+        Reply::On => 0,
+        Reply::Wait(_) => 0,
+        Reply::Held => 0,
+        Reply::Back => 0,
     }
 }
 

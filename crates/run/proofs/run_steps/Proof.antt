@@ -1,86 +1,90 @@
+-- `run::run_steps` meets its promise.
+use Rattle.rules.specs.Run.{runSteps}
+use Rattle.rules.specs.Shape.{sound}
+use Rattle.rules.specs.Tables.{tables}
+use lib.ListN.{length, drop}
+use mathlib.Core.Bool.{true}
+use Prim.Native.Nat.{_+_, _-_, _*_, _≤_}
+use mathlib.Core.Path.{_≡_, refl}
+use native.Mathlib.Omega.{arith}
+use borrow.Author.Needs.{needs}
+use Rattle.run.proofs.Counting.{plus, left-all, left-again, left-refused, left-budget, left-end, first-known}
 use Rattle.run.proofs.run_steps.Statement.{statement}
 use Rattle.run.proofs.run_steps.Tie as tie
-use Rattle.run.proofs.run_steps.Reads as reads
-use Rattle.run.proofs.run_steps.Lts as lts
-use Rattle.run.proofs.step_entry.Reads as step-entry-reads
 
 abbrev Inv-loop : tie.InvT-loop
-Inv-loop nodes₀ seats₀ schedule budget steps₀ nodes seats steps = ?
+Inv-loop nodes₀ seats₀ schedule budget steps₀ nodes seats steps =
+    (length nodes ≡ length nodes₀) × (length seats ≡ length seats₀) × (steps ≤ budget) × (steps ≤ length schedule) × (steps ≡ 0 → sound (tables nodes seats) ≡ true)
+    × (plus steps (runSteps (budget - steps) (tables nodes seats) (drop steps schedule)) ≡ runSteps budget (tables nodes₀ seats₀) schedule)
 
 abbrev μ-loop : tie.MeasureT-loop
-μ-loop nodes₀ seats₀ schedule budget steps₀ nodes seats steps = ?
+μ-loop nodes₀ seats₀ schedule budget steps₀ nodes seats steps = budget - steps
 
--- src/lib.rt:42:5
 loop-holds : tie.Need-loop-holds Inv-loop μ-loop
-loop-holds c = ?
+loop-holds c = (refl, refl, omega arith, omega arith, λ z. c .before .before .before .pre, left-all _ _ _)
 
--- src/lib.rt:49:30
 cast-if2 : tie.Need-cast-if2 Inv-loop μ-loop
-cast-if2 c = ?
+cast-if2 c = search needs
 
--- src/lib.rt:55:26
 cast-s : tie.Need-cast-s Inv-loop μ-loop
-cast-s c = ?
+cast-s c = search needs
 
--- src/lib.rt:55:17
 mul-s : tie.Need-mul-s Inv-loop μ-loop
-mul-s c = ?
+mul-s c = search needs
 
--- src/lib.rt:55:17
 shared-slice-read-s : tie.Need-shared-slice-read-s Inv-loop μ-loop
-shared-slice-read-s c = ?
+shared-slice-read-s c = search needs
 
--- src/lib.rt:56:13
 step-entry-requires : tie.Need-step-entry-requires Inv-loop μ-loop
-step-entry-requires c κs = ?
+step-entry-requires c κs = search first-known
 
--- src/lib.rt:63:9
 add-steps : tie.Need-add-steps Inv-loop μ-loop
-add-steps c = ?
+add-steps c = omega arith
 
--- src/lib.rt:42:5
 loop-less : tie.Need-loop-less Inv-loop μ-loop
-loop-less c = ?
+loop-less c = omega arith
 
--- src/lib.rt:42:5
 loop-again : tie.Need-loop-again Inv-loop μ-loop
-loop-again c = ?
+loop-again c =
+    let e = c .before .before .before .before .before in
+    let l = e .before .before .before .before .before .before in (
+      search needs,
+      search needs,
+      omega arith,
+      omega arith,
+      λ z. absurd (omega arith),
+      left-again _ _ _ _ _ _ _ _ _ _ (l .loop .inv .5) (e .step-entry .ensures) (c .if3 .left) refl (omega arith) (omega arith),
+    )
 
--- src/lib.rt:37:1
 same-length : tie.Need-same-length Inv-loop μ-loop
-same-length c = ?
+same-length c = search needs
 
--- src/lib.rt:37:1
 same-length-2 : tie.Need-same-length-2 Inv-loop μ-loop
-same-length-2 c = ?
+same-length-2 c = search needs
 
--- src/lib.rt:37:1
 returns : tie.Need-returns Inv-loop μ-loop
-returns c = ?
+returns c = search left-budget
 
--- src/lib.rt:37:1
 same-length-3 : tie.Need-same-length-3 Inv-loop μ-loop
-same-length-3 c = ?
+same-length-3 c = search needs
 
--- src/lib.rt:37:1
 same-length-4 : tie.Need-same-length-4 Inv-loop μ-loop
-same-length-4 c = ?
+same-length-4 c = search needs
 
--- src/lib.rt:37:1
 returns-2 : tie.Need-returns-2 Inv-loop μ-loop
-returns-2 c = ?
+returns-2 c = search left-end
 
--- src/lib.rt:37:1
 same-length-5 : tie.Need-same-length-5 Inv-loop μ-loop
-same-length-5 c = ?
+same-length-5 c = search needs
 
--- src/lib.rt:37:1
 same-length-6 : tie.Need-same-length-6 Inv-loop μ-loop
-same-length-6 c = ?
+same-length-6 c = search needs
 
--- src/lib.rt:37:1
 returns-3 : tie.Need-returns-3 Inv-loop μ-loop
-returns-3 c = ?
+returns-3 c =
+    let e = c .before .before .before .before .before in
+    let l = e .before .before .before .before .before .before in
+    left-refused _ _ _ _ _ _ _ _ _ _ (l .loop .inv .5) (e .step-entry .ensures) (c .if3 .taken) refl (omega arith) (omega arith)
 
 pub run-steps-spec : {M : Type 1} → statement M
 run-steps-spec =
