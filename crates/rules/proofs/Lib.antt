@@ -2,3 +2,4 @@ pub mod Opened
 pub mod Histories
 pub mod Logic
 pub mod Words
+pub mod Shape
