@@ -10,8 +10,8 @@ use Rattle.rules.specs.Notation.{if_then_else_, _is_, _≤?_, _<?_}
 use Rattle.rules.specs.declared.Line.{Line}
 use Rattle.rules.specs.declared.Script.{Script}
 use Rattle.rules.specs.declared.Contents.{Contents}
-use Rattle.rules.specs.Script.{bodyAt, inBounds, contentsOf, noLines, badAt, goodScript, bodiesFrom, readScript}
-use Rattle.rules.proofs.Logic.{all5}
+use Rattle.rules.specs.Script.{bodyAt, inBounds, contentsOf, badAt, goodScript, bodiesFrom, readScript}
+use Rattle.rules.proofs.Logic.{all5, branch}
 
 pub record Bounded (n s k : ℕ) : Type 0 where
   pub nodes : n ≤ 256
@@ -20,11 +20,6 @@ pub record Bounded (n s k : ℕ) : Type 0 where
 
 abbrev ScriptBounded : Script → Type 0
 ScriptBounded t = Bounded (t .n) (t .s) (t .k)
-
--- what has a property on both ways has it after a choice
-pub if-both : {A : Type 0} (P : A → Type 0) (test : Bool) (a b : A) → P a → P b → P (if test then a else b)
-if-both P true a b p q = p
-if-both P false a b p q = q
 
 in-bounds : (n s k next : ℕ) (b : Bool) → inBounds n s k ≡ b → ((if b then next else 0) ≡ 0 → ⊥) → Bounded n s k
 unfolding inBounds
@@ -52,16 +47,14 @@ good-bounded top rows h = h
 bodies-bounded : (src : List ℕ) (top : Contents) (left i at : ℕ) (rows : List Line) → Bounded (top .n) (top .s) (top .k) → ScriptBounded (bodiesFrom src top left i at rows)
 unfolding bodiesFrom
 bodies-bounded src top zero i at rows h =
-    if-both ScriptBounded (at is length src) _ _ (good-bounded top rows h) (bad-bounded (i + 2))
+    branch ScriptBounded (at is length src) (λ e. good-bounded top rows h) (λ e. bad-bounded (i + 2))
 bodies-bounded src top (suc left) i at rows h =
-    if-both ScriptBounded (bodyAt src at .next is 0) _ _ (bad-bounded (i + 2))
-    (bodies-bounded src top left (i + 1) (bodyAt src at .next) (set rows i (bodyAt src at .line)) h)
-
-after-contents : (src : List ℕ) (b : Bool) → contentsOf src .next is 0 ≡ b → ScriptBounded (if b then badAt 1 else bodiesFrom src (contentsOf src) (contentsOf src .k) 0 (contentsOf src .next) noLines)
-after-contents src true e = bad-bounded 1
-after-contents src false e =
-    bodies-bounded src (contentsOf src) _ _ _ _ (contents-bounded src (eqb-false (contentsOf src .next) 0 e))
+    branch ScriptBounded (bodyAt src at .next is 0) (λ e. bad-bounded (i + 2))
+    (λ e. bodies-bounded src top left (i + 1) (bodyAt src at .next) (set rows i (bodyAt src at .line)) h)
 
 pub read-bounded : (src : List ℕ) → ScriptBounded (readScript src)
 unfolding readScript
-read-bounded src = if-both ScriptBounded (16384 <? length src) _ _ (bad-bounded 0) (after-contents src _ refl)
+read-bounded src =
+    branch ScriptBounded (16384 <? length src) (λ e. bad-bounded 0)
+    (λ e. branch ScriptBounded (contentsOf src .next is 0) (λ e. bad-bounded 1)
+    (λ e. bodies-bounded src (contentsOf src) _ _ _ _ (contents-bounded src (eqb-false (contentsOf src .next) 0 e))))

@@ -1,4 +1,4 @@
--- `text::put_number` meets its contract.
+-- `text::put_number` meets its contract. The measure is the number itself, which falls with each digit.
 use Rattle.text.proofs.Decimals.{number-small, number-more}
 use native.Mathlib.Omega.{arith}
 use borrow.Author.Needs.{needs}

@@ -1,4 +1,4 @@
--- `text::put_row` meets its contract.
+-- `text::put_row` meets its contract: its five calls put five texts, one after another.
 use Rattle.rules.specs.Play.{rowText}
 use Rattle.text.proofs.Pages.{joined, joined-two}
 use borrow.Author.Needs.{needs}

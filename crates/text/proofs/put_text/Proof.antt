@@ -1,4 +1,5 @@
--- `text::put_text` meets its contract.
+-- `text::put_text` meets its contract. The loop's invariant: the bytes still to be put, on the page so far, give the whole. The measure
+-- is their number.
 use lib.ListN.{length, drop}
 use Prim.Native.Nat.{_≤_, _-_}
 use mathlib.Core.Path.{_≡_, refl}

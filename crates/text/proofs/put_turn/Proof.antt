@@ -1,4 +1,4 @@
--- `text::put_turn` meets its contract.
+-- `text::put_turn` meets its contract: its four calls put four texts, one after another.
 use Rattle.text.specs.Replies.{answerLine}
 use Rattle.text.proofs.Pages.{joined}
 use borrow.Author.Needs.{needs}
