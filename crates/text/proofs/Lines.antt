@@ -59,10 +59,10 @@ answer-line-length number code n h i =
     let b = answer-length code n i in
     simp length-append (omega arith)
 
-row-length : (seat first end kind : ℕ) → seat < 100 → first ≤ 4294967295 → end ≤ 4294967295 → kind ≤ 4294967295 → length (rowText (row seat first end kind)) ≤ 41
+row-length : (seat first end kind : ℕ) → seat ≤ 4294967295 → first ≤ 4294967295 → end ≤ 4294967295 → kind ≤ 4294967295 → length (rowText (row seat first end kind)) ≤ 49
 unfolding rowText
 row-length seat first end kind h i j k =
-    let a = decimal-length 1 seat h in
+    let a = decimal-length 9 seat (omega arith) in
     let b = decimal-length 9 first (omega arith) in
     let c = decimal-length 9 end (omega arith) in
     let d = decimal-length 9 kind (omega arith) in
@@ -76,7 +76,7 @@ module _ (l l′ : List ℕ) (at r : ℕ) where
       let b = answer-line-length number code n h i in
       omega arith
 
-  pub row-reaches : (seat first end kind : ℕ) → page l′ r ≡ puts (page l at) (rowText (row seat first end kind)) → seat < 100 → first ≤ 4294967295 → end ≤ 4294967295 → kind ≤ 4294967295 → r ≤ at + 41
+  pub row-reaches : (seat first end kind : ℕ) → page l′ r ≡ puts (page l at) (rowText (row seat first end kind)) → seat ≤ 4294967295 → first ≤ 4294967295 → end ≤ 4294967295 → kind ≤ 4294967295 → r ≤ at + 49
   row-reaches seat first end kind e h i j k =
       let a = reached l l′ _ at r e in
       let b = row-length seat first end kind h i j k in
