@@ -7,7 +7,7 @@ use mathlib.Core.Bool.{Bool, true, false}
 use mathlib.Core.List.{List, [], _∷_, _++_}
 use mathlib.Core.Path.{_≡_, refl, ap, _∙_}
 use lib.ListN.{length, getD, set, take, drop, length-set, drop-of-length-le}
-use lib.Seq.{sets, sets-eq, drop-cons, take-append-seam}
+use lib.Seq.{sets, sets-eq, drop-cons, take-append-seam, drop-append-seam}
 use borrow.Author.Tests.{lt-ltb, le-ltb, ltb-true, ltb-false}
 use Rattle.rules.specs.Notation.{_<?_}
 use Rattle.text.specs.Page.{Page, page, put, puts}
@@ -102,14 +102,14 @@ there-was-room (b ∷ t) p h = by-room (p .next <? length (p .buffer)) refl (the
         let g : puts (put p b) t .next ≡ p .next = rw (put-stays p b f, puts-stays t p f) in
         absurd (omega arith)
 
--- the whole text, from the start of the buffer
-pub written : (l l′ t : List ℕ) (r : ℕ) → page l′ r ≡ puts (page l 0) t → r < length l → take r l′ ≡ t
+-- the whole text, from the start of the buffer, and what stood behind it
+pub written : (l l′ t : List ℕ) (r : ℕ) → page l′ r ≡ puts (page l 0) t → r < length l → (take r l′ ≡ t) × (drop r l′ ≡ drop r l)
 written l l′ t r e h =
     let room : length t ≤ length l = rw zero-add at (there-was-room t (page l 0) (rw (← e) h)) in
     let f = e ∙ puts-fit t l 0 (omega arith) in
     let n : r ≡ length t = ap next f ∙ zero-add (length t) in
     let b : l′ ≡ t ++ drop (length t) l = ap buffer f ∙ (rw (sets-eq t l 0 (rw zero-add room), zero-add)) in
-    rw (b, n) (take-append-seam t (drop (length t) l))
+    (rw (b, n) (take-append-seam t (drop (length t) l)), rw (b, n) (drop-append-seam t (drop (length t) l)))
   where
     buffer : Page → List ℕ
     buffer p = p .buffer
