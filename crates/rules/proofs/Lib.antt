@@ -3,3 +3,5 @@ pub mod Histories
 pub mod Logic
 pub mod Words
 pub mod Shape
+pub mod Refused
+pub mod OneAnswer
