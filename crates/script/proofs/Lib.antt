@@ -1,3 +1,3 @@
 pub mod Reading
 pub mod Bounds
-pub mod Settled
+pub mod OneAnswer
