@@ -2,13 +2,76 @@
 ghost use mathlib.Core.Path.{_≡_};
 ghost use mathlib.Core.List.{[]};
 ghost use Prim.Native.Nat.{_+_, _*_, _≤_};
-ghost use lib.ListN.{length, take};
+ghost use lib.ListN.{length, take, drop};
 ghost use Rattle.rules.specs.Tables.{tables, beforeNodes, nodeWidth, seatWidth, zeros, nodeCountOf, seatCountOf};
 ghost use Rattle.rules.specs.Reach.{nodesFrom};
 ghost use Rattle.rules.specs.Board.{holders, coveredBy};
-ghost use Rattle.rules.specs.Play.{numbersText, listText, rowsText, endText};
+ghost use Rattle.rules.specs.Answers.{done};
+ghost use Rattle.rules.specs.Means.{means};
+ghost use Rattle.rules.specs.Play.{call, callOf, callsOf, numbersText, listText, rowsText, endText, scriptText};
+ghost use Rattle.rules.specs.Play.{play as Play·play};
+ghost use Rattle.script.specs.Bounded.{Bounded};
 ghost use Rattle.text.specs.Page.{page, puts};
-ghost use Rattle.playing.specs.Played.{heldBy};
+ghost use Rattle.text.specs.Replies.{answerBy};
+ghost use Rattle.playing.specs.Played.{played, playFrom, playedText, heldBy};
+use rules::Line;
+use rules::Reply;
+use rules::Script;
+
+// What a call answered, as it is printed.
+struct Said {
+    code: u32,
+    number: u32,
+}
+
+// The call of one line.
+fn make_call(nodes: &mut [u32], seats: &mut [u32], line: Line) -> Reply
+    ensures { λ r. ⌜ done (means r) (tables (now (nodes .exit)) (now (seats .exit))) ≡ call (tables (now (nodes .entry)) (now (seats .entry))) (callOf line) ⌝ }
+{
+    let code = line.code;
+    if code == 1 {
+        return claims::begin(nodes, seats, line.seat, line.start, line.end, line.kind);
+    }
+    if code == 2 {
+        return claims::step(nodes, seats, line.seat);
+    }
+    claims::release(nodes, seats, line.seat)
+}
+
+fn say_call(nodes: &mut [u32], seats: &mut [u32], line: Line) -> Said
+    ensures { λ r. ⌜ done (answerBy (r .code) (r .number)) (tables (now (nodes .exit)) (now (seats .exit))) ≡ call (tables (now (nodes .entry)) (now (seats .entry))) (callOf line) ⌝ }
+{
+    let reply = make_call(nodes, seats, line);
+    Said {
+        code: text::code_of(reply),
+        number: text::number_of(reply),
+    }
+}
+
+// The calls of a script, each with its line.
+fn play_calls(
+    nodes: &mut [u32],
+    seats: &mut [u32],
+    out: &mut [u8],
+    at: usize,
+    script: Script,
+) -> usize
+    requires { ⌜ Bounded script ⌝ }
+    ensures { λ r. ⌜ played (tables (now (nodes .exit)) (now (seats .exit))) (page (now (out .exit)) r)
+        ≡ playFrom 1 (callsOf script) (tables (now (nodes .entry)) (now (seats .entry))) (page (now (out .entry)) at) ⌝ }
+    ensures { λ r. ⌜ r ≤ at + 21 * script .k ⌝ }
+{
+    let k = script.k;
+    let mut next = at;
+    let mut i: u32 = 0;
+    while i < k {
+        let line = script.rows[i as usize];
+        let said = say_call(nodes, seats, line);
+        next = text::put_turn(out, next, i + 1, said.code, said.number);
+        i += 1;
+    }
+    next
+}
 
 // ` n` for each node from a on, at most `left` of them.
 fn put_listed(nodes: &[u32], out: &mut [u8], at: usize, left: usize, a: u32) -> usize
@@ -122,4 +185,56 @@ fn zero_seats() -> [u32; 256]
     ensures { λ r. ⌜ r ≡ zeros 256 ⌝ }
 {
     [0u32; 256]
+}
+
+// How many words the tables of N nodes and of S seats have.
+fn node_words(n: u32) -> usize
+    ensures { λ r. ⌜ r ≡ beforeNodes + nodeWidth * n ⌝ }
+{
+    1 + 5 * n as usize
+}
+
+fn seat_words(s: u32) -> usize
+    ensures { λ r. ⌜ r ≡ seatWidth * s ⌝ }
+{
+    4 * s as usize
+}
+
+// The calls, and what follows them, on the tables given.
+fn play_tables(nodes: &mut [u32], seats: &mut [u32], out: &mut [u8], script: Script) -> usize
+    requires { ⌜ Bounded script ⌝ }
+    requires { ⌜ (nodeCountOf (now nodes) ≤ 256) × (seatCountOf (now seats) ≤ 64) ⌝ }
+    ensures { λ r. ⌜ page (now (out .exit)) r ≡ puts (page (now (out .entry)) 0) (playedText (tables (now (nodes .entry)) (now (seats .entry))) (callsOf script)) ⌝ }
+    ensures { λ r. ⌜ r ≤ 26986 ⌝ }
+{
+    let next = play_calls(nodes, seats, out, 0, script);
+    put_end(nodes, seats, out, next)
+}
+
+// The same on fresh tables.
+fn play_script(out: &mut [u8], script: Script) -> usize
+    requires { ⌜ Bounded script ⌝ }
+    ensures { λ r. ⌜ page (now (out .exit)) r ≡ puts (page (now (out .entry)) 0) (scriptText script) ⌝ }
+    ensures { λ r. ⌜ r ≤ 26986 ⌝ }
+{
+    let mut nodes = zero_nodes();
+    let mut seats = zero_seats();
+    let n = node_words(script.n);
+    let s = seat_words(script.s);
+    play_tables(&mut nodes[..n], &mut seats[..s], out, script)
+}
+
+// Every byte that the program prints for the bytes of a script, and no other byte of the buffer. The buffer has room for any: at most
+// 26,986 are printed.
+pub fn play(src: &[u8], out: &mut [u8; 32768]) -> usize
+    ensures { λ r. ⌜ take r (now (out .exit)) ≡ Play·play (now (src .entry)) ⌝ }
+    ensures { λ r. ⌜ drop r (now (out .exit)) ≡ drop r (now (out .entry)) ⌝ }
+    ensures { λ r. ⌜ (r ≤ length (now (out .exit))) × (r ≡ length (take r (now (out .exit)))) ⌝ }
+{
+    let script = script::read(src);
+    let refusal = script.refusal;
+    if refusal != 0 {
+        return text::put_line(out, 0, b"bad ", script.wrong as u64);
+    }
+    play_script(out, script)
 }

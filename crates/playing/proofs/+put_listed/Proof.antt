@@ -1,4 +1,4 @@
--- `playing::put_listed` meets its contract.
+-- `playing::put_listed` meets its contract. The measure is the number of nodes that may still follow.
 use borrow.Author.Needs.{needs}
 use native.Mathlib.Omega.{arith}
 use Rattle.text.proofs.Lines.{next-reaches}

@@ -1,4 +1,5 @@
--- `playing::covered` meets its contract.
+-- `playing::covered` meets its contract. The loop's invariant: the sum is over the rows of the seats passed, so it stays small. The measure
+-- is the number of seats left.
 use borrow.Author.Needs.{needs}
 use native.Mathlib.Omega.{arith}
 use Rattle.playing.proofs.Holding.{frames-start, frames-again, frames-done}

@@ -1,4 +1,4 @@
--- `playing::put_end` meets its contract.
+-- `playing::put_end` meets its contract: its parts, one after another.
 use Rattle.rules.specs.Play.{ascii}
 use native.Mathlib.Omega.{arith}
 use Rattle.text.proofs.Lines.{line-reaches}

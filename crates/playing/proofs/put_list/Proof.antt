@@ -1,4 +1,4 @@
--- `playing::put_list` meets its contract.
+-- `playing::put_list` meets its contract: its parts, one after another.
 use native.Mathlib.Omega.{arith}
 use Rattle.text.proofs.Pages.{reached}
 use Rattle.playing.proofs.Listing.{list-is}

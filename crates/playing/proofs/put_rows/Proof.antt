@@ -1,4 +1,5 @@
--- `playing::put_rows` meets its contract.
+-- `playing::put_rows` meets its contract. The loop's invariant: the page has the rows of the seats passed, none longer than 49 bytes. The
+-- measure is the number of seats left.
 use borrow.Author.Needs.{needs}
 use native.Mathlib.Omega.{arith}
 use Rattle.playing.proofs.Holding.{text-start, text-again, text-done}
