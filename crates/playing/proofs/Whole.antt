@@ -11,29 +11,21 @@ use Rattle.rules.proofs.Words.{same-node-count, same-seat-count}
 use Rattle.rules.specs.Script.{readScript}
 use Rattle.rules.specs.Play.{Call, callsOf, trace, afterAll, turnsText, endText, ascii, decimal, scriptText, play}
 use Rattle.rules.specs.declared.Script.{Script}
+use Rattle.words.proofs.Places.{nodes-by-length, seats-by-length}
 use Rattle.script.specs.Bounded.{Bounded}
 use Rattle.script.proofs.Bounds.{read-bounded}
 use Rattle.text.specs.Page.{Page, page, puts}
 use Rattle.text.proofs.Pages.{joined, written}
 use Rattle.playing.specs.Played.{Played, played, playFrom, playedText}
 
--- ---- tables of N nodes and of S seats
-count-nodes : (n : ℕ) (l : List ℕ) → length l ≡ beforeNodes + nodeWidth * n → nodeCountOf l ≡ n
-unfolding nodeCountOf
-count-nodes n l e = omega arith
-
-count-seats : (s : ℕ) (l : List ℕ) → length l ≡ seatWidth * s → seatCountOf l ≡ s
-unfolding seatCountOf
-count-seats s l e = omega arith
-
--- a table that keeps its length keeps its count
+-- ---- a table that keeps its length keeps its count
 pub same-nodes : (l l′ : List ℕ) (m : ℕ) → nodeCountOf l ≤ m → length l′ ≡ length l → nodeCountOf l′ ≤ m
 same-nodes l l′ m h e = rw (same-node-count (tables l []) (tables l′ []) e) h
 
 pub same-seats : (l l′ : List ℕ) (m : ℕ) → seatCountOf l ≤ m → length l′ ≡ length l → seatCountOf l′ ≤ m
 same-seats l l′ m h e = rw (same-seat-count (tables [] l) (tables [] l′) e) h
 
--- ---- the first words of a fresh table
+-- ---- the part of a fresh table that is lent
 take-same : (m n : ℕ) → n ≤ m → take {A = ℕ} n (replicate m 0) ≡ replicate n 0
 take-same m zero h = refl
 take-same zero (suc n) h = absurd (omega arith)
@@ -45,11 +37,11 @@ take-zeros m n l e h = rw e (take-same m n h)
 pub length-zeros : (m n : ℕ) (l : List ℕ) → l ≡ zeros m → n ≤ m → n ≡ length (take n l)
 length-zeros m n l e h = rw (e, take-same m n h) (sym (length-replicate n 0))
 
-pub fresh-nodes : (m w n : ℕ) (l : List ℕ) → l ≡ zeros m → w ≡ beforeNodes + nodeWidth * n → w ≤ m → nodeCountOf (take w l) ≡ n
-fresh-nodes m w n l e f h = count-nodes n (take w l) (sym (length-zeros m w l e h) ∙ f)
+pub lent-nodes : (m w n : ℕ) (l : List ℕ) → l ≡ zeros m → w ≡ beforeNodes + nodeWidth * n → w ≤ m → nodeCountOf (take w l) ≡ n
+lent-nodes m w n l e f h = nodes-by-length (take w l) n (sym (length-zeros m w l e h) ∙ f)
 
-pub fresh-seats : (m w s : ℕ) (l : List ℕ) → l ≡ zeros m → w ≡ seatWidth * s → w ≤ m → seatCountOf (take w l) ≡ s
-fresh-seats m w s l e f h = count-seats s (take w l) (sym (length-zeros m w l e h) ∙ f)
+pub lent-seats : (m w s : ℕ) (l : List ℕ) → l ≡ zeros m → w ≡ seatWidth * s → w ≤ m → seatCountOf (take w l) ≡ s
+lent-seats m w s l e f h = seats-by-length (take w l) s (sym (length-zeros m w l e h) ∙ f)
 
 -- ---- the calls, then the end
 pub tables-played : (t : Tables) (calls : List Call) (n s : List ℕ) (p q r : Page) → r ≡ puts q (endText (tables n s)) → played (tables n s) q ≡ playFrom 1 calls t p → r ≡ puts p (playedText t calls)

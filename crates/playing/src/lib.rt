@@ -3,7 +3,7 @@ ghost use mathlib.Core.Path.{_≡_};
 ghost use mathlib.Core.List.{[]};
 ghost use Prim.Native.Nat.{_+_, _*_, _≤_};
 ghost use lib.ListN.{length, take, drop};
-ghost use Rattle.rules.specs.Tables.{tables, beforeNodes, nodeWidth, seatWidth, zeros, nodeCountOf, seatCountOf};
+ghost use Rattle.rules.specs.Tables.{tables, nodeCountOf, seatCountOf};
 ghost use Rattle.rules.specs.Reach.{nodesFrom};
 ghost use Rattle.rules.specs.Board.{holders, coveredBy};
 ghost use Rattle.rules.specs.Answers.{done};
@@ -175,31 +175,6 @@ fn put_end(nodes: &[u32], seats: &[u32], out: &mut [u8], at: usize) -> usize
     text::put_line(out, rows, b"covered ", sum)
 }
 
-fn zero_nodes() -> [u32; 1281]
-    ensures { λ r. ⌜ r ≡ zeros 1281 ⌝ }
-{
-    [0u32; 1281]
-}
-
-fn zero_seats() -> [u32; 256]
-    ensures { λ r. ⌜ r ≡ zeros 256 ⌝ }
-{
-    [0u32; 256]
-}
-
-// How many words the tables of N nodes and of S seats have.
-fn node_words(n: u32) -> usize
-    ensures { λ r. ⌜ r ≡ beforeNodes + nodeWidth * n ⌝ }
-{
-    1 + 5 * n as usize
-}
-
-fn seat_words(s: u32) -> usize
-    ensures { λ r. ⌜ r ≡ seatWidth * s ⌝ }
-{
-    4 * s as usize
-}
-
 // The calls, and what follows them, on the tables given.
 fn play_tables(nodes: &mut [u32], seats: &mut [u32], out: &mut [u8], script: Script) -> usize
     requires { ⌜ Bounded script ⌝ }
@@ -217,10 +192,10 @@ fn play_script(out: &mut [u8], script: Script) -> usize
     ensures { λ r. ⌜ page (now (out .exit)) r ≡ puts (page (now (out .entry)) 0) (scriptText script) ⌝ }
     ensures { λ r. ⌜ r ≤ 26986 ⌝ }
 {
-    let mut nodes = zero_nodes();
-    let mut seats = zero_seats();
-    let n = node_words(script.n);
-    let s = seat_words(script.s);
+    let mut nodes = words::fresh_nodes();
+    let mut seats = words::fresh_seats();
+    let n = words::node_words(script.n);
+    let s = words::seat_words(script.s);
     play_tables(&mut nodes[..n], &mut seats[..s], out, script)
 }
 

@@ -1,15 +1,17 @@
 -- `playing::play_script` meets its contract: the parts lent are the fresh tables of N nodes and S seats.
+use Prim.Native.Nat.{_+_, _*_}
+use Rattle.rules.specs.Tables.{beforeNodes, nodeWidth, seatWidth}
 use native.Mathlib.Omega.{arith}
-use Rattle.playing.proofs.Whole.{length-zeros, fresh-nodes, fresh-seats, script-played}
+use Rattle.playing.proofs.Whole.{length-zeros, lent-nodes, lent-seats, script-played}
 use borrow.Author.Needs.{needs}
 use Rattle.playing.proofs.play_script.Statement.{statement}
 use Rattle.playing.proofs.play_script.Tie as tie
 
-zero-nodes-requires : tie.Need-zero-nodes-requires
-zero-nodes-requires c κs = search needs
+fresh-nodes-requires : tie.Need-fresh-nodes-requires
+fresh-nodes-requires c κs = search needs
 
-zero-seats-requires : tie.Need-zero-seats-requires
-zero-seats-requires c κs = search needs
+fresh-seats-requires : tie.Need-fresh-seats-requires
+fresh-seats-requires c κs = search needs
 
 node-words-requires : tie.Need-node-words-requires
 node-words-requires c κs = search needs
@@ -21,13 +23,13 @@ array-borrow-prefix-nodes : tie.Need-array-borrow-prefix-nodes
 array-borrow-prefix-nodes c = search needs
 
 slice-aggregate-play-tables : tie.Need-slice-aggregate-play-tables
-slice-aggregate-play-tables c = length-zeros 1281 _ _ (c .before .before .before .before .zero-nodes .ensures) (omega arith)
+slice-aggregate-play-tables c = length-zeros (beforeNodes + nodeWidth * 256) _ _ (c .before .before .before .before .fresh-nodes .ensures) (omega arith)
 
 array-borrow-prefix-seats : tie.Need-array-borrow-prefix-seats
 array-borrow-prefix-seats c = search needs
 
 slice-aggregate-play-tables-2 : tie.Need-slice-aggregate-play-tables-2
-slice-aggregate-play-tables-2 c = length-zeros 256 _ _ (c .before .before .before .before .zero-seats .ensures) (omega arith)
+slice-aggregate-play-tables-2 c = length-zeros (seatWidth * 64) _ _ (c .before .before .before .before .fresh-seats .ensures) (omega arith)
 
 play-tables-requires : tie.Need-play-tables-requires
 play-tables-requires c κs =
@@ -35,8 +37,8 @@ play-tables-requires c κs =
     let cleared = words .before .before in (
       search needs,
       (
-        omega (arith, fresh-nodes 1281 _ _ _ (cleared .before .zero-nodes .ensures) (words .before .node-words .ensures) (omega arith)),
-        omega (arith, fresh-seats 256 _ _ _ (cleared .zero-seats .ensures) (words .seat-words .ensures) (omega arith)),
+        omega (arith, lent-nodes (beforeNodes + nodeWidth * 256) _ _ _ (cleared .before .fresh-nodes .ensures) (words .before .node-words .ensures) (omega arith)),
+        omega (arith, lent-seats (seatWidth * 64) _ _ _ (cleared .fresh-seats .ensures) (words .seat-words .ensures) (omega arith)),
       ),
     )
 
@@ -48,8 +50,8 @@ returns c =
     let played = c .before .before .before .before in
     let words = played .before .before .before .before in
     let cleared = words .before .before in (
-      script-played _ 1281 256 _ _ _ _ _ _ (played .play-tables .ensures .0) (cleared .before .zero-nodes .ensures)
-          (words .before .node-words .ensures) (omega arith) (cleared .zero-seats .ensures) (words .seat-words .ensures) (omega arith),
+      script-played _ (beforeNodes + nodeWidth * 256) (seatWidth * 64) _ _ _ _ _ _ (played .play-tables .ensures .0) (cleared .before .fresh-nodes .ensures)
+          (words .before .node-words .ensures) (omega arith) (cleared .fresh-seats .ensures) (words .seat-words .ensures) (omega arith),
       played .play-tables .ensures .1,
     )
 
@@ -57,8 +59,8 @@ pub play-script-spec : {M : Type 1} → statement M
 play-script-spec =
     tie.close
     (tie.spec
-    zero-nodes-requires
-    zero-seats-requires
+    fresh-nodes-requires
+    fresh-seats-requires
     node-words-requires
     seat-words-requires
     array-borrow-prefix-nodes
