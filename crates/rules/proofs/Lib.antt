@@ -2,3 +2,14 @@ pub mod Opened
 pub mod Histories
 pub mod Logic
 pub mod Words
+pub mod Deciding
+pub mod Following
+pub mod Pigeonhole
+pub mod Compared
+pub mod View
+pub mod Invariant
+pub mod Phases
+pub mod Known
+pub mod Exclusion
+pub mod SeatMoves
+pub mod SeatRules
