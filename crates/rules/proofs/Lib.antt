@@ -2,6 +2,7 @@ pub mod Opened
 pub mod Histories
 pub mod Logic
 pub mod Words
+pub mod Shape
 pub mod Deciding
 pub mod Following
 pub mod Pigeonhole

@@ -2,7 +2,10 @@
 use mathlib.Core.Path.{_≡_, refl, sym, ap, _∙_}
 use mathlib.Core.Bool.{Bool, true, false, _&&_, _||_, not, true≢false}
 use mathlib.Core.Logic.{_⊎_, inl, inr, ⊎-elim}
-use Prim.Native.Nat.{ℕ, zero, suc}
+use Prim.Native.Nat.{ℕ, zero, suc, _<_, _≤_}
+use native.Mathlib.Omega.{arith}
+use native.Mathlib.Nat.{eq-or-lt-of-le}
+use Rattle.rules.specs.Notation.{if_then_else_, all, any}
 
 pub either : (b : Bool) → (b ≡ true) ⊎ (b ≡ false)
 either true = inl refl
@@ -62,3 +65,51 @@ all5 a b c d f e = let w = all4 a b c d (and-left (a && b && c && d) f e) in (w 
 
 pub all6 : (a b c d f g : Bool) → (a && b && c && d && f && g) ≡ true → (a ≡ true) × (b ≡ true) × (c ≡ true) × (d ≡ true) × (f ≡ true) × (g ≡ true)
 all6 a b c d f g e = let w = all5 a b c d f (and-left (a && b && c && d && f) g e) in (w .0, w .1, w .2, w .3, w .4, and-right (a && b && c && d && f) g e)
+
+pub and-not : (a b : Bool) → (a && b) ≡ false → (a ≡ false) ⊎ (b ≡ false)
+and-not true b e = inr e
+and-not false b e = inl refl
+
+pub or-neither : (a b : Bool) → (a || b) ≡ false → (a ≡ false) × (b ≡ false)
+or-neither true b e = absurd (true≢false e)
+or-neither false b e = (refl, e)
+
+pub not-true : (b : Bool) → not b ≡ true → b ≡ false
+not-true true e = absurd (true≢false (sym e))
+not-true false e = refl
+
+pub of-not : (b : Bool) → b ≡ false → not b ≡ true
+of-not true e = absurd (true≢false e)
+of-not false e = refl
+
+-- a choice, with what each branch knows
+pub branch {ℓ} : {A : Type 0} (P : A → Type ℓ) (b : Bool) {x y : A} → (b ≡ true → P x) → (b ≡ false → P y) → P (if b then x else y)
+branch P true f g = f refl
+branch P false f g = g refl
+
+-- ---- over the numbers below a bound
+pub all-at : (n i : ℕ) (p : ℕ → Bool) → all n p ≡ true → i < n → p i ≡ true
+unfolding all
+all-at zero i p e h = absurd (omega arith)
+all-at (suc n) i p e h =
+    ⊎-elim
+    (λ q. rw q (and-right (all n p) (p n) e))
+    (λ q. all-at n i p (and-left (all n p) (p n) e) q)
+    (eq-or-lt-of-le {n = i} {m = n} (omega arith))
+
+pub all-of : (n : ℕ) (p : ℕ → Bool) → ((i : ℕ) → i < n → p i ≡ true) → all n p ≡ true
+unfolding all
+all-of zero p f = refl
+all-of (suc n) p f = and-both (all n p) (p n) (all-of n p (λ i h. f i (omega arith))) (f n (omega arith))
+
+pub all-fails : (n i : ℕ) (p : ℕ → Bool) → i < n → p i ≡ false → all n p ≡ false
+all-fails n i p h e = not-of (all n p) (λ a. clash (p i) (all-at n i p a h) e)
+
+pub any-none : (n i : ℕ) (p : ℕ → Bool) → any n p ≡ false → i < n → p i ≡ false
+unfolding any
+any-none zero i p e h = absurd (omega arith)
+any-none (suc n) i p e h =
+    ⊎-elim
+    (λ q. rw q (or-neither (any n p) (p n) e .1))
+    (λ q. any-none n i p (or-neither (any n p) (p n) e .0) q)
+    (eq-or-lt-of-le {n = i} {m = n} (omega arith))

@@ -5,9 +5,9 @@ use mathlib.Core.Path.{_≡_, refl, sym, ap, _∙_}
 use mathlib.Core.List.{List}
 use mathlib.Core.Logic.{_≢_}
 use native.Mathlib.Omega.{arith}
-use lib.ListN.{getD, set, length, length-set}
+use lib.ListN.{getD, set, length, length-set, List·getD-eq-default}
 use lib.Seq.{getD-set-same, getD-set-other}
-use Rattle.rules.specs.Tables.{Tables, tables, headAt, beforeNodes, nodeWidth, seatWidth, nextAt, nodeWord, putNode, linkWord, putLink, seatWord, putSeat, nodeCount, seatCount}
+use Rattle.rules.specs.Tables.{Tables, tables, headAt, beforeNodes, nodeWidth, seatWidth, nextAt, nodeWord, putNode, linkWord, putLink, seatWord, putSeat, nodeCountOf, seatCountOf, nodeCount, seatCount}
 
 -- ---- lengths
 pub put-node-length : (l : List ℕ) (a f v : ℕ) → length (putNode l a f v) ≡ length l
@@ -26,11 +26,11 @@ put-seat-length l s f v = simp length-set
 
 -- N and S depend on the lengths alone
 pub same-node-count : (t u : Tables) → length (u .nodes) ≡ length (t .nodes) → nodeCount u ≡ nodeCount t
-unfolding nodeCount
+unfolding nodeCountOf
 same-node-count t u e = rw e
 
 pub same-seat-count : (t u : Tables) → length (u .seats) ≡ length (t .seats) → seatCount u ≡ seatCount t
-unfolding seatCount
+unfolding seatCountOf
 same-seat-count t u e = rw e
 
 -- ---- a node's words after a store to a node's word
@@ -107,3 +107,16 @@ seat-put-field l s r f g v h i d = getD-set-other l (seatWidth * s + f) (seatWid
 pub seat-put-seat : (l : List ℕ) (s r f g v : ℕ) → f < seatWidth → g < seatWidth → s ≢ r → seatWord (putSeat l s f v) r g ≡ seatWord l r g
 unfolding seatWord putSeat
 seat-put-seat l s r f g v h i d = getD-set-other l (seatWidth * s + f) (seatWidth * r + g) v 0 (λ e. d (omega arith))
+
+-- ---- what stands past the end reads 0
+pub node-past : (t : Tables) (a f : ℕ) → f < nodeWidth → length (t .nodes) ≡ beforeNodes + nodeWidth * nodeCount t → nodeCount t < a → nodeWord (t .nodes) a f ≡ 0
+unfolding nodeWord
+node-past t zero f h e p = refl
+node-past t (suc m) f h e p = List·getD-eq-default (t .nodes) 0 {n = beforeNodes + nodeWidth * m + f} (omega arith)
+
+pub link-past : (t : Tables) (a : ℕ) → length (t .nodes) ≡ beforeNodes + nodeWidth * nodeCount t → nodeCount t < a → linkWord (t .nodes) a ≡ 0
+link-past t a e p = link-node (t .nodes) a (λ z. omega arith) ∙ node-past t a nextAt (omega arith) e p
+
+pub seat-past : (t : Tables) (s f : ℕ) → length (t .seats) ≡ seatWidth * seatCount t → seatCount t ≤ s → seatWord (t .seats) s f ≡ 0
+unfolding seatWord
+seat-past t s f e p = List·getD-eq-default (t .seats) 0 {n = seatWidth * s + f} (omega arith)

@@ -81,11 +81,17 @@ unfoldable pub putSeat : List ℕ → ℕ → ℕ → ℕ → List ℕ
 putSeat seats s field value = set seats (seatWidth * s + field) value
 
 -- ---- N and S, from the lengths
-unfoldable pub nodeCount : Tables → ℕ
-nodeCount t = (length (t .nodes) - beforeNodes) / nodeWidth
+unfoldable pub nodeCountOf : List ℕ → ℕ
+nodeCountOf nodes = (length nodes - beforeNodes) / nodeWidth
 
-unfoldable pub seatCount : Tables → ℕ
-seatCount t = length (t .seats) / seatWidth
+unfoldable pub seatCountOf : List ℕ → ℕ
+seatCountOf seats = length seats / seatWidth
+
+abbrev pub nodeCount : Tables → ℕ
+nodeCount t = nodeCountOf (t .nodes)
+
+abbrev pub seatCount : Tables → ℕ
+seatCount t = seatCountOf (t .seats)
 
 -- ---- reading by name
 abbrev pub start : Tables → ℕ → ℕ

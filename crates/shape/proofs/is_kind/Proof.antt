@@ -1,0 +1,13 @@
+use Rattle.rules.specs.Shape.{isKind}
+use mathlib.Core.Path.{refl}
+use Rattle.shape.proofs.is_kind.Statement.{statement}
+use Rattle.shape.proofs.is_kind.Tie as tie
+use Rattle.shape.proofs.is_kind.Reads as reads
+use Rattle.shape.proofs.is_kind.Lts as lts
+
+returns : tie.Need-returns
+unfolding isKind
+returns c = refl
+
+pub is-kind-spec : {M : Type 1} → statement M
+is-kind-spec = tie.close (tie.spec returns)

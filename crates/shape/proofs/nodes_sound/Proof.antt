@@ -1,0 +1,56 @@
+use Rattle.shape.proofs.Tests.{nodesBelow, nodes-none, nodes-more, nodes-fail, nodes-all}
+use mathlib.Core.Bool.{true}
+use Prim.Native.Nat.{_+_, _-_, _≤_}
+use mathlib.Core.Path.{_≡_, refl}
+use native.Mathlib.Omega.{arith}
+use borrow.Author.Needs.{needs}
+use Rattle.shape.proofs.nodes_sound.Statement.{statement}
+use Rattle.shape.proofs.nodes_sound.Tie as tie
+use Rattle.shape.proofs.nodes_sound.Reads as reads
+use Rattle.shape.proofs.nodes_sound.Lts as lts
+use Rattle.shape.proofs.node_sound.Reads as node-sound-reads
+
+abbrev Inv-loop : tie.InvT-loop
+Inv-loop nodes n i₀ i = (i ≤ n) × (nodesBelow nodes i ≡ true)
+
+abbrev μ-loop : tie.MeasureT-loop
+μ-loop nodes n i₀ i = n - i
+
+loop-holds : tie.Need-loop-holds Inv-loop μ-loop
+loop-holds c = (omega arith, nodes-none _)
+
+add-node-sound : tie.Need-add-node-sound Inv-loop μ-loop
+add-node-sound c = omega arith
+
+node-sound-requires : tie.Need-node-sound-requires Inv-loop μ-loop
+node-sound-requires c κs = search needs
+
+add-i : tie.Need-add-i Inv-loop μ-loop
+add-i c = omega arith
+
+loop-less : tie.Need-loop-less Inv-loop μ-loop
+loop-less c = omega arith
+
+loop-again : tie.Need-loop-again Inv-loop μ-loop
+loop-again c = (omega arith, search nodes-more)
+
+returns : tie.Need-returns Inv-loop μ-loop
+returns c = search nodes-fail
+
+returns-2 : tie.Need-returns-2 Inv-loop μ-loop
+returns-2 c = search nodes-all
+
+pub nodes-sound-spec : {M : Type 1} → statement M
+nodes-sound-spec =
+    tie.close
+    (tie.spec
+    Inv-loop
+    μ-loop
+    loop-holds
+    add-node-sound
+    node-sound-requires
+    add-i
+    loop-less
+    loop-again
+    returns
+    returns-2)

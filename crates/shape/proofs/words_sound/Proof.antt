@@ -1,0 +1,59 @@
+use native.Mathlib.Omega.{arith}
+use Rattle.shape.proofs.Tests.{few-nodes, few-seats, words-is}
+use borrow.Author.Needs.{needs}
+use Rattle.shape.proofs.words_sound.Statement.{statement}
+use Rattle.shape.proofs.words_sound.Tie as tie
+use Rattle.shape.proofs.words_sound.Reads as reads
+use Rattle.shape.proofs.words_sound.Lts as lts
+use Rattle.shape.proofs.ends_within.Reads as ends-within-reads
+use Rattle.shape.proofs.names_node.Reads as names-node-reads
+use Rattle.shape.proofs.nodes_sound.Reads as nodes-sound-reads
+use Rattle.shape.proofs.seats_sound.Reads as seats-sound-reads
+use Rattle.words.proofs.link.Reads as link-reads
+use Rattle.words.proofs.node_count.Reads as node-count-reads
+use Rattle.words.proofs.seat_count.Reads as seat-count-reads
+
+node-count-requires : tie.Need-node-count-requires
+node-count-requires c κs = search needs
+
+cast-n : tie.Need-cast-n
+cast-n c = omega (arith, few-nodes _ _ _ (c .node-count .ensures) (c .before .before .before .pre))
+
+seat-count-requires : tie.Need-seat-count-requires
+seat-count-requires c κs = search needs
+
+cast-count : tie.Need-cast-count
+cast-count c = omega (arith, few-seats _ _ _ (c .seat-count .ensures) (c .before .before .before .before .pre))
+
+link-requires : tie.Need-link-requires
+link-requires c κs = search needs
+
+nodes-sound-requires : tie.Need-nodes-sound-requires
+nodes-sound-requires c κs = search needs
+
+names-node-requires : tie.Need-names-node-requires
+names-node-requires c κs = search needs
+
+seats-sound-requires : tie.Need-seats-sound-requires
+seats-sound-requires c κs = search needs
+
+ends-within-requires : tie.Need-ends-within-requires
+ends-within-requires c κs = search needs
+
+returns : tie.Need-returns
+returns c = search words-is
+
+pub words-sound-spec : {M : Type 1} → statement M
+words-sound-spec =
+    tie.close
+    (tie.spec
+    node-count-requires
+    cast-n
+    seat-count-requires
+    cast-count
+    link-requires
+    nodes-sound-requires
+    names-node-requires
+    seats-sound-requires
+    ends-within-requires
+    returns)

@@ -1,0 +1,144 @@
+// The test for damage: sound shape, in one pass over each table. Every part is total, so that no part asks for another.
+ghost use mathlib.Core.Path.{_≡_};
+ghost use mathlib.Core.Bool.{true};
+ghost use mathlib.Core.List.{[]};
+ghost use Prim.Native.Nat.{_≤_};
+ghost use Rattle.rules.specs.Tables.{tables, nodeCountOf, seatCountOf};
+ghost use Rattle.rules.specs.Shape.{lengthsFit, isKind, names, nodeSound, seatSound, endsWithin, nodesSound, seatsSound, sound};
+ghost use Rattle.shape.specs.Words.{phaseSound};
+
+pub fn lengths_fit(nodes: &[u32], seats: &[u32]) -> bool
+    ensures { λ r. ⌜ r ≡ lengthsFit (tables (now (nodes .entry)) (now (seats .entry))) ⌝ }
+{
+    let a = words::nodes_fit(nodes);
+    let b = words::seats_fit(seats);
+    a & b
+}
+
+pub fn is_kind(k: u32) -> bool
+    ensures { λ r. ⌜ r ≡ isKind k ⌝ }
+{
+    (k == 1) | (k == 2)
+}
+
+// 0, or a node of kind 1 or 2, where n is N
+fn names_node(nodes: &[u32], n: u32, a: u32) -> bool
+    requires { ⌜ n ≡ nodeCountOf (now nodes) ⌝ }
+    ensures { λ r. ⌜ r ≡ names (tables (now (nodes .entry)) []) a ⌝ }
+{
+    let kind = words::node_word(nodes, a, words::KIND);
+    let claim = is_kind(kind);
+    (a == 0) | ((a <= n) & claim)
+}
+
+fn node_sound(nodes: &[u32], n: u32, a: u32) -> bool
+    requires { ⌜ n ≡ nodeCountOf (now nodes) ⌝ }
+    ensures { λ r. ⌜ r ≡ nodeSound (tables (now (nodes .entry)) []) a ⌝ }
+{
+    let start = words::node_word(nodes, a, words::START);
+    let end = words::node_word(nodes, a, words::END);
+    let kind = words::node_word(nodes, a, words::KIND);
+    let next = words::link(nodes, a);
+    let mark = words::node_word(nodes, a, words::MARK);
+    let claim = is_kind(kind);
+    let named = names_node(nodes, n, next);
+    (((start == 0) & (end == 0) & (kind == 0) & (next == 0) & (mark == 0))
+        | (claim & (start < end) & (next <= n) & (mark <= 1)))
+        & named
+}
+
+fn nodes_sound(nodes: &[u32], n: u32) -> bool
+    requires { ⌜ n ≡ nodeCountOf (now nodes) ⌝ }
+    ensures { λ r. ⌜ r ≡ nodesSound (tables (now (nodes .entry)) []) ⌝ }
+{
+    let mut i: u32 = 0;
+    while i < n {
+        if node_sound(nodes, n, i + 1) {
+            i += 1;
+        } else {
+            return false;
+        }
+    }
+    true
+}
+
+// the four words of a seat, by themselves
+fn phase_sound(phase: u32, own: u32, prev: u32, cur: u32) -> bool
+    ensures { λ r. ⌜ r ≡ phaseSound phase own prev cur ⌝ }
+{
+    (phase <= 6)
+        & (((phase == 0) & (own == 0) & (prev == 0) & (cur == 0)) | (!(phase == 0) & !(own == 0)))
+        & (!((phase == 5) | (phase == 6)) | ((prev == 0) & (cur == 0)))
+        & (!((phase == 2) | (phase == 4)) | !(cur == 0))
+}
+
+fn seat_sound(nodes: &[u32], seats: &[u32], n: u32, s: u32) -> bool
+    requires { ⌜ n ≡ nodeCountOf (now nodes) ⌝ }
+    ensures { λ r. ⌜ r ≡ seatSound (tables (now (nodes .entry)) (now (seats .entry))) s ⌝ }
+{
+    let phase = words::seat_word(seats, s, words::PHASE);
+    let own = words::seat_word(seats, s, words::OWN);
+    let prev = words::seat_word(seats, s, words::PREV);
+    let cur = words::seat_word(seats, s, words::CUR);
+    let a = phase_sound(phase, own, prev, cur);
+    let b = names_node(nodes, n, own);
+    let c = names_node(nodes, n, prev);
+    let d = names_node(nodes, n, cur);
+    a & b & c & d
+}
+
+fn seats_sound(nodes: &[u32], seats: &[u32], n: u32, count: u32) -> bool
+    requires { ⌜ n ≡ nodeCountOf (now nodes) ⌝ }
+    requires { ⌜ count ≡ seatCountOf (now seats) ⌝ }
+    ensures { λ r. ⌜ r ≡ seatsSound (tables (now (nodes .entry)) (now (seats .entry))) ⌝ }
+{
+    let mut s: u32 = 0;
+    while s < count {
+        if seat_sound(nodes, seats, n, s) {
+            s += 1;
+        } else {
+            return false;
+        }
+    }
+    true
+}
+
+// from a, 0 is met after at most n nodes
+fn ends_within(nodes: &[u32], n: u32, from: u32) -> bool
+    ensures { λ r. ⌜ r ≡ endsWithin n (tables (now (nodes .entry)) []) from ⌝ }
+{
+    let mut left = n;
+    let mut a = from;
+    while a != 0 {
+        if left == 0 {
+            return false;
+        }
+        a = words::link(nodes, a);
+        left -= 1;
+    }
+    true
+}
+
+// all but the lengths
+fn words_sound(nodes: &[u32], seats: &[u32]) -> bool
+    requires { ⌜ lengthsFit (tables (now nodes) (now seats)) ≡ true ⌝ }
+    ensures { λ r. ⌜ r ≡ sound (tables (now (nodes .entry)) (now (seats .entry))) ⌝ }
+{
+    let n = words::node_count(nodes) as u32;
+    let count = words::seat_count(seats) as u32;
+    let head = words::link(nodes, 0);
+    let a = nodes_sound(nodes, n);
+    let b = names_node(nodes, n, head);
+    let c = seats_sound(nodes, seats, n, count);
+    let d = ends_within(nodes, n, head);
+    a & b & c & d
+}
+
+pub fn is_sound(nodes: &[u32], seats: &[u32]) -> bool
+    ensures { λ r. ⌜ r ≡ sound (tables (now (nodes .entry)) (now (seats .entry))) ⌝ }
+{
+    if lengths_fit(nodes, seats) {
+        return words_sound(nodes, seats);
+    }
+    false
+}

@@ -1,0 +1,56 @@
+-- The place of each word as the code works it out (node a, from 1, stands at a - 1), and the lengths.
+use Prim.Native.Nat.{ℕ, zero, suc, _+_, _-_, _*_, _≤_}
+use mathlib.Core.Path.{_≡_, refl, sym, _∙_}
+use mathlib.Core.List.{List, []}
+use mathlib.Core.Bool.{_&&_}
+use lib.Dec.{eqb, leb}
+use mathlib.Core.Logic.{_≢_}
+use native.Mathlib.Omega.{arith}
+use lib.ListN.{getD, set, length}
+use Rattle.rules.specs.Tables.{tables, beforeNodes, nodeWidth, seatWidth, nodeCountOf, seatCountOf, headAt, nextAt, nodeWord, putNode, linkWord, putLink}
+use Rattle.rules.specs.Shape.{nodesFit, seatsFit}
+use Rattle.rules.proofs.Words.{link-node, put-link-node}
+
+before : (m : ℕ) → suc m - 1 ≡ m
+before m = omega arith
+
+pub read-node : (l : List ℕ) (a f r : ℕ) → a ≢ 0 → r ≡ getD l (beforeNodes + nodeWidth * (a - 1) + f) 0 → r ≡ nodeWord l a f
+unfolding nodeWord
+read-node l zero f r z e = absurd (z refl)
+read-node l (suc m) f r z e = rw (before m) at e
+
+pub store-node : (l l′ : List ℕ) (a f v : ℕ) → a ≢ 0 → l′ ≡ set l (beforeNodes + nodeWidth * (a - 1) + f) v → l′ ≡ putNode l a f v
+unfolding putNode
+store-node l l′ zero f v z e = absurd (z refl)
+store-node l l′ (suc m) f v z e = rw (before m) at e
+
+pub read-head : (l : List ℕ) (a r : ℕ) → a ≡ 0 → r ≡ getD l headAt 0 → r ≡ linkWord l a
+unfolding linkWord
+read-head l a r z e = rw z e
+
+pub read-next : (l : List ℕ) (a r : ℕ) → a ≢ 0 → r ≡ nodeWord l a nextAt → r ≡ linkWord l a
+read-next l a r z e = e ∙ sym (link-node l a z)
+
+pub store-head : (l l′ : List ℕ) (a v : ℕ) → a ≡ 0 → l′ ≡ set l headAt v → l′ ≡ putLink l a v
+unfolding putLink
+store-head l l′ a v z e = rw z e
+
+pub store-next : (l l′ : List ℕ) (a v : ℕ) → a ≢ 0 → l′ ≡ putNode l a nextAt v → l′ ≡ putLink l a v
+store-next l l′ a v z e = e ∙ sym (put-link-node l a v z)
+
+-- ---- lengths: N nodes take no more words than there are
+pub nodes-within : (l : List ℕ) (n : ℕ) → n ≡ nodeCountOf l → nodeWidth * n ≤ length l
+unfolding nodeCountOf
+nodes-within l n e = omega arith
+
+pub seats-within : (l : List ℕ) (n : ℕ) → n ≡ seatCountOf l → seatWidth * n ≤ length l
+unfolding seatCountOf
+seats-within l n e = omega arith
+
+pub nodes-fit-is : (l : List ℕ) (n : ℕ) → n ≡ nodeCountOf l → (eqb (length l) (beforeNodes + nodeWidth * n) && leb 1 n && leb n 256) ≡ nodesFit (tables l [])
+unfolding nodesFit
+nodes-fit-is l n e = rw e
+
+pub seats-fit-is : (l : List ℕ) (n : ℕ) → n ≡ seatCountOf l → (eqb (length l) (seatWidth * n) && leb 1 n && leb n 64) ≡ seatsFit (tables [] l)
+unfolding seatsFit
+seats-fit-is l n e = rw e

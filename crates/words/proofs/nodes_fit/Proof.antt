@@ -1,0 +1,23 @@
+use native.Mathlib.Omega.{arith}
+use Rattle.words.proofs.Places.{nodes-within, nodes-fit-is}
+use borrow.Author.Needs.{needs}
+use Rattle.words.proofs.nodes_fit.Statement.{statement}
+use Rattle.words.proofs.nodes_fit.Tie as tie
+use Rattle.words.proofs.nodes_fit.Reads as reads
+use Rattle.words.proofs.nodes_fit.Lts as lts
+use Rattle.words.proofs.node_count.Reads as node-count-reads
+
+node-count-requires : tie.Need-node-count-requires
+node-count-requires c κs = search needs
+
+mul-result : tie.Need-mul-result
+mul-result c = omega (arith, nodes-within _ _ (c .node-count .ensures))
+
+add-result : tie.Need-add-result
+add-result c = omega (arith, nodes-within _ _ (c .node-count .ensures))
+
+returns : tie.Need-returns
+returns c = search nodes-fit-is
+
+pub nodes-fit-spec : {M : Type 1} → statement M
+nodes-fit-spec = tie.close (tie.spec node-count-requires mul-result add-result returns)

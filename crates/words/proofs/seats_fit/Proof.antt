@@ -1,0 +1,20 @@
+use native.Mathlib.Omega.{arith}
+use Rattle.words.proofs.Places.{seats-within, seats-fit-is}
+use borrow.Author.Needs.{needs}
+use Rattle.words.proofs.seats_fit.Statement.{statement}
+use Rattle.words.proofs.seats_fit.Tie as tie
+use Rattle.words.proofs.seats_fit.Reads as reads
+use Rattle.words.proofs.seats_fit.Lts as lts
+use Rattle.words.proofs.seat_count.Reads as seat-count-reads
+
+seat-count-requires : tie.Need-seat-count-requires
+seat-count-requires c κs = search needs
+
+mul-result : tie.Need-mul-result
+mul-result c = omega (arith, seats-within _ _ (c .seat-count .ensures))
+
+returns : tie.Need-returns
+returns c = search seats-fit-is
+
+pub seats-fit-spec : {M : Type 1} → statement M
+seats-fit-spec = tie.close (tie.spec seat-count-requires mul-result returns)

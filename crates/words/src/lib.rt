@@ -1,0 +1,135 @@
+// The words of the two tables: the only code that knows where a word stands. Each read and each store is total, as its definition is:
+// a read past the end is 0, a store past the end does nothing, and node 0 has only zeros but for its link, the head.
+ghost use mathlib.Core.Path.{_≡_};
+ghost use lib.ListN.{getD, set};
+ghost use mathlib.Core.List.{[]};
+ghost use Rattle.rules.specs.Tables.{tables, nodeWord, putNode, linkWord, putLink, seatWord, putSeat, nodeCountOf, seatCountOf};
+ghost use Rattle.rules.specs.Shape.{nodesFit, seatsFit};
+
+// Where the words of a node stand in it.
+pub const START: u32 = 0;
+
+pub const END: u32 = 1;
+
+pub const KIND: u32 = 2;
+
+pub const NEXT: u32 = 3;
+
+pub const MARK: u32 = 4;
+
+// Where the words of a seat stand in it.
+pub const PHASE: u32 = 0;
+
+pub const OWN: u32 = 1;
+
+pub const PREV: u32 = 2;
+
+pub const CUR: u32 = 3;
+
+const HEAD: usize = 0;
+
+const BEFORE_NODES: usize = 1;
+
+const NODE_WIDTH: usize = 5;
+
+const SEAT_WIDTH: usize = 4;
+
+fn word(table: &[u32], at: usize) -> u32
+    ensures { λ r. ⌜ r ≡ getD (now (table .entry)) at 0 ⌝ }
+{
+    if at < table.len() { table[at] } else { 0 }
+}
+
+fn put(table: &mut [u32], at: usize, value: u32)
+    ensures { λ r. ⌜ now (table .exit) ≡ set (now (table .entry)) at value ⌝ }
+{
+    if at < table.len() {
+        table[at] = value;
+    }
+}
+
+pub fn node_word(nodes: &[u32], a: u32, field: u32) -> u32
+    ensures { λ r. ⌜ r ≡ nodeWord (now (nodes .entry)) a field ⌝ }
+{
+    if a == 0 {
+        return 0;
+    }
+    word(
+        nodes,
+        BEFORE_NODES + NODE_WIDTH * (a - 1) as usize + field as usize,
+    )
+}
+
+pub fn put_node(nodes: &mut [u32], a: u32, field: u32, value: u32)
+    ensures { λ r. ⌜ now (nodes .exit) ≡ putNode (now (nodes .entry)) a field value ⌝ }
+{
+    if a == 0 {
+        return;
+    }
+    put(
+        nodes,
+        BEFORE_NODES + NODE_WIDTH * (a - 1) as usize + field as usize,
+        value,
+    );
+}
+
+pub fn link(nodes: &[u32], a: u32) -> u32
+    ensures { λ r. ⌜ r ≡ linkWord (now (nodes .entry)) a ⌝ }
+{
+    if a == 0 {
+        return word(nodes, HEAD);
+    }
+    node_word(nodes, a, NEXT)
+}
+
+pub fn put_link(nodes: &mut [u32], a: u32, value: u32)
+    ensures { λ r. ⌜ now (nodes .exit) ≡ putLink (now (nodes .entry)) a value ⌝ }
+{
+    if a == 0 {
+        put(nodes, HEAD, value);
+        return;
+    }
+    put_node(nodes, a, NEXT, value);
+}
+
+pub fn seat_word(seats: &[u32], s: u32, field: u32) -> u32
+    ensures { λ r. ⌜ r ≡ seatWord (now (seats .entry)) s field ⌝ }
+{
+    word(seats, SEAT_WIDTH * s as usize + field as usize)
+}
+
+pub fn put_seat(seats: &mut [u32], s: u32, field: u32, value: u32)
+    ensures { λ r. ⌜ now (seats .exit) ≡ putSeat (now (seats .entry)) s field value ⌝ }
+{
+    put(seats, SEAT_WIDTH * s as usize + field as usize, value);
+}
+
+pub fn node_count(nodes: &[u32]) -> usize
+    ensures { λ r. ⌜ r ≡ nodeCountOf (now (nodes .entry)) ⌝ }
+{
+    let length = nodes.len();
+    if length < BEFORE_NODES {
+        return 0;
+    }
+    (length - BEFORE_NODES) / NODE_WIDTH
+}
+
+pub fn seat_count(seats: &[u32]) -> usize
+    ensures { λ r. ⌜ r ≡ seatCountOf (now (seats .entry)) ⌝ }
+{
+    seats.len() / SEAT_WIDTH
+}
+
+pub fn nodes_fit(nodes: &[u32]) -> bool
+    ensures { λ r. ⌜ r ≡ nodesFit (tables (now (nodes .entry)) []) ⌝ }
+{
+    let n = node_count(nodes);
+    (nodes.len() == BEFORE_NODES + NODE_WIDTH * n) & (1 <= n) & (n <= 256)
+}
+
+pub fn seats_fit(seats: &[u32]) -> bool
+    ensures { λ r. ⌜ r ≡ seatsFit (tables [] (now (seats .entry))) ⌝ }
+{
+    let s = seat_count(seats);
+    (seats.len() == SEAT_WIDTH * s) & (1 <= s) & (s <= 64)
+}
