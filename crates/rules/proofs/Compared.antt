@@ -9,8 +9,7 @@ use lib.IntN.{ℤ, pos, negsuc}
 use borrow.Author.Tests.{eqb-true, leb-true, le-leb, eq-eqb}
 use Rattle.rules.specs.Notation.{if_then_else_}
 use Rattle.rules.specs.Comparison.{Claim, bothRead, liesAfter, liesBefore, compare}
-use Rattle.rules.proofs.Logic.{or-case, or-left, or-right, both, and-both, clash}
-use Rattle.rules.proofs.Deciding.{branch}
+use Rattle.rules.proofs.Logic.{or-case, or-left, or-right, both, and-both, clash, branch}
 
 -- o lies after c
 pub data Precedes (c o : Claim) : Type 0 where

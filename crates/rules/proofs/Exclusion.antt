@@ -11,7 +11,7 @@ use Rattle.rules.proofs.Invariant.{Ahead, reader-comes, writer-comes, f
 use Rattle.rules.proofs.Known.{own-proper, ordered-along}
 
 module _ {N : ℕ} {n : Nodes} {s : Seats} (v : Invariant N n s) where
-  not-both-holding : {g w : ℕ} → s .phase g ≡ 5 → s .phase w ≡ 5 → Ahead n s g w → ⊥
+  not-both-holding : {g w : ℕ} → s .phase g ≡ 5 → s .phase w ≡ 5 → Ahead (n .link) s g w → ⊥
   not-both-holding p q (reader-comes d r) = d p
   not-both-holding p q (writer-comes d r) = d q
 
@@ -24,9 +24,9 @@ module _ {N : ℕ} {n : Nodes} {s : Seats} (v : Invariant N n s) where
       elim (own-proper v i (omega arith) .reads-or-writes) [
         | inl ri ↦ elim (own-proper v j (omega arith) .reads-or-writes) [
           | inl rj ↦ (ri, rj)
-          | inr wj ↦ absurd (not-both-holding pi pj (v .unsettled i j (holding pi) (holding pj) ri wj (o .0) (omega arith)))
+          | inr wj ↦ absurd (not-both-holding pi pj (v .unsettled i j (holding pi) (holding pj) ri wj (o .starts) (let q = o .starts in omega arith)))
         ]
-        | inr wi ↦ let q = o .1 k wi in absurd (omega arith)
+        | inr wi ↦ let q = o .writer-ends k wi in absurd (omega arith)
       ]
 
   pub both-read : (i j f : ℕ) → i ≢ j → s .phase i ≡ 5 → s .phase j ≡ 5

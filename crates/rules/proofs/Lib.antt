@@ -12,5 +12,10 @@ pub mod Invariant
 pub mod Phases
 pub mod Known
 pub mod Exclusion
+pub mod SeatShapes
 pub mod SeatMoves
 pub mod SeatRules
+pub mod Unlink
+pub mod Insert
+pub mod Leave
+pub mod Take

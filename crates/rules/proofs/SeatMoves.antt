@@ -4,6 +4,7 @@ use mathlib.Core.Path.{_≡_, refl, sym, _∙_, ap}
 use mathlib.Core.Logic.{_≢_, _⊎_, inl, inr}
 use Prim.Native.Nat.{ℕ, _≤_, _<_}
 use native.Mathlib.Omega.{arith}
+use Rattle.rules.specs.Comparison.{Claim}
 use Rattle.rules.proofs.Deciding.{if-same}
 use Rattle.rules.proofs.Following.{Reach, here, there, reach-source, not-from-0, beyond}
 use Rattle.rules.proofs.Compared.{Precedes}
@@ -20,13 +21,13 @@ pub data SameClass (p q : ℕ) : Type 0 where
   both-outside : Outside p → Outside q → SameClass p q
   both-linked : Linked p → Linked q → SameClass p q
 
-pub not-stuck : {n : Nodes} {P C O : ℕ} → P ≢ 2 → P ≢ 4 → Stuck n P C O
+pub not-stuck : {P : ℕ} {c o : Claim} → P ≢ 2 → P ≢ 4 → Stuck P c o
 not-stuck f g = record { at-2 = λ z. absurd (f z); at-4 = λ z. absurd (g z) }
 
 -- two claims of which one reads, and the other writes and starts within it
-pub data Crossing (n : Nodes) (a b : ℕ) : Type 0 where
-  reads-writer : n .kind a ≡ 1 → n .kind b ≡ 2 → n .start a ≤ n .start b → n .start b < n .end a → Crossing n a b
-  writes-reader : n .kind a ≡ 2 → n .kind b ≡ 1 → n .start b ≤ n .start a → n .start a < n .end b → Crossing n a b
+pub data Crossing (c d : Claim) : Type 0 where
+  reads-writer : c .kind ≡ 1 → d .kind ≡ 2 → c .start ≤ d .start → d .start < c .end → Crossing c d
+  writes-reader : c .kind ≡ 2 → d .kind ≡ 1 → d .start ≤ c .start → c .start < d .end → Crossing c d
 
 module _ {s u : Seats} {i P Q C : ℕ} (m : Moved s u i P Q C) where
   own-kept : (j : ℕ) → u .own j ≡ s .own j
@@ -57,38 +58,38 @@ module _ {s u : Seats} {i P Q C : ℕ} (m : Moved s u i P Q C) where
     was-busy : (j : ℕ) → u .phase j ≢ 0 → s .phase j ≢ 0
     was-busy j h = if-same j i (λ e. rw e class-busy) (λ d. rw (m .phase-j j d) at h)
 
-    module _ {N : ℕ} {n : Nodes} (v : Invariant N n s) (known-Q : Known n s Q) (known-C : Known n s C) where
-      seen-was : {a : ℕ} → Seen n u a → Seen n s a
+    module _ {N : ℕ} {n : Nodes} (v : Invariant N n s) (known-Q : Known (n .link) s Q) (known-C : Known (n .link) s C) where
+      seen-was : {a : ℕ} → Seen (n .link) u a → Seen (n .link) s a
       seen-was (from-head r) = from-head r
       seen-was (from-prev j r) =
           if-same j i (λ e. known-on known-Q (rw (e, m .prev-i) at r)) (λ d. from-prev j (rw (m .prev-j j d) at r))
       seen-was (from-cur j r) =
           if-same j i (λ e. known-on known-C (rw (e, m .cur-i) at r)) (λ d. from-cur j (rw (m .cur-j j d) at r))
 
-      module _ (shape : SeatShape N n P (s .own i) Q C) (stuck : Stuck n P C (s .own i))
+      module _ (shape : SeatShape N (claimAt n) P (s .own i) Q C) (stuck : Stuck P (claimAt n C) (claimAt n (s .own i)))
           (passed : Outside (s .phase i) → 0 < Q → Precedes (claimAt n Q) (claimAt n (s .own i)))
           (reader-cur : Linked (s .phase i) → n .kind (s .own i) ≡ 1 → 0 < C → n .start (s .own i) ≤ n .start C)
-          (still-ahead : (j : ℕ) → j ≢ i → Linked (s .phase i) → Linked (s .phase j) → Crossing n (s .own i) (s .own j)
+          (still-ahead : (j : ℕ) → j ≢ i → Linked (s .phase i) → Linked (s .phase j) → Crossing (claimAt n (s .own i)) (claimAt n (s .own j))
           → Reach (n .link) (s .own j) (s .cur i) → (P ≢ 5) × Reach (n .link) (s .own j) C) where
         -- neither of the two moved
-        others-ahead : (g w : ℕ) → g ≢ i → w ≢ i → Ahead n s g w → Ahead n u g w
+        others-ahead : (g w : ℕ) → g ≢ i → w ≢ i → Ahead (n .link) s g w → Ahead (n .link) u g w
         others-ahead g w a b (reader-comes h r) = reader-comes (rw (m .phase-j g a) h) (rw (own-kept w, m .cur-j g a) r)
         others-ahead g w a b (writer-comes h r) = writer-comes (rw (m .phase-j w b) h) (rw (own-kept g, m .cur-j w b) r)
 
         -- the reader moved
         reader-ahead : (w : ℕ) → w ≢ i
-            → (Reach (n .link) (s .own w) (s .cur i) → (P ≢ 5) × Reach (n .link) (s .own w) C) → Ahead n s i w → Ahead n u i w
+            → (Reach (n .link) (s .own w) (s .cur i) → (P ≢ 5) × Reach (n .link) (s .own w) C) → Ahead (n .link) s i w → Ahead (n .link) u i w
         reader-ahead w d f (reader-comes h r) = let k = f r in reader-comes (rw (m .phase-i) (k .0)) (rw (own-kept w, m .cur-i) (k .1))
         reader-ahead w d f (writer-comes h r) = writer-comes (rw (m .phase-j w d) h) (rw (own-kept i, m .cur-j w d) r)
 
         -- the writer moved
         writer-ahead : (g : ℕ) → g ≢ i
-            → (Reach (n .link) (s .own g) (s .cur i) → (P ≢ 5) × Reach (n .link) (s .own g) C) → Ahead n s g i → Ahead n u g i
+            → (Reach (n .link) (s .own g) (s .cur i) → (P ≢ 5) × Reach (n .link) (s .own g) C) → Ahead (n .link) s g i → Ahead (n .link) u g i
         writer-ahead g d f (reader-comes h r) = reader-comes (rw (m .phase-j g d) h) (rw (own-kept i, m .cur-j g d) r)
         writer-ahead g d f (writer-comes h r) = let k = f r in writer-comes (rw (m .phase-i) (k .0)) (rw (own-kept g, m .cur-i) (k .1))
 
         unsettled : (g w : ℕ) → Linked (u .phase g) → Linked (u .phase w) → n .kind (s .own g) ≡ 1 → n .kind (s .own w) ≡ 2
-            → n .start (s .own g) ≤ n .start (s .own w) → n .start (s .own w) < n .end (s .own g) → Ahead n u g w
+            → n .start (s .own g) ≤ n .start (s .own w) → n .start (s .own w) < n .end (s .own g) → Ahead (n .link) u g w
         unsettled g w lg lw kg kw a b =
             let sg = was-linked g lg in
             let sw = was-linked w lw in
