@@ -19,3 +19,8 @@ pub mod Unlink
 pub mod Insert
 pub mod Leave
 pub mod Take
+pub mod SameWords
+pub mod Effects
+pub mod Reasons
+pub mod Good
+pub mod StepKeeps

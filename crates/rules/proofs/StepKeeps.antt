@@ -1,0 +1,127 @@
+-- Every rule of a step that fetches nothing, and release, leave good tables good: by clauses on why the step did what it did.
+use Prim.Native.Nat.{ℕ, _≤_, _<_}
+use mathlib.Core.Path.{_≡_, refl, sym, _∙_, ap}
+use mathlib.Core.List.{List}
+use mathlib.Core.Logic.{_≢_, _⊎_, inl, inr}
+use native.Mathlib.Omega.{arith}
+use Rattle.rules.specs.Tables.{Tables, tables, seatWord, phaseAt, ownAt, prevAt, curAt, markAt, kindAt, nextAt, kind, mark, link, next, head, phase, own, prev, cur, setLink, setPhase, setPrev, setCur}
+use Rattle.rules.specs.Comparison.{claimOf}
+use Rattle.rules.specs.Steps.{moveTo, linkIn, pass, hold, withdraw, leave}
+use Rattle.rules.proofs.Deciding.{if-same}
+use Rattle.rules.proofs.Words.{link-put-same, link-put-other, node-put-link}
+use Rattle.rules.proofs.Compared.{Precedes}
+use Rattle.rules.proofs.View.{nodesOf, seatsOf, Linked, validating, holding}
+use Rattle.rules.proofs.Invariant.{Invariant}
+use Rattle.rules.proofs.SeatMoves.{Moved}
+use Rattle.rules.proofs.Phases.{linked-busy}
+use Rattle.rules.proofs.Known.{known-prev, own-proper}
+use Rattle.rules.proofs.SeatRules.{pass-keeps, skip-keeps, restart-keeps, reread-keeps, wake-keeps, wait-keeps, pass-reader-keeps, pass-writer-keeps, skip-validating-keeps, reader-wakes-keeps, reader-waits-keeps, hold-reader-keeps, hold-writer-keeps}
+use Rattle.rules.proofs.Insert.{reader, writer}
+use Rattle.rules.proofs.Leave as leaving
+use Rattle.rules.proofs.Effects.{Room, stored, Seated, as-found, put}
+use Rattle.rules.proofs.Reasons.{Joined, Unlinking, takes-out, goes-past, Starting, as-reader, as-writer, Inserting, links-in, restarts, rereads, Walking, inserts, unlinks, passes, waits, Waking, wakes, stays, ReaderValidating, reader-holds, reader-unlinks, reader-passes, reader-waits, WriterValidating, writer-holds, writer-unlinks, writer-passes, withdraws, Validating, validates-reader, validates-writer}
+use Rattle.rules.proofs.Good.{Good, room, node-room, moves, passes-over, prev-in, new-prev, new-own, old-words, links-in-good, leaves-good}
+
+-- the seat's cur goes on to a marked cur's next
+skip-good : {N S : ℕ} {t : Tables} → Good N S t → (s : ℕ) → s < S → (phase t s ≡ 1) ⊎ (phase t s ≡ 3) → cur t s ≢ 0 → mark t (cur t s) ≡ 1
+    → Good N S (setCur t s (next t (cur t s)))
+skip-good {t = t} g s s-in (inl e) c m =
+    moves g (put (room g s s-in) (as-found (t .seats) s) curAt (next t (cur t s)) (omega arith)) (λ w. skip-keeps (g .inv) (rw e at w) e (omega arith))
+skip-good {t = t} g s s-in (inr e) c m =
+    moves g (put (room g s s-in) (as-found (t .seats) s) curAt (next t (cur t s)) (omega arith))
+    (λ w. skip-validating-keeps (g .inv) (rw e at w) e (omega arith) m)
+
+module _ {N S : ℕ} {t : Tables} (g : Good N S t) (s : ℕ) (s-in : s < S) where
+  -- ---- the moves that change no node
+  abbrev r : Room t s
+  r = room g s s-in
+
+  pass-good : (Moved (seatsOf t) (seatsOf (pass t s)) s (phase t s) (cur t s) (next t (cur t s)) → Invariant N (nodesOf t) (seatsOf (pass t s)))
+      → Good N S (pass t s)
+  unfolding pass
+  pass-good f = moves g (put r (put r (as-found (t .seats) s) prevAt (cur t s) (omega arith)) curAt (next t (cur t s)) (omega arith)) f
+
+  phase-good : (P : ℕ) → (Moved (seatsOf t) (seatsOf (setPhase t s P)) s P (prev t s) (cur t s) → Invariant N (nodesOf t) (seatsOf (setPhase t s P)))
+      → Good N S (setPhase t s P)
+  phase-good P f = moves g (put r (as-found (t .seats) s) phaseAt P (omega arith)) f
+
+  move-to : (P Q C : ℕ) → Seated (t .seats) (moveTo t s P Q C .seats) s (stored (stored (stored (seatWord (t .seats) s) phaseAt P) prevAt Q) curAt C)
+  move-to P Q C = put r (put r (put r (as-found (t .seats) s) phaseAt P (omega arith)) prevAt Q (omega arith)) curAt C (omega arith)
+
+  hold-good : (Moved (seatsOf t) (seatsOf (hold t s)) s 5 0 0 → Invariant N (nodesOf t) (seatsOf (hold t s))) → Good N S (hold t s)
+  unfolding hold
+  hold-good f = moves g (move-to 5 0 0) f
+
+  own-writes : phase t s ≢ 0 → kind t (own t s) ≢ 1 → kind t (own t s) ≡ 2
+  own-writes b k = elim (own-proper (g .inv) s b .reads-or-writes) [ inl q ↦ absurd (k q) | inr q ↦ q ]
+
+  -- ---- unlink and insert
+  unlink-good : {u : Tables} → (phase t s ≡ 1) ⊎ (phase t s ≡ 3) → cur t s ≢ 0 → mark t (cur t s) ≡ 1 → Unlinking t s u → Good N S u
+  unlink-good ph c m (goes-past e) = skip-good g s s-in ph c m
+  unlink-good ph c m (takes-out j) =
+      let p = prev t s in
+      let v = next t (cur t s) in
+      let g′ = passes-over g p (cur t s) (prev-in g s) (known-prev s) c m (j .to-cur) in
+      let same : link (setLink t p v) (cur t s) ≡ v =
+      if-same (cur t s) p
+      (λ e. ap (link (setLink t p v)) e ∙ link-put-same (t .nodes) p v (node-room g p (prev-in g s)))
+      (λ d. link-put-other (t .nodes) p (cur t s) v (λ e. d (sym e))) in
+      rw same at (skip-good g′ s s-in ph c (node-put-link (t .nodes) p (cur t s) markAt v (omega arith) (omega arith) ∙ m))
+
+  start-good : {u : Tables} → phase t s ≡ 1 → Joined t s → (cur t s ≡ 0) ⊎ Precedes (claimOf t (own t s)) (claimOf t (cur t s))
+      → Starting (linkIn t s) s u → Good N S u
+  unfolding linkIn
+  start-good e j f (as-reader k) =
+      links-in-good g s e j f (move-to 3 (own t s) (next (linkIn t s) (own t s))) refl
+      (reader refl (sym (old-words g s e j f (own t s) kindAt (omega arith) (omega arith)) ∙ k) refl (new-own g s e j f ∙ sym (j .to-cur)))
+  start-good e j f (as-writer k) =
+      links-in-good g s e j f (move-to 3 0 (head (linkIn t s))) refl
+      (writer refl (own-writes (omega arith) (λ q. k (old-words g s e j f (own t s) kindAt (omega arith) (omega arith) ∙ q))) refl refl)
+
+  insert-good : {u : Tables} → phase t s ≡ 1 → (cur t s ≡ 0) ⊎ Precedes (claimOf t (own t s)) (claimOf t (cur t s)) → Inserting t s u → Good N S u
+  insert-good e f (links-in j st) = start-good e j f st
+  insert-good e f (restarts j m) =
+      moves g (put r (put r (as-found (t .seats) s) prevAt 0 (omega arith)) curAt (head t) (omega arith)) (λ w. restart-keeps (g .inv) (rw e at w) e)
+  insert-good e f (rereads j m) =
+      moves g (put r (as-found (t .seats) s) curAt (link t (prev t s)) (omega arith)) (λ w. reread-keeps (g .inv) (rw e at w) e)
+
+  -- ---- the phases
+  pub walking-keeps : {u : Tables} → phase t s ≡ 1 → Walking t s u → Good N S u
+  walking-keeps e (inserts f i) = insert-good e f i
+  walking-keeps e (unlinks c m i) = unlink-good (inl e) c m i
+  walking-keeps e (passes c m f) = pass-good (λ w. pass-keeps (g .inv) (rw e at w) e (omega arith) f)
+  walking-keeps e (waits c m f f′) = phase-good 2 (λ w. wait-keeps (g .inv) w e (omega arith) f f′)
+
+  pub waiting-keeps : {u : Tables} → phase t s ≡ 2 → Waking t s 1 u → Good N S u
+  waiting-keeps e (wakes m) = phase-good 1 (λ w. wake-keeps (g .inv) w e)
+  waiting-keeps e (stays m) = g
+
+  pub reader-waiting-keeps : {u : Tables} → phase t s ≡ 4 → Waking t s 3 u → Good N S u
+  reader-waiting-keeps e (wakes m) = phase-good 3 (λ w. reader-wakes-keeps (g .inv) w e)
+  reader-waiting-keeps e (stays m) = g
+
+  reader-validating-keeps : {u : Tables} → phase t s ≡ 3 → kind t (own t s) ≡ 1 → ReaderValidating t s u → Good N S u
+  reader-validating-keeps e k (reader-holds f) = hold-good (λ w. hold-reader-keeps (g .inv) w e k f)
+  reader-validating-keeps e k (reader-unlinks c m i) = unlink-good (inr e) c m i
+  reader-validating-keeps e k (reader-passes c m f) = pass-good (λ w. pass-reader-keeps (g .inv) (rw e at w) e (omega arith) k f)
+  reader-validating-keeps e k (reader-waits c m f h) = phase-good 4 (λ w. reader-waits-keeps (g .inv) w e (omega arith) k f h)
+
+  withdraw-good : Linked (phase t s) → Good N S (withdraw t s)
+  unfolding withdraw
+  withdraw-good l = leaves-good g s l (move-to 6 0 0) refl refl (leaving.withdraws refl refl)
+
+  writer-validating-keeps : {u : Tables} → phase t s ≡ 3 → kind t (own t s) ≢ 1 → WriterValidating t s u → Good N S u
+  writer-validating-keeps e k (writer-holds f) = hold-good (λ w. hold-writer-keeps (g .inv) w e (own-writes (omega arith) k) f)
+  writer-validating-keeps e k (writer-unlinks d c m i) = unlink-good (inr e) c m i
+  writer-validating-keeps e k (writer-passes d c m f) =
+      pass-good (λ w. pass-writer-keeps (g .inv) (rw e at w) e (omega arith) (own-writes (omega arith) k) f)
+  writer-validating-keeps e k (withdraws d f) = withdraw-good (validating e)
+
+  pub validating-keeps : {u : Tables} → phase t s ≡ 3 → Validating t s u → Good N S u
+  validating-keeps e (validates-reader k v) = reader-validating-keeps e k v
+  validating-keeps e (validates-writer k v) = writer-validating-keeps e k v
+
+  -- ---- release
+  pub leave-keeps : phase t s ≡ 5 → Good N S (leave t s)
+  unfolding leave
+  leave-keeps e = leaves-good g s (holding e) (put r (move-to 0 0 0) ownAt 0 (omega arith)) refl refl (leaving.releases refl refl)
