@@ -1,5 +1,5 @@
--- What stores do, seen from the theory: to a seat's words, one after another, and to the view of the nodes. Over any tables that have
--- room for the seat.
+-- What stores do, seen from the theory: to the words of a seat or a node, one after another, and to the view of the nodes. Over any
+-- tables that have room for the seat or the node.
 use Prim.Native.Nat.{ℕ, zero, suc, _+_, _*_, _≤_, _<_}
 use mathlib.Core.Path.{_≡_, refl, sym, _∙_, ap, fun-ext}
 use mathlib.Core.Bool.{Bool, true, false}
@@ -9,9 +9,9 @@ use native.Mathlib.Omega.{arith}
 use lib.ListN.{length}
 use borrow.Author.Tests.{eq-eqb, ne-eqb}
 use Rattle.rules.specs.Notation.{if_then_else_, _is_}
-use Rattle.rules.specs.Tables.{Tables, tables, nodeWidth, seatWidth, startAt, endAt, kindAt, markAt, nextAt, phaseAt, ownAt, prevAt, curAt, nodeWord, linkWord, seatWord, putSeat, setSeat, link, mark}
+use Rattle.rules.specs.Tables.{Tables, tables, beforeNodes, nodeWidth, seatWidth, startAt, endAt, kindAt, markAt, nextAt, phaseAt, ownAt, prevAt, curAt, nodeWord, linkWord, seatWord, putNode, putLink, putSeat, link, mark}
 use Rattle.rules.proofs.Deciding.{if-same}
-use Rattle.rules.proofs.Words.{seat-put-same, seat-put-field, seat-put-seat, put-seat-length}
+use Rattle.rules.proofs.Words.{seat-put-same, seat-put-field, seat-put-seat, put-seat-length, node-put-same, node-put-field, node-put-node, put-node-length, put-link-node, link-put-other, link-put-field}
 use Rattle.rules.proofs.View.{Nodes, Seats, nodesOf, seatsOf, relink, remark, Reseated}
 
 -- ---- the words of one seat
@@ -52,6 +52,37 @@ reseated t u w = record {
   prev-j = λ r d. w .others r prevAt d (omega arith);
   cur-j = λ r d. w .others r curAt d (omega arith);
 }
+
+-- ---- the words of one node
+pub record Noded (before after : List ℕ) (a : ℕ) (words : ℕ → ℕ) : Type 0 where
+  pub at-a : (f : ℕ) → f < nodeWidth → nodeWord after a f ≡ words f
+  pub others : (b f : ℕ) → b ≢ a → f < nodeWidth → nodeWord after b f ≡ nodeWord before b f
+  pub links : (b : ℕ) → b ≢ a → linkWord after b ≡ linkWord before b
+  pub long : length after ≡ length before
+
+pub node-as-found : (nodes : List ℕ) (a : ℕ) → Noded nodes nodes a (nodeWord nodes a)
+node-as-found nodes a = record { at-a = λ f h. refl; others = λ b f d h. refl; links = λ b d. refl; long = refl }
+
+module _ {before after : List ℕ} {a : ℕ} {words : ℕ → ℕ} (pos : a ≢ 0) (room : beforeNodes + nodeWidth * a ≤ length before) (w : Noded before after a words) where
+  -- the link of a node is its word like the others
+  link-away : (f v b : ℕ) → f < nodeWidth → b ≢ a → linkWord (putNode after a f v) b ≡ linkWord after b
+  link-away f v b h d =
+      if-same f nextAt
+      (λ e. rw (e, ← put-link-node after a v pos) (link-put-other after a b v (λ q. d (sym q))))
+      (λ k. link-put-field after a b f v h k)
+
+  pub put-word : (f v : ℕ) → f < nodeWidth → Noded before (putNode after a f v) a (stored words f v)
+  put-word f v h = record {
+    at-a = λ g k. if-same g f
+        (λ e. rw (e, eq-eqb f f refl) (node-put-same after a f v h pos (let l = w .long in omega arith)))
+        (λ d. rw (ne-eqb g f d) (node-put-field after a a f g v h k (λ e. d (sym e)) ∙ w .at-a g k));
+    others = λ b g d k. node-put-node after a b f g v h k (λ e. d (sym e)) ∙ w .others b g d k;
+    links = λ b d. link-away f v b h d ∙ w .links b d;
+    long = put-node-length after a f v ∙ w .long;
+  }
+
+  pub put-next : (v : ℕ) → Noded before (putLink after a v) a (stored words nextAt v)
+  put-next v = rw (put-link-node after a v pos) (put-word nextAt v (omega arith))
 
 -- ---- the view of the nodes, where only links or only marks have changed
 pub only-links : (t u : Tables) → ((a f : ℕ) → f < nodeWidth → f ≢ nextAt → nodeWord (u .nodes) a f ≡ nodeWord (t .nodes) a f)

@@ -24,3 +24,8 @@ pub mod Effects
 pub mod Reasons
 pub mod Good
 pub mod StepKeeps
+pub mod Lowest
+pub mod Listed
+pub mod TakeOut
+pub mod Freed
+pub mod FetchKeeps

@@ -75,8 +75,8 @@ module _ {n n′ : Nodes} {o : ℕ} (w : Written n n′ o) where
     cur-named = named-same (h .cur-named);
   }
 
-module _ {N : ℕ} {n n′ : Nodes} {s u : Seats} {i o : ℕ} (v : Invariant N n s) (f : Free n s i o) (w : Written n n′ o)
-    (m : Reseated s u i 1 o 0 (n .link 0)) where
+module _ {N : ℕ} {n n′ : Nodes} {s u : Seats} {i o C : ℕ} (v : Invariant N n s) (f : Free n s i o) (w : Written n n′ o)
+    (m : Reseated s u i 1 o 0 C) (at-head : C ≡ n .link 0) where
   abbrev Away : ℕ → Type 0
   Away a = Reach (n .link) o a → ⊥
 
@@ -110,7 +110,7 @@ module _ {N : ℕ} {n n′ : Nodes} {s u : Seats} {i o : ℕ} (v : Invariant N n
       (λ d. let q = adds-none (f .not-prev j d) (rw (m .prev-j j d) at r) in (from-prev j q, λ z. f .not-prev j d (reach-on q z)))
   seen-was (from-cur j r) =
       if-same j i
-      (λ e. let q = adds-none (f .off-list) (rw (ap (u .cur) e ∙ m .cur-i) at r) in (from-head q, λ z. f .off-list (reach-on q z)))
+      (λ e. let q = adds-none (f .off-list) (rw (ap (u .cur) e ∙ m .cur-i ∙ at-head) at r) in (from-head q, λ z. f .off-list (reach-on q z)))
       (λ d. let q = adds-none (f .not-cur j d) (rw (m .cur-j j d) at r) in (from-cur j q, λ z. f .not-cur j d (reach-on q z)))
 
   was-busy : (j : ℕ) → j ≢ i → u .phase j ≢ 0 → s .phase j ≢ 0
@@ -159,7 +159,7 @@ module _ {N : ℕ} {n n′ : Nodes} {s u : Seats} {i o : ℕ} (v : Invariant N n
   take-keeps o-in idle = record {
     nodes = written-shape w (f .is-node) (v .nodes);
     seats = λ j. if-same j i
-        (λ e. rw (e, m .phase-i, m .own-i, m .prev-i, m .cur-i)
+        (λ e. rw (e, m .phase-i, m .own-i, m .prev-i, m .cur-i, at-head)
         (on-its-way (omega arith) (omega arith) (not-waiting (omega arith) (omega arith)) (f .is-node) (node (f .is-node) o-in (w .proper))
         (nothing refl) (named-same w (v .nodes .links 0))))
         (λ d. rw (m .phase-j j d, m .own-j j d, m .prev-j j d, m .cur-j j d) (seat-same w (v .seats j)));
