@@ -29,3 +29,7 @@ pub mod Listed
 pub mod TakeOut
 pub mod Freed
 pub mod FetchKeeps
+pub mod Accepting
+pub mod RunSteps
+pub mod CallKeeps
+pub mod SoundReached

@@ -1,0 +1,55 @@
+-- Run is its steps: its count says how many entries were stepped, each accepted, and its tables are those after these steps.
+use Prim.Native.Nat.{ℕ, zero, suc, _+_, _≤_, _<_}
+use mathlib.Core.Path.{_≡_, refl, sym, ap, _∙_}
+use mathlib.Core.Bool.{Bool, true, false}
+use mathlib.Core.List.{List, [], _∷_, map}
+use mathlib.Core.Logic.{_≢_, _⊎_, inl, inr}
+use native.Mathlib.Omega.{arith}
+use native.Mathlib.Numerals.{add-one}
+use lib.ListN.{take, length}
+use borrow.Author.Tests.{eqb-true, eqb-false}
+use Rattle.rules.specs.Notation.{if_then_else_, _is_}
+use Rattle.rules.specs.Tables.{Tables}
+use Rattle.rules.specs.Answers.{Answer, Done, done}
+use Rattle.rules.specs.Calls.{damaged, step}
+use Rattle.rules.specs.Run.{ran, refusalOf, oneMore, runSteps, run}
+use Rattle.rules.specs.Play.{Call, stepCall, call, afterAll}
+use Rattle.rules.specs.declared.Ran.{Ran}
+use Rattle.rules.proofs.Logic.{branch}
+
+-- the steps that a run took are the first `steps` entries of its schedule
+abbrev pub stepsOf : List ℕ → ℕ → List Call
+stepsOf schedule k = map stepCall (take k schedule)
+
+-- each of these steps is accepted
+pub data AllAccepted : Tables → List ℕ → Type 0 where
+  no-more : {t : Tables} → AllAccepted t []
+  one-more : {t : Tables} {s : ℕ} {rest : List ℕ} → refusalOf (step t s .answer) ≡ 0 → AllAccepted (step t s .after) rest → AllAccepted t (s ∷ rest)
+
+pub record IsItsSteps (t : Tables) (schedule : List ℕ) (r : Done Ran) : Type 0 where
+  pub tables-after : r .after ≡ afterAll t (stepsOf schedule (r .answer .steps))
+  pub accepted : AllAccepted t (take (r .answer .steps) schedule)
+
+none-taken : (t : Tables) (schedule : List ℕ) (number : ℕ) → IsItsSteps t schedule (done (ran 0 number) t)
+unfolding afterAll
+none-taken t schedule number = record { tables-after = refl; accepted = no-more }
+
+one-taken : (t : Tables) (s : ℕ) (rest : List ℕ) (r : Done Ran) → refusalOf (step t s .answer) ≡ 0 → IsItsSteps (step t s .after) rest r → IsItsSteps t (s ∷ rest) (oneMore r)
+unfolding afterAll call
+one-taken t s rest r e w = record {
+  tables-after = rw (add-one (r .answer .steps)) (w .tables-after);
+  accepted = rw (add-one (r .answer .steps)) (one-more e (w .accepted));
+}
+
+run-steps-are : (budget : ℕ) (t : Tables) (schedule : List ℕ) → IsItsSteps t schedule (runSteps budget t schedule)
+unfolding runSteps
+run-steps-are zero t schedule = none-taken t schedule 0
+run-steps-are (suc budget) t [] = none-taken t [] 0
+run-steps-are (suc budget) t (s ∷ rest) =
+    branch (IsItsSteps t (s ∷ rest)) (refusalOf (step t s .answer) is 0)
+    (λ e. one-taken t s rest (runSteps budget (step t s .after) rest) (eqb-true (refusalOf (step t s .answer)) 0 e) (run-steps-are budget (step t s .after) rest))
+    (λ e. none-taken t (s ∷ rest) (refusalOf (step t s .answer)))
+
+pub run-is-its-steps : (t : Tables) (schedule : List ℕ) (budget : ℕ) → IsItsSteps t schedule (run t schedule budget)
+unfolding run
+run-is-its-steps t schedule budget = branch (IsItsSteps t schedule) (damaged t) (λ e. none-taken t schedule 1) (λ e. run-steps-are budget t schedule)
