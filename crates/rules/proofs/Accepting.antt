@@ -70,6 +70,16 @@ releasing t s =
     branch (Releasing t s) (not (phase t s is 5)) (λ e. release-refused 7 (refuses-other 7 (omega arith) (omega arith))) (λ e₃.
     release-accepted (not-false (sound t) e₁) (leb-false (seatCount t) s e₂) (eqb-true (phase t s) 5 (not-false (phase t s is 5) e₃)))))
 
+-- a step is refused and changes nothing, or is the step by phase
+pub step-or-same : (t : Tables) (s : ℕ) (P : Tables → Type 0) → P t
+    → (sound t ≡ true → s < seatCount t → phase t s ≢ 0 → P (stepByPhase t s .after)) → P (step t s .after)
+unfolding step
+step-or-same t s P same accepted =
+    branch (λ (d : Done Answer). P (d .after)) (damaged t) (λ e. same) (λ e₁.
+    branch (λ (d : Done Answer). P (d .after)) (noSeat t s) (λ e. same) (λ e₂.
+    branch (λ (d : Done Answer). P (d .after)) (phase t s is 0) (λ e. same) (λ e₃.
+    accepted (not-false (sound t) e₁) (leb-false (seatCount t) s e₂) (eqb-false (phase t s) 0 e₃))))
+
 -- an accepted step of sound tables is the step by phase
 pub step-is : (t : Tables) (s : ℕ) → sound t ≡ true → s < seatCount t → phase t s ≢ 0 → step t s ≡ stepByPhase t s
 unfolding step

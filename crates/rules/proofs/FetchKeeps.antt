@@ -9,14 +9,15 @@ use lib.ListN.{length}
 use Rattle.rules.specs.Tables.{Tables, tables, beforeNodes, nodeWidth, nodeCount, nodeWord, seatWord, linkWord, startAt, endAt, kindAt, markAt, nextAt, phaseAt, ownAt, prevAt, curAt, link, head, phase}
 use Rattle.rules.specs.Comparison.{Claim}
 use Rattle.rules.specs.Reach.{free, lowestFree}
-use Rattle.rules.specs.Fetch.{Fetched, takenOut, writeClaim, enterAtHead, takeNode}
+use Rattle.rules.specs.Fetch.{Fetched, writeClaim, enterAtHead, takeNode}
 use Rattle.rules.proofs.Words.{link-node}
 use Rattle.rules.proofs.SameWords.{node-count}
 use Rattle.rules.proofs.Lowest.{lowest-has}
 use Rattle.rules.proofs.View.{Nodes, nodesOf, seatsOf}
 use Rattle.rules.proofs.Invariant.{Proper}
 use Rattle.rules.proofs.Take.{Written, take-keeps}
-use Rattle.rules.proofs.Effects.{Room, stored, Seated, as-found, put, reseated, Noded, node-as-found, put-word, put-next}
+use Rattle.rules.proofs.Effects.{stored, reseated, Noded, node-as-found, put-word, put-next}
+use Rattle.rules.proofs.RuleEffects.{enter-stored}
 use Rattle.rules.proofs.Reasons.{Fetching, found, found-then, none}
 use Rattle.rules.proofs.Good.{Good, room, node-room}
 use Rattle.rules.proofs.TakeOut.{taken-out-good, taken-out-seats}
@@ -47,14 +48,6 @@ written t a c z r p =
       mark-a = λ b d. w .others b markAt d (omega arith);
     }
 
--- ---- and of the seat that takes it
-abbrev enteredWords : (ℕ → ℕ) → ℕ → ℕ → ℕ → ℕ
-enteredWords words a first = stored (stored (stored (stored words phaseAt 1) ownAt a) prevAt 0) curAt first
-
-pub entered : (t : Tables) (s a : ℕ) → Room t s → Seated (t .seats) (enterAtHead t s a .seats) s (enteredWords (seatWord (t .seats) s) a (head t))
-unfolding enterAtHead
-entered t s a r = put r (put r (put r (put r (as-found (t .seats) s) phaseAt 1 (omega arith)) ownAt a (omega arith)) prevAt 0 (omega arith)) curAt (head t) (omega arith)
-
 module _ {N S : ℕ} {t : Tables} (g : Good N S t) (s : ℕ) (s-in : s < S) (c : Claim) (proper : Proper c) (may : (phase t s ≡ 0) ⊎ (phase t s ≡ 6)) where
   -- the claim is written first, and then the seat reads the head
   take-good : (a : ℕ) → free t s a ≡ true → a ≢ 0 → a ≤ N → Good N S (takeNode t s a c)
@@ -63,7 +56,7 @@ module _ {N S : ℕ} {t : Tables} (g : Good N S t) (s : ℕ) (s-in : s < S) (c :
       let wrote = claim-written t a c z (node-room g a h) in
       let u = writeClaim t a c in
       let same-head : head u ≡ head t = wrote .links 0 (λ e. z (sym e)) in
-      let sat = entered u s a (room g s s-in) in
+      let sat = enter-stored u s (room g s s-in) a in
       record {
         nodes-long = wrote .long ∙ g .nodes-long;
         seats-long = sat .long ∙ g .seats-long;

@@ -21,6 +21,7 @@ pub mod Leave
 pub mod Take
 pub mod SameWords
 pub mod Effects
+pub mod RuleEffects
 pub mod Reasons
 pub mod Good
 pub mod StepKeeps
@@ -33,3 +34,5 @@ pub mod Accepting
 pub mod RunSteps
 pub mod CallKeeps
 pub mod SoundReached
+pub mod SeatFrames
+pub mod NodeFrames

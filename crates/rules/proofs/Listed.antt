@@ -26,18 +26,18 @@ module _ (t : Tables) (x : ℕ) where
         | inr p ↦ there pos (met-reach h (next t a) p)
       ]
 
-  first-met : (h a : ℕ) → a ≢ 0 → (a is x || met h t (next t a) x) ≡ true → met (suc h) t a x ≡ true
+  pub met-first : (h a : ℕ) → a ≢ 0 → (a is x || met h t (next t a) x) ≡ true → met (suc h) t a x ≡ true
   unfolding met
-  first-met h a z e = and-both (not (a is 0)) (a is x || met h t (next t a) x) (of-not (a is 0) (ne-eqb a 0 z)) e
+  met-first h a z e = and-both (not (a is 0)) (a is x || met h t (next t a) x) (of-not (a is 0) (ne-eqb a 0 z)) e
 
   -- a node is met from itself
   pub met-here : (h : ℕ) → 0 < h → x ≢ 0 → met h t x x ≡ true
   met-here zero p z = absurd (omega arith)
-  met-here (suc h) p z = first-met h x z (or-left (x is x) (met h t (next t x) x) (eq-eqb x x refl))
+  met-here (suc h) p z = met-first h x z (or-left (x is x) (met h t (next t x) x) (eq-eqb x x refl))
 
   pub reach-met : {a k : ℕ} → Ends (link t) a k → (h : ℕ) → k ≤ h → Reach (link t) x a → met h t a x ≡ true
   reach-met stop h l r = absurd (not-from-0 r refl)
   reach-met (more p e) zero l r = absurd (omega arith)
   reach-met (more {a = a} p e) (suc h) l (here q) = met-here (suc h) (omega arith) (omega arith)
   reach-met (more {a = a} p e) (suc h) l (there q r) =
-      first-met h a (omega arith) (or-right (a is x) (met h t (next t a) x) (reach-met e h (omega arith) r))
+      met-first h a (omega arith) (or-right (a is x) (met h t (next t a) x) (reach-met e h (omega arith) r))

@@ -195,3 +195,29 @@ steps t s =
     branch (Stepping t s) (phase t s is 4) (λ e. in-4 (eqb-true (phase t s) 4 e) (wakes-to-validate t s)) (λ d₄.
     branch (Stepping t s) (phase t s is 6) (λ e. in-6 (eqb-true (phase t s) 6 e) (fetching t s (claimOf t (own t s)))) (λ d₆.
     at-rest (eqb-false (phase t s) 1 d₁) (eqb-false (phase t s) 2 d₂) (eqb-false (phase t s) 3 d₃) (eqb-false (phase t s) 4 d₄) (eqb-false (phase t s) 6 d₆))))))
+
+-- ---- and by the phase alone
+module _ (t : Tables) (s : ℕ) where
+  pub by-phase-1 : phase t s ≡ 1 → stepByPhase t s ≡ answered (walking t s) s
+  unfolding stepByPhase
+  by-phase-1 e = rw e
+
+  pub by-phase-2 : phase t s ≡ 2 → stepByPhase t s ≡ answered (waitingToEnter t s) s
+  unfolding stepByPhase
+  by-phase-2 e = rw e
+
+  pub by-phase-3 : phase t s ≡ 3 → stepByPhase t s ≡ answered (validating t s) s
+  unfolding stepByPhase
+  by-phase-3 e = rw e
+
+  pub by-phase-4 : phase t s ≡ 4 → stepByPhase t s ≡ answered (readerWaiting t s) s
+  unfolding stepByPhase
+  by-phase-4 e = rw e
+
+  pub by-phase-5 : phase t s ≡ 5 → stepByPhase t s ≡ answered t s
+  unfolding stepByPhase
+  by-phase-5 e = rw e
+
+  pub by-phase-6 : phase t s ≡ 6 → stepByPhase t s ≡ refetched t s (fetch t s (claimOf t (own t s)))
+  unfolding stepByPhase withdrawn
+  by-phase-6 e = rw e

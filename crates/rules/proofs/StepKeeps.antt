@@ -18,7 +18,8 @@ use Rattle.rules.proofs.Known.{known-prev, own-proper}
 use Rattle.rules.proofs.SeatRules.{pass-keeps, skip-keeps, restart-keeps, reread-keeps, wake-keeps, wait-keeps, pass-reader-keeps, pass-writer-keeps, skip-validating-keeps, reader-wakes-keeps, reader-waits-keeps, hold-reader-keeps, hold-writer-keeps}
 use Rattle.rules.proofs.Insert.{reader, writer}
 use Rattle.rules.proofs.Leave as leaving
-use Rattle.rules.proofs.Effects.{Room, stored, Seated, as-found, put}
+use Rattle.rules.proofs.Effects.{Room}
+use Rattle.rules.proofs.RuleEffects.{phase-stored, cur-stored, place-stored, pass-stored, start-stored, hold-stored, withdraw-stored, leave-stored}
 use Rattle.rules.proofs.Reasons.{Joined, Unlinking, takes-out, goes-past, Starting, as-reader, as-writer, Inserting, links-in, restarts, rereads, Walking, inserts, unlinks, passes, waits, Waking, wakes, stays, ReaderValidating, reader-holds, reader-unlinks, reader-passes, reader-waits, WriterValidating, writer-holds, writer-unlinks, writer-passes, withdraws, Validating, validates-reader, validates-writer}
 use Rattle.rules.proofs.Good.{Good, room, node-room, moves, passes-over, prev-in, new-prev, new-own, old-words, links-in-good, leaves-good}
 
@@ -26,31 +27,27 @@ use Rattle.rules.proofs.Good.{Good, room, node-room, moves, passes-over
 skip-good : {N S : ℕ} {t : Tables} → Good N S t → (s : ℕ) → s < S → (phase t s ≡ 1) ⊎ (phase t s ≡ 3) → cur t s ≢ 0 → mark t (cur t s) ≡ 1
     → Good N S (setCur t s (next t (cur t s)))
 skip-good {t = t} g s s-in (inl e) c m =
-    moves g (put (room g s s-in) (as-found (t .seats) s) curAt (next t (cur t s)) (omega arith)) (λ w. skip-keeps (g .inv) (rw e at w) e (omega arith))
+    moves g (cur-stored t s (room g s s-in) (next t (cur t s))) (λ w. skip-keeps (g .inv) (rw e at w) e (omega arith))
 skip-good {t = t} g s s-in (inr e) c m =
-    moves g (put (room g s s-in) (as-found (t .seats) s) curAt (next t (cur t s)) (omega arith))
-    (λ w. skip-validating-keeps (g .inv) (rw e at w) e (omega arith) m)
+    moves g (cur-stored t s (room g s s-in) (next t (cur t s))) (λ w. skip-validating-keeps (g .inv) (rw e at w) e (omega arith) m)
 
 module _ {N S : ℕ} {t : Tables} (g : Good N S t) (s : ℕ) (s-in : s < S) where
-  -- ---- the moves that change no node
   abbrev r : Room t s
   r = room g s s-in
 
+  -- ---- the moves that change no node
   pass-good : (Moved (seatsOf t) (seatsOf (pass t s)) s (phase t s) (cur t s) (next t (cur t s)) → Invariant N (nodesOf t) (seatsOf (pass t s)))
       → Good N S (pass t s)
   unfolding pass
-  pass-good f = moves g (put r (put r (as-found (t .seats) s) prevAt (cur t s) (omega arith)) curAt (next t (cur t s)) (omega arith)) f
+  pass-good f = moves g (pass-stored t s r) f
 
   phase-good : (P : ℕ) → (Moved (seatsOf t) (seatsOf (setPhase t s P)) s P (prev t s) (cur t s) → Invariant N (nodesOf t) (seatsOf (setPhase t s P)))
       → Good N S (setPhase t s P)
-  phase-good P f = moves g (put r (as-found (t .seats) s) phaseAt P (omega arith)) f
-
-  move-to : (P Q C : ℕ) → Seated (t .seats) (moveTo t s P Q C .seats) s (stored (stored (stored (seatWord (t .seats) s) phaseAt P) prevAt Q) curAt C)
-  move-to P Q C = put r (put r (put r (as-found (t .seats) s) phaseAt P (omega arith)) prevAt Q (omega arith)) curAt C (omega arith)
+  phase-good P f = moves g (phase-stored t s r P) f
 
   hold-good : (Moved (seatsOf t) (seatsOf (hold t s)) s 5 0 0 → Invariant N (nodesOf t) (seatsOf (hold t s))) → Good N S (hold t s)
   unfolding hold
-  hold-good f = moves g (move-to 5 0 0) f
+  hold-good f = moves g (hold-stored t s r) f
 
   own-writes : phase t s ≢ 0 → kind t (own t s) ≢ 1 → kind t (own t s) ≡ 2
   own-writes b k = elim (own-proper (g .inv) s b .reads-or-writes) [ inl q ↦ absurd (k q) | inr q ↦ q ]
@@ -72,18 +69,18 @@ module _ {N S : ℕ} {t : Tables} (g : Good N S t) (s : ℕ) (s-in : s < S) wher
       → Starting (linkIn t s) s u → Good N S u
   unfolding linkIn
   start-good e j f (as-reader k) =
-      links-in-good g s e j f (move-to 3 (own t s) (next (linkIn t s) (own t s))) refl
+      links-in-good g s e j f (start-stored t s r 3 (own t s) (next (linkIn t s) (own t s))) refl
       (reader refl (sym (old-words g s e j f (own t s) kindAt (omega arith) (omega arith)) ∙ k) refl (new-own g s e j f ∙ sym (j .to-cur)))
   start-good e j f (as-writer k) =
-      links-in-good g s e j f (move-to 3 0 (head (linkIn t s))) refl
+      links-in-good g s e j f (start-stored t s r 3 0 (head (linkIn t s))) refl
       (writer refl (own-writes (omega arith) (λ q. k (old-words g s e j f (own t s) kindAt (omega arith) (omega arith) ∙ q))) refl refl)
 
   insert-good : {u : Tables} → phase t s ≡ 1 → (cur t s ≡ 0) ⊎ Precedes (claimOf t (own t s)) (claimOf t (cur t s)) → Inserting t s u → Good N S u
   insert-good e f (links-in j st) = start-good e j f st
   insert-good e f (restarts j m) =
-      moves g (put r (put r (as-found (t .seats) s) prevAt 0 (omega arith)) curAt (head t) (omega arith)) (λ w. restart-keeps (g .inv) (rw e at w) e)
+      moves g (place-stored t s r 0 (head t)) (λ w. restart-keeps (g .inv) (rw e at w) e)
   insert-good e f (rereads j m) =
-      moves g (put r (as-found (t .seats) s) curAt (link t (prev t s)) (omega arith)) (λ w. reread-keeps (g .inv) (rw e at w) e)
+      moves g (cur-stored t s r (link t (prev t s))) (λ w. reread-keeps (g .inv) (rw e at w) e)
 
   -- ---- the phases
   pub walking-keeps : {u : Tables} → phase t s ≡ 1 → Walking t s u → Good N S u
@@ -108,7 +105,7 @@ module _ {N S : ℕ} {t : Tables} (g : Good N S t) (s : ℕ) (s-in : s < S) wher
 
   withdraw-good : Linked (phase t s) → Good N S (withdraw t s)
   unfolding withdraw
-  withdraw-good l = leaves-good g s l (move-to 6 0 0) refl refl (leaving.withdraws refl refl)
+  withdraw-good l = leaves-good g s l (withdraw-stored t s r) refl refl (leaving.withdraws refl refl)
 
   writer-validating-keeps : {u : Tables} → phase t s ≡ 3 → kind t (own t s) ≢ 1 → WriterValidating t s u → Good N S u
   writer-validating-keeps e k (writer-holds f) = hold-good (λ w. hold-writer-keeps (g .inv) w e (own-writes (omega arith) k) f)
@@ -124,4 +121,4 @@ module _ {N S : ℕ} {t : Tables} (g : Good N S t) (s : ℕ) (s-in : s < S) wher
   -- ---- release
   pub leave-keeps : phase t s ≡ 5 → Good N S (leave t s)
   unfolding leave
-  leave-keeps e = leaves-good g s (holding e) (put r (move-to 0 0 0) ownAt 0 (omega arith)) refl refl (leaving.releases refl refl)
+  leave-keeps e = leaves-good g s (holding e) (leave-stored t s r) refl refl (leaving.releases refl refl)
