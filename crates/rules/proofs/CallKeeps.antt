@@ -33,7 +33,7 @@ use Rattle.rules.proofs.FetchKeeps.{fetch-keeps}
 
 -- ---- single calls
 module _ {N S : ℕ} {t : Tables} (g : Good N S t) (s : ℕ) where
-  seat-in : s < seatCount t → s < S
+  pub seat-in : s < seatCount t → s < S
   seat-in h = rw (seat-count t S (g .seats-long)) at h
 
   refetched-good : (f : Fetched) → Good N S (f .after) → Good N S (refetched t s f .after)

@@ -21,7 +21,7 @@ use Rattle.rules.proofs.RuleEffects.{enter-stored}
 use Rattle.rules.proofs.Reasons.{Fetching, found, found-then, none}
 use Rattle.rules.proofs.Good.{Good, room, node-room}
 use Rattle.rules.proofs.TakeOut.{taken-out-good, taken-out-seats}
-use Rattle.rules.proofs.Freed.{is-free}
+use Rattle.rules.proofs.Hops.{is-free}
 
 -- ---- the words of the node taken
 abbrev claimWords : (ℕ → ℕ) → Claim → ℕ → ℕ

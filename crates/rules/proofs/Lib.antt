@@ -28,7 +28,7 @@ pub mod StepKeeps
 pub mod Lowest
 pub mod Listed
 pub mod TakeOut
-pub mod Freed
+pub mod Hops
 pub mod FetchKeeps
 pub mod Accepting
 pub mod RunSteps
@@ -36,3 +36,8 @@ pub mod CallKeeps
 pub mod SoundReached
 pub mod SeatFrames
 pub mod NodeFrames
+pub mod NothingDropped
+pub mod ListOrder
+pub mod ClaimFrames
+pub mod Refusals
+pub mod Apart

@@ -15,7 +15,7 @@ use Rattle.rules.specs.Fetch.{Fetched, fetched, fetch, keptFrom, kept, l
 use Rattle.rules.specs.Answers.{Answer, Done, done}
 use Rattle.rules.specs.Steps.{linkIn, pass, hold, withdraw, leave, refetched}
 use Rattle.rules.specs.Calls.{begun, begin, step, release}
-use Rattle.rules.specs.Demands.{Stands, NodesKept, Nobody}
+use Rattle.rules.specs.Demands.{Stands, NodesKept, Nobody, FetchKept}
 use Rattle.rules.proofs.Logic.{branch, and-both, of-not, or-left, or-right}
 use Rattle.rules.proofs.Deciding.{if-same, if-true}
 use Rattle.rules.proofs.Words.{node-put-field, node-put-node, node-put-link, link-put-field, link-put-other, put-node-length, put-link-length}
@@ -244,12 +244,8 @@ fetched-own {t} {s} {c} r (found a e z) d = taken-own t s a c r
 fetched-own {t} {s} {c} r (found-then a e e′ z) d = taken-own (takenOut t) s a c (rw (taken-out-seats t) r)
 fetched-own r (none e e′) d = absurd (d refl)
 
--- what a fetch for seat s keeps
-pub record FetchKeeps (s : ℕ) (t u : Tables) : Type 0 where
-  pub nodes : NodesKept (FetchLinks t (own u s)) (Just (own u s)) (Just (own u s)) t u
-
-fetched-kept : {t : Tables} {s : ℕ} {c : Claim} {f : Fetched} → Room t s → Fetching t s c f → f .node ≢ 0 → FetchKeeps s t (f .after)
-fetched-kept r w d = record { nodes = rw (fetched-own r w d) (fetching w) }
+fetched-kept : {t : Tables} {s : ℕ} {c : Claim} {f : Fetched} → Room t s → Fetching t s c f → f .node ≢ 0 → FetchKept s t (f .after)
+fetched-kept r w d = rw (fetched-own r w d) (fetching w)
 
 -- ---- the calls
 module _ (t : Tables) (s : ℕ) where
@@ -268,24 +264,24 @@ module _ (t : Tables) (s : ℕ) where
   pub step-5-kept : phase t s ≡ 5 → step t s .after ≡ t
   step-5-kept e = step-or-same t s (λ u. u ≡ t) refl (λ x y z. rw (by-phase-5 t s e))
 
-  pub step-6-kept : phase t s ≡ 6 → FetchKeeps s t (step t s .after)
+  pub step-6-kept : phase t s ≡ 6 → FetchKept s t (step t s .after)
   unfolding refetched
   step-6-kept p =
       let c = claimOf t (own t s) in
-      step-or-same t s (FetchKeeps s t) (record { nodes = kept-same t }) (λ e h b.
+      step-or-same t s (FetchKept s t) (kept-same t) (λ e h b.
       rw (by-phase-6 t s p)
-      (branch (λ (d : Done Answer). FetchKeeps s t (d .after)) (fetch t s c .node is 0)
-      (λ q. record { nodes = kept-same t })
+      (branch (λ (d : Done Answer). FetchKept s t (d .after)) (fetch t s c .node is 0)
+      (λ q. kept-same t)
       (λ q. fetched-kept (sound-room t s e h) (fetching-of t s c) (eqb-false (fetch t s c .node) 0 q))))
 
-  pub begin-kept : (c : Claim) → FetchKeeps s t (begin t s c .after)
+  pub begin-kept : (c : Claim) → FetchKept s t (begin t s c .after)
   begin-kept c = begun-kept (beginning t s c)
     where
-      begun-kept : {d : Done Answer} → Beginning t s c d → FetchKeeps s t (d .after)
-      begun-kept (begin-refused k r) = record { nodes = kept-same t }
+      begun-kept : {d : Done Answer} → Beginning t s c d → FetchKept s t (d .after)
+      begun-kept (begin-refused k r) = kept-same t
       begun-kept (begin-accepted {f = f} e h p z w) = unfold begun in
-          branch (λ (d : Done Answer). FetchKeeps s t (d .after)) (f .node is 0)
-          (λ q. record { nodes = kept-same t }) (λ q. fetched-kept (sound-room t s e h) w (eqb-false (f .node) 0 q))
+          branch (λ (d : Done Answer). FetchKept s t (d .after)) (f .node is 0)
+          (λ q. kept-same t) (λ q. fetched-kept (sound-room t s e h) w (eqb-false (f .node) 0 q))
 
   pub release-kept : NodesKept Nobody (Own t s) Nobody t (release t s .after)
   release-kept = released (releasing t s)

@@ -6,7 +6,7 @@ use mathlib.Core.Bool.{Bool, true, false, not, _&&_, _||_}
 use mathlib.Core.Logic.{_≢_, _⊎_, inl, inr}
 use lib.Dec.{eqb, leb}
 use lib.IntN.{ℤ, pos, negsuc}
-use borrow.Author.Tests.{eqb-true, eqb-false, leb-true, leb-false}
+use borrow.Author.Tests.{eqb-true, eqb-false, leb-true, leb-false, ne-eqb}
 use Rattle.rules.specs.Notation.{if_then_else_, _is_, _≤?_}
 use Rattle.rules.specs.Tables.{Tables, start, end, kind, mark, marked, link, next, head, phase, own, prev, cur, setLink, setMark, setPhase, setPrev, setCur}
 use Rattle.rules.specs.Comparison.{Claim, claimOf, reads, compare, byComparison}
@@ -221,3 +221,8 @@ module _ (t : Tables) (s : ℕ) where
   pub by-phase-6 : phase t s ≡ 6 → stepByPhase t s ≡ refetched t s (fetch t s (claimOf t (own t s)))
   unfolding stepByPhase withdrawn
   by-phase-6 e = rw e
+
+  pub by-no-phase : phase t s ≢ 1 → phase t s ≢ 2 → phase t s ≢ 3 → phase t s ≢ 4 → phase t s ≢ 6 → stepByPhase t s ≡ answered t s
+  unfolding stepByPhase
+  by-no-phase d₁ d₂ d₃ d₄ d₆ =
+      rw (ne-eqb (phase t s) 1 d₁, ne-eqb (phase t s) 2 d₂, ne-eqb (phase t s) 3 d₃, ne-eqb (phase t s) 4 d₄, ne-eqb (phase t s) 6 d₆)

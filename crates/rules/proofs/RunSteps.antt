@@ -14,21 +14,10 @@ use Rattle.rules.specs.Answers.{Answer, Done, done}
 use Rattle.rules.specs.Calls.{damaged, step}
 use Rattle.rules.specs.Run.{ran, refusalOf, oneMore, runSteps, run}
 use Rattle.rules.specs.Play.{Call, stepCall, call, afterAll}
+use Rattle.rules.specs.Reached.{Reached, called}
 use Rattle.rules.specs.declared.Ran.{Ran}
+use Rattle.rules.specs.Demands.{stepsOf, AllAccepted, no-more, one-more, IsItsSteps}
 use Rattle.rules.proofs.Logic.{branch}
-
--- the steps that a run took are the first `steps` entries of its schedule
-abbrev pub stepsOf : List ℕ → ℕ → List Call
-stepsOf schedule k = map stepCall (take k schedule)
-
--- each of these steps is accepted
-pub data AllAccepted : Tables → List ℕ → Type 0 where
-  no-more : {t : Tables} → AllAccepted t []
-  one-more : {t : Tables} {s : ℕ} {rest : List ℕ} → refusalOf (step t s .answer) ≡ 0 → AllAccepted (step t s .after) rest → AllAccepted t (s ∷ rest)
-
-pub record IsItsSteps (t : Tables) (schedule : List ℕ) (r : Done Ran) : Type 0 where
-  pub tables-after : r .after ≡ afterAll t (stepsOf schedule (r .answer .steps))
-  pub accepted : AllAccepted t (take (r .answer .steps) schedule)
 
 none-taken : (t : Tables) (schedule : List ℕ) (number : ℕ) → IsItsSteps t schedule (done (ran 0 number) t)
 unfolding afterAll
@@ -53,3 +42,9 @@ run-steps-are (suc budget) t (s ∷ rest) =
 pub run-is-its-steps : (t : Tables) (schedule : List ℕ) (budget : ℕ) → IsItsSteps t schedule (run t schedule budget)
 unfolding run
 run-is-its-steps t schedule budget = branch (IsItsSteps t schedule) (damaged t) (λ e. none-taken t schedule 1) (λ e. run-steps-are budget t schedule)
+
+-- calls one after the other reach what they come to
+pub calls-reached : {N S : ℕ} {t : Tables} → Reached N S t → (calls : List Call) → Reached N S (afterAll t calls)
+unfolding afterAll
+calls-reached r [] = r
+calls-reached r (c ∷ calls) = calls-reached (called r c) calls

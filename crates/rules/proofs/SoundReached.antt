@@ -9,7 +9,7 @@ use Rattle.rules.specs.Notation.{_is_}
 use Rattle.rules.specs.Tables.{Tables, nodeCount, link, next, head, own, phase}
 use Rattle.rules.specs.Shape.{endsWithin, sound}
 use Rattle.rules.specs.Reached.{Reached, cleared, called, afterRun}
-use Rattle.rules.proofs.Logic.{or-left, or-right}
+use Rattle.rules.proofs.Logic.{or-right}
 use Rattle.rules.proofs.Shape.{Names, ZeroNode, ClaimNode, SeatSound, Sound, sound-is}
 use Rattle.rules.proofs.SameWords.{node-count, seat-count}
 use Rattle.rules.proofs.Following.{Ends, stop, more}

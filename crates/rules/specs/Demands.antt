@@ -3,16 +3,18 @@
 use Prim.Native.Nat.{ℕ, zero, suc, _≤_, _<_}
 use mathlib.Core.Path.{_≡_}
 use mathlib.Core.Bool.{Bool, true, false}
-use mathlib.Core.List.{List, [], _∷_}
+use mathlib.Core.List.{List, [], _∷_, map}
 use mathlib.Core.Logic.{_≢_, _⊎_}
-use lib.ListN.{length}
+use lib.ListN.{length, take}
 use Rattle.rules.specs.Tables.{Tables, seatWidth, seatWord, seatCount, start, mark, marked, link, phase, own, cur}
 use Rattle.rules.specs.Comparison.{Claim, claimOf}
 use Rattle.rules.specs.Reach.{listed, lowestFree}
 use Rattle.rules.specs.Fetch.{takenOut}
-use Rattle.rules.specs.Answers.{Answer, refused}
+use Rattle.rules.specs.Answers.{Answer, refused, Done}
 use Rattle.rules.specs.Calls.{step}
-use Rattle.rules.specs.Play.{Call, beginCall, stepCall, releaseCall}
+use Rattle.rules.specs.Run.{refusalOf}
+use Rattle.rules.specs.Play.{Call, beginCall, stepCall, releaseCall, afterAll}
+use Rattle.rules.specs.declared.Ran.{Ran}
 
 -- ---- claims
 -- "A claim covers frames start up to but not including end"
@@ -56,6 +58,26 @@ pub record NodesKept (links marks claims : ℕ → Type 0) (t u : Tables) : Type
 
 abbrev pub Nobody : ℕ → Type 0
 Nobody a = ⊥
+
+-- of a fetch for seat s: the node taken, which is then the seat's own; and the links of the head and of the claims that stand, since
+-- marked nodes may have been taken out first
+abbrev pub FetchKept : ℕ → Tables → Tables → Type 0
+FetchKept s t u = NodesKept (λ a. (a ≡ own u s) ⊎ ((a ≡ 0) ⊎ Stands t a)) (λ a. a ≡ own u s) (λ a. a ≡ own u s) t u
+
+-- ---- a run is its steps
+-- the first k entries of a schedule, each as a call of its own
+abbrev pub stepsOf : List ℕ → ℕ → List Call
+stepsOf schedule k = map stepCall (take k schedule)
+
+-- each of these entries is accepted, one after the other
+pub data AllAccepted : Tables → List ℕ → Type 0 where
+  no-more : {t : Tables} → AllAccepted t []
+  one-more : {t : Tables} {s : ℕ} {rest : List ℕ} → refusalOf (step t s .answer) ≡ 0 → AllAccepted (step t s .after) rest → AllAccepted t (s ∷ rest)
+
+-- the count of a run is that of the entries stepped, all accepted, and its tables are those after these steps
+pub record IsItsSteps (t : Tables) (schedule : List ℕ) (r : Done Ran) : Type 0 where
+  pub tables-after : r .after ≡ afterAll t (stepsOf schedule (r .answer .steps))
+  pub accepted : AllAccepted t (take (r .answer .steps) schedule)
 
 -- ---- steps of one seat with no other call between
 unfoldable pub stepTimes : ℕ → Tables → ℕ → Tables

@@ -1,4 +1,4 @@
--- A node that the test finds free is free in the theory's sense: N hops are enough, since every walk that is seen ends.
+-- N hops are enough, since every walk that is seen ends: what the tests find listed or free is so in the theory's sense.
 use Prim.Native.Nat.{ℕ, zero, suc, _≤_, _<_}
 use mathlib.Core.Path.{_≡_, refl, sym, ap, _∙_}
 use mathlib.Core.Bool.{Bool, true, false, not, _&&_, _||_}
@@ -14,8 +14,9 @@ use Rattle.rules.proofs.Words.{seat-past}
 use Rattle.rules.proofs.SameWords.{node-count, seat-count}
 use Rattle.rules.proofs.Following.{Reach, not-from-0}
 use Rattle.rules.proofs.Pigeonhole.{short}
-use Rattle.rules.proofs.Listed.{met-here, reach-met}
+use Rattle.rules.proofs.Listed.{met-reach, met-here, reach-met}
 use Rattle.rules.proofs.View.{nodesOf, seatsOf}
+use Rattle.rules.proofs.Invariant.{OnList}
 use Rattle.rules.proofs.Known.{Known, known-head, known-prev, known-cur, known-ends, known-named, named-in}
 use Rattle.rules.proofs.Take.{Free}
 use Rattle.rules.proofs.Good.{Good}
@@ -41,13 +42,24 @@ others-miss t s x r e h d =
           record { from-own = l .0; from-prev = l .1; from-cur = k .1 }
     ]
 
+pub on-list : (t : Tables) (x : ℕ) → listed t x ≡ true → OnList (link t) x
+unfolding listed
+on-list t x e = met-reach t x (nodeCount t) (head t) e
+
 module _ {N S : ℕ} {t : Tables} (g : Good N S t) where
-  -- from where a walk can be, what is not met is not reached
-  not-reached : (a x : ℕ) → Known (link t) (seatsOf t) a → met (nodeCount t) t a x ≡ false → Reach (link t) x a → ⊥
-  not-reached a x k e r =
+  -- from where a walk can be, what is reached is met
+  reached-met : (a x : ℕ) → Known (link t) (seatsOf t) a → Reach (link t) x a → met (nodeCount t) t a x ≡ true
+  reached-met a x k r =
       let ends = known-ends (g .inv) k in
       let few = short N (λ b. named-in (g .inv .nodes .links b)) (named-in (known-named (g .inv) k)) (ends .1) in
-      clash (met (nodeCount t) t a x) (reach-met t x (ends .1) (nodeCount t) (rw (node-count t N (g .nodes-long)) few) r) e
+      reach-met t x (ends .1) (nodeCount t) (rw (node-count t N (g .nodes-long)) few) r
+
+  not-reached : (a x : ℕ) → Known (link t) (seatsOf t) a → met (nodeCount t) t a x ≡ false → Reach (link t) x a → ⊥
+  not-reached a x k e r = clash (met (nodeCount t) t a x) (reached-met a x k r) e
+
+  pub is-listed : {x : ℕ} → OnList (link t) x → listed t x ≡ true
+  unfolding listed
+  is-listed {x} r = reached-met (head t) x known-head r
 
   -- a seat past the last one is nowhere
   past : (r f : ℕ) → S ≤ r → seatWord (t .seats) r f ≡ 0
