@@ -58,6 +58,12 @@ passes-over {N} {t = t} g p out p-in known out-pos gone joins =
           (unlink-keeps (g .inv) (link (setLink t p v)) p out known (omega arith) gone joins (link-put-same l p v (node-room g p p-in)) old);
     }
 
+-- linking in changes links alone
+pub link-in-words : (t : Tables) (s a f : ℕ) → f < nodeWidth → f ≢ nextAt → nodeWord (linkIn t s .nodes) a f ≡ nodeWord (t .nodes) a f
+unfolding linkIn
+link-in-words t s a f h d =
+    node-put-link (putLink (t .nodes) (own t s) (cur t s)) (prev t s) a f (own t s) h d ∙ node-put-link (t .nodes) (own t s) a f (cur t s) h d
+
 module _ {N S : ℕ} {t : Tables} (g : Good N S t) (s : ℕ) where
   abbrev o : ℕ
   o = own t s
@@ -93,10 +99,6 @@ module _ {N S : ℕ} {t : Tables} (g : Good N S t) (s : ℕ) where
     unfolding linkIn
     old-links a d d′ = link-put-other (putLink (t .nodes) o c) p a o (λ e. d′ (sym e)) ∙ link-put-other (t .nodes) o a c (λ e. d (sym e))
 
-    pub old-words : (a f : ℕ) → f < nodeWidth → f ≢ nextAt → nodeWord (linkIn t s .nodes) a f ≡ nodeWord (t .nodes) a f
-    unfolding linkIn
-    old-words a f h d = node-put-link (putLink (t .nodes) o c) p a f o h d ∙ node-put-link (t .nodes) o a f c h d
-
     linked-long : length (linkIn t s .nodes) ≡ length (t .nodes)
     unfolding linkIn
     linked-long = put-link-length (putLink (t .nodes) o c) p o ∙ put-link-length (t .nodes) o c
@@ -118,7 +120,7 @@ module _ {N S : ℕ} {t : Tables} (g : Good N S t) (s : ℕ) where
     links-in-good {seats} {words} w e st = record {
       nodes-long = linked-long ∙ g .nodes-long;
       seats-long = w .long ∙ g .seats-long;
-      inv = subst (λ n. Invariant N n (seatsOf (tables (linkIn t s .nodes) seats))) (only-links t (linkIn t s) old-words)
+      inv = subst (λ n. Invariant N n (seatsOf (tables (linkIn t s .nodes) seats))) (only-links t (linkIn t s) (link-in-words t s))
           (insert-keeps (g .inv) (link (linkIn t s)) s (words phaseAt) (words prevAt) (words curAt) walks (join .unmarked)
           (new-own ∙ sym (join .to-cur)) new-prev old-links (rw e at (reseated t (tables (linkIn t s .nodes) seats) w)) st in-front);
     }

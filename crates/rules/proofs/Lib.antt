@@ -41,3 +41,9 @@ pub mod ListOrder
 pub mod ClaimFrames
 pub mod Refusals
 pub mod Apart
+pub mod Within
+pub mod Alone
+pub mod ReaderAlone
+pub mod WriterAlone
+pub mod WalkAlone
+pub mod LooseWalkAlone

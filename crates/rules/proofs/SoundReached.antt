@@ -70,7 +70,7 @@ module _ {N S : ℕ} {t : Tables} (g : Good N S t) where
     cur-names = names (h .cur-named);
   }
 
-  good-sound : Bounds N S → Sound t
+  pub good-sound : Bounds N S → Sound t
   good-sound b =
       let seats = seat-count t S (g .seats-long) in
       let ends = known-ends (g .inv) known-head in

@@ -21,7 +21,7 @@ use Rattle.rules.proofs.Leave as leaving
 use Rattle.rules.proofs.Effects.{Room}
 use Rattle.rules.proofs.RuleEffects.{phase-stored, cur-stored, place-stored, pass-stored, start-stored, hold-stored, withdraw-stored, leave-stored}
 use Rattle.rules.proofs.Reasons.{Joined, Unlinking, takes-out, goes-past, Starting, as-reader, as-writer, Inserting, links-in, restarts, rereads, Walking, inserts, unlinks, passes, waits, Waking, wakes, stays, ReaderValidating, reader-holds, reader-unlinks, reader-passes, reader-waits, WriterValidating, writer-holds, writer-unlinks, writer-passes, withdraws, Validating, validates-reader, validates-writer}
-use Rattle.rules.proofs.Good.{Good, room, node-room, moves, passes-over, prev-in, new-prev, new-own, old-words, links-in-good, leaves-good}
+use Rattle.rules.proofs.Good.{Good, room, node-room, moves, passes-over, prev-in, new-prev, new-own, link-in-words, links-in-good, leaves-good}
 
 -- the seat's cur goes on to a marked cur's next
 skip-good : {N S : ℕ} {t : Tables} → Good N S t → (s : ℕ) → s < S → (phase t s ≡ 1) ⊎ (phase t s ≡ 3) → cur t s ≢ 0 → mark t (cur t s) ≡ 1
@@ -70,10 +70,10 @@ module _ {N S : ℕ} {t : Tables} (g : Good N S t) (s : ℕ) (s-in : s < S) wher
   unfolding linkIn
   start-good e j f (as-reader k) =
       links-in-good g s e j f (start-stored t s r 3 (own t s) (next (linkIn t s) (own t s))) refl
-      (reader refl (sym (old-words g s e j f (own t s) kindAt (omega arith) (omega arith)) ∙ k) refl (new-own g s e j f ∙ sym (j .to-cur)))
+      (reader refl (sym (link-in-words t s (own t s) kindAt (omega arith) (omega arith)) ∙ k) refl (new-own g s e j f ∙ sym (j .to-cur)))
   start-good e j f (as-writer k) =
       links-in-good g s e j f (start-stored t s r 3 0 (head (linkIn t s))) refl
-      (writer refl (own-writes (omega arith) (λ q. k (old-words g s e j f (own t s) kindAt (omega arith) (omega arith) ∙ q))) refl refl)
+      (writer refl (own-writes (omega arith) (λ q. k (link-in-words t s (own t s) kindAt (omega arith) (omega arith) ∙ q))) refl refl)
 
   insert-good : {u : Tables} → phase t s ≡ 1 → (cur t s ≡ 0) ⊎ Precedes (claimOf t (own t s)) (claimOf t (cur t s)) → Inserting t s u → Good N S u
   insert-good e f (links-in j st) = start-good e j f st
