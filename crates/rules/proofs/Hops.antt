@@ -7,7 +7,7 @@ use native.Mathlib.Omega.{arith}
 use native.Mathlib.Decide.{decLt}
 use borrow.Author.Tests.{ne-eqb}
 use Rattle.rules.specs.Notation.{_is_, any}
-use Rattle.rules.specs.Tables.{Tables, nodeCount, seatCount, seatWord, ownAt, prevAt, curAt, link, head, own, prev, cur}
+use Rattle.rules.specs.Tables.{Tables, nodeCount, seatCount, seatWord, phaseAt, ownAt, prevAt, curAt, link, head, phase, own, prev, cur}
 use Rattle.rules.specs.Reach.{met, listed, seatReaches, othersReach, free}
 use Rattle.rules.proofs.Logic.{or-neither, not-true, of-not, and-not, any-none, clash}
 use Rattle.rules.proofs.Words.{seat-past}
@@ -64,6 +64,10 @@ module _ {N S : ℕ} {t : Tables} (g : Good N S t) where
   -- a seat past the last one is nowhere
   past : (r f : ℕ) → S ≤ r → seatWord (t .seats) r f ≡ 0
   past r f h = let e = seat-count t S (g .seats-long) in seat-past t r f (rw e (g .seats-long)) (rw e h)
+
+  -- so a seat with a claim is one of the S
+  pub busy-in : (r : ℕ) → phase t r ≢ 0 → r < S
+  busy-in r d = elim (decLt r S) [ yes l ↦ l | no l ↦ absurd (d (past r phaseAt (omega arith))) ]
 
   pub is-free : (s x : ℕ) → free t s x ≡ true → x ≢ 0 → x ≤ N → Free (nodesOf t) (seatsOf t) s x
   unfolding free listed

@@ -47,3 +47,10 @@ pub mod ReaderAlone
 pub mod WriterAlone
 pub mod WalkAlone
 pub mod LooseWalkAlone
+pub mod FetchAlone
+pub mod RestsAlone
+pub mod Causes
+pub mod StaysBusy
+pub mod StepsAlone
+pub mod NobodyWaits
+pub mod Cause

@@ -18,7 +18,7 @@ use Rattle.rules.proofs.Logic.{branch, clash}
 use Rattle.rules.proofs.Reasons.{Stepping, in-1, in-2, in-3, in-4, in-6, at-rest}
 use Rattle.rules.proofs.Accepting.{Refuses, Beginning, begin-refused, begin-accepted, beginning, Stepped, step-refused, step-accepted, stepped, Releasing, release-refused, release-accepted, releasing}
 
-answer-accepted : (t : Tables) (s : ℕ) → refusalOf (answerOf t s) ≡ 0
+pub answer-accepted : (t : Tables) (s : ℕ) → refusalOf (answerOf t s) ≡ 0
 unfolding answerOf
 answer-accepted t s =
     branch (λ a. refusalOf a ≡ 0) (phase t s is 2) (λ e. refl) (λ e₂.

@@ -84,6 +84,11 @@ unfoldable pub stepTimes : ℕ → Tables → ℕ → Tables
 stepTimes zero t s = t
 stepTimes (suc k) t s = stepTimes k (step t s .after) s
 
+-- how a run of k such steps ends: all are taken, or it stops at one refused 8
+pub data RunEnds (k : ℕ) (r : Ran) : Type 0 where
+  all-stepped : r .steps ≡ k → r .refusal ≡ 0 → RunEnds k r
+  stopped-at-8 : r .refusal ≡ 8 → r .steps < k → RunEnds k r
+
 -- the claim that s waits at: it stands, is another seat's, and both cover a frame which one of them writes
 pub record Cause (t : Tables) (s : ℕ) : Type 0 where
   pub seat : ℕ
