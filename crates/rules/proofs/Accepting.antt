@@ -1,21 +1,20 @@
 -- Why a call is refused, or what is known where it is accepted. Over any tables and numbers.
-use Prim.Native.Nat.{ℕ, _≤_, _<_}
-use mathlib.Core.Path.{_≡_, refl, sym, _∙_}
-use mathlib.Core.Bool.{Bool, true, false, not}
-use mathlib.Core.Logic.{_≢_, _⊎_, inl, inr}
+use Prim.Native.Nat.{ℕ, _<_}
+use mathlib.Core.Path.{_≡_}
+use mathlib.Core.Bool.{true, false, not}
+use mathlib.Core.Logic.{_≢_}
 use native.Mathlib.Omega.{arith}
-use lib.Dec.{eqb, leb}
-use borrow.Author.Tests.{eqb-true, eqb-false, leb-true, leb-false, not-false, lt-leb, ne-eqb}
-use Rattle.rules.specs.Notation.{if_then_else_, _is_, _≤?_}
+use borrow.Author.Tests.{eqb-true, eqb-false, leb-false, not-false, lt-leb, ne-eqb}
+use Rattle.rules.specs.Notation.{_is_, _≤?_}
 use Rattle.rules.specs.Tables.{Tables, seatCount, phase}
 use Rattle.rules.specs.Comparison.{Claim}
 use Rattle.rules.specs.Shape.{sound, isKind}
-use Rattle.rules.specs.Fetch.{Fetched, fetch}
+use Rattle.rules.specs.Fetch.{Fetched}
 use Rattle.rules.specs.Answers.{Answer, refused, out, Done, done}
 use Rattle.rules.specs.Steps.{leave, stepByPhase}
 use Rattle.rules.specs.Calls.{damaged, noSeat, begun, begin, step, release}
 use Rattle.rules.proofs.Logic.{branch, not-true}
-use Rattle.rules.proofs.Shape.{IsKind, is-kind}
+use Rattle.rules.proofs.Shape.{is-kind}
 use Rattle.rules.proofs.Invariant.{Proper}
 use Rattle.rules.proofs.Reasons.{Fetching, fetching, Stepping, steps}
 

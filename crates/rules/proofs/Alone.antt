@@ -1,28 +1,23 @@
 -- One seat is stepped and no other call is made: what a step can come to in each phase, when the claim comes to rest, and what an unlink
 -- leaves of the chain ahead.
-use Prim.Native.Nat.{ℕ, zero, suc, _≤_, _<_}
-use mathlib.Core.Path.{_≡_, refl, sym, ap, _∙_}
-use mathlib.Core.Bool.{Bool, true, false}
-use mathlib.Core.Logic.{_≢_, _⊎_, inl, inr}
+use Prim.Native.Nat.{ℕ, _≤_, _<_}
+use mathlib.Core.Path.{_≡_, refl, sym}
+use mathlib.Core.Bool.{false}
+use mathlib.Core.Logic.{_≢_, _⊎_}
 use native.Mathlib.Omega.{arith}
 use borrow.Author.Tests.{eq-eqb, ne-eqb}
-use Rattle.rules.specs.Notation.{_is_}
-use Rattle.rules.specs.Tables.{Tables, nodeWidth, seatCount, startAt, endAt, kindAt, markAt, nextAt, phaseAt, ownAt, prevAt, curAt, nodeWord, start, end, kind, mark, link, next, phase, own, prev, cur, setLink, setPhase}
-use Rattle.rules.specs.Comparison.{claimOf}
+use Rattle.rules.specs.Tables.{Tables, nodeWidth, nextAt, phaseAt, ownAt, prevAt, curAt, nodeWord, mark, link, next, phase, own, prev, cur, setLink, setPhase}
 use Rattle.rules.specs.Reach.{lowestFree}
-use Rattle.rules.specs.Fetch.{Fetched, takenOut, fetch}
-use Rattle.rules.specs.Answers.{Answer, refused, Done, answered}
-use Rattle.rules.specs.Steps.{joined, walking, waitingToEnter, validating, readerWaiting, refetched, stepByPhase}
+use Rattle.rules.specs.Fetch.{takenOut}
+use Rattle.rules.specs.Steps.{joined, walking, waitingToEnter, validating, readerWaiting, stepByPhase}
 use Rattle.rules.specs.Calls.{step}
-use Rattle.rules.proofs.Logic.{of-not, and-both, clash}
+use Rattle.rules.proofs.Logic.{clash}
 use Rattle.rules.proofs.Words.{link-put-same, link-put-other, node-put-link}
 use Rattle.rules.proofs.SameWords.{seat-count}
 use Rattle.rules.proofs.Following.{Reach, Ends, unlink-keeps-reach, unlink-adds-none, unlink-adds-none-to-list, unlink-keeps-ends}
-use Rattle.rules.proofs.View.{nodesOf, seatsOf}
 use Rattle.rules.proofs.Shape.{sound-is}
-use Rattle.rules.proofs.Effects.{Seated}
 use Rattle.rules.proofs.RuleEffects.{cur-stored, phase-stored}
-use Rattle.rules.proofs.Reasons.{Joined, Unlinking, takes-out, goes-past, Walking, walks, Waking, wakes-to-walk, wakes-to-validate, Validating, validates, Fetching, fetching, by-phase-1, by-phase-2, by-phase-3, by-phase-4, by-phase-6}
+use Rattle.rules.proofs.Reasons.{Joined, Unlinking, takes-out, goes-past, Walking, walks, Waking, wakes-to-walk, wakes-to-validate, Validating, validates, by-phase-1, by-phase-2, by-phase-3, by-phase-4}
 use Rattle.rules.proofs.Accepting.{step-is}
 use Rattle.rules.proofs.Good.{Good, room, node-room, prev-in}
 use Rattle.rules.proofs.StepKeeps.{walking-keeps, waiting-keeps, reader-waiting-keeps, validating-keeps}

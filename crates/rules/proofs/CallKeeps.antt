@@ -1,17 +1,16 @@
 -- Every call leaves good tables good, so every table that is reached is good.
-use Prim.Native.Nat.{ℕ, zero, suc, _≤_, _<_}
-use mathlib.Core.Path.{_≡_, refl, sym, ap, _∙_}
-use mathlib.Core.Bool.{Bool, true, false}
+use Prim.Native.Nat.{ℕ, _<_}
+use mathlib.Core.Path.{_≡_}
 use mathlib.Core.List.{List, [], _∷_}
-use mathlib.Core.Logic.{_≢_, _⊎_, inl, inr}
+use mathlib.Core.Logic.{inl, inr}
 use native.Mathlib.Omega.{arith}
-use Rattle.rules.specs.Notation.{if_then_else_, _is_}
+use Rattle.rules.specs.Notation.{_is_}
 use Rattle.rules.specs.Tables.{Tables, seatCount, startAt, endAt, kindAt, markAt, phaseAt, ownAt, prevAt, curAt, own, phase, fresh}
 use Rattle.rules.specs.Comparison.{Claim, claimOf}
 use Rattle.rules.specs.Fetch.{Fetched}
-use Rattle.rules.specs.Answers.{Answer, refused, Done, done, answered}
-use Rattle.rules.specs.Steps.{refetched, leave}
-use Rattle.rules.specs.Calls.{damaged, begun, begin, step, release}
+use Rattle.rules.specs.Answers.{Answer, Done}
+use Rattle.rules.specs.Steps.{refetched}
+use Rattle.rules.specs.Calls.{begun, step}
 use Rattle.rules.specs.Run.{run}
 use Rattle.rules.specs.Play.{Call, beginCall, stepCall, releaseCall, call, afterAll}
 use Rattle.rules.specs.Reached.{Reached, cleared, called, afterRun}
@@ -20,11 +19,11 @@ use Rattle.rules.proofs.SameWords.{seat-count, fresh-nodes-length, fres
 use Rattle.rules.proofs.Following.{not-from-0}
 use Rattle.rules.proofs.View.{nodesOf, seatsOf, Outside, Linked}
 use Rattle.rules.proofs.Phases.{outside-busy, linked-busy}
-use Rattle.rules.proofs.Invariant.{Proper, nothing, Seen, from-head, from-prev, from-cur, Invariant}
+use Rattle.rules.proofs.Invariant.{nothing, Seen, from-head, from-prev, from-cur, Invariant}
 use Rattle.rules.proofs.Known.{own-proper}
 use Rattle.rules.proofs.SeatShapes.{idle-seat}
 use Rattle.rules.proofs.SeatMoves.{not-stuck}
-use Rattle.rules.proofs.Reasons.{Fetching, Stepping, in-1, in-2, in-3, in-4, in-6, at-rest}
+use Rattle.rules.proofs.Reasons.{Stepping, in-1, in-2, in-3, in-4, in-6, at-rest}
 use Rattle.rules.proofs.Accepting.{Beginning, begin-refused, begin-accepted, beginning, Stepped, step-refused, step-accepted, stepped, Releasing, release-refused, release-accepted, releasing}
 use Rattle.rules.proofs.RunSteps.{run-is-its-steps}
 use Rattle.rules.proofs.Good.{Good}

@@ -1,19 +1,18 @@
 -- What it means to be at rest: a step changes nothing, and whoever waits has a cause.
-use Prim.Native.Nat.{ℕ, zero, suc, _≤_, _<_}
-use mathlib.Core.Path.{_≡_, refl, sym, ap, _∙_}
-use mathlib.Core.Bool.{Bool, true, false}
+use Prim.Native.Nat.{ℕ, _<_}
+use mathlib.Core.Path.{_≡_, sym, ap, _∙_}
 use mathlib.Core.Logic.{_≢_, _⊎_, inl, inr}
 use native.Mathlib.Omega.{arith}
 use native.Mathlib.Decide.{decLe}
 use borrow.Author.Tests.{ne-eqb}
-use Rattle.rules.specs.Tables.{Tables, seatCount, start, kind, mark, link, phase, own, cur}
+use Rattle.rules.specs.Tables.{Tables, start, kind, mark, link, phase, own, cur}
 use Rattle.rules.specs.Comparison.{Claim, claimOf}
 use Rattle.rules.specs.Reach.{lowestFree}
-use Rattle.rules.specs.Fetch.{takenOut, fetched, fetch, fetchAgain}
-use Rattle.rules.specs.Answers.{refused, Done, done, answered}
+use Rattle.rules.specs.Fetch.{takenOut, fetch, fetchAgain}
+use Rattle.rules.specs.Answers.{refused, done}
 use Rattle.rules.specs.Steps.{waitingToEnter, readerWaiting, refetched}
 use Rattle.rules.specs.Calls.{step}
-use Rattle.rules.specs.Demands.{Covers, Cause, Settled, holds, waits, no-node, Stands}
+use Rattle.rules.specs.Demands.{Covers, Cause, Settled, holds, waits, no-node}
 use Rattle.rules.proofs.SameWords.{seat-count}
 use Rattle.rules.proofs.Following.{here}
 use Rattle.rules.proofs.Compared.{Precedes, apart, readers}

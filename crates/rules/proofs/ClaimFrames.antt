@@ -1,13 +1,11 @@
 -- A call changes no claim but that of the node it takes, so every other seat's claim stays.
-use Prim.Native.Nat.{ℕ, _≤_, _<_}
-use mathlib.Core.Path.{_≡_, refl, sym, ap, _∙_}
-use mathlib.Core.Bool.{Bool, true, false}
-use mathlib.Core.Logic.{_≢_, _⊎_, inl, inr}
+use Prim.Native.Nat.{ℕ}
+use mathlib.Core.Path.{_≡_, refl, sym, _∙_}
+use mathlib.Core.Logic.{_≢_}
 use native.Mathlib.Omega.{arith}
 use Rattle.rules.specs.Tables.{Tables, startAt, endAt, kindAt, phaseAt, ownAt, phase, own}
-use Rattle.rules.specs.Comparison.{Claim, claim, claimOf}
-use Rattle.rules.specs.Answers.{Answer, Done}
-use Rattle.rules.specs.Calls.{begin, step, release}
+use Rattle.rules.specs.Comparison.{claimOf}
+use Rattle.rules.specs.Calls.{step}
 use Rattle.rules.specs.Play.{Call, beginCall, stepCall, releaseCall, call}
 use Rattle.rules.specs.Demands.{seatOf}
 use Rattle.rules.proofs.Deciding.{if-same}

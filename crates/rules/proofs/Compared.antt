@@ -1,13 +1,11 @@
 -- What each number of the comparison says of two claims.
-use mathlib.Core.Path.{_≡_, refl, sym, _∙_}
-use mathlib.Core.Bool.{Bool, true, false, _&&_, _||_}
+use mathlib.Core.Path.{_≡_}
+use mathlib.Core.Bool.{true, false, _&&_, _||_}
 use mathlib.Core.Logic.{_⊎_, inl, inr}
-use Prim.Native.Nat.{ℕ, _≤_, _<_}
-use native.Mathlib.Omega.{arith}
+use Prim.Native.Nat.{ℕ, _≤_}
 use lib.Dec.{leb, eqb}
 use lib.IntN.{ℤ, pos, negsuc}
 use borrow.Author.Tests.{eqb-true, leb-true, le-leb, eq-eqb}
-use Rattle.rules.specs.Notation.{if_then_else_}
 use Rattle.rules.specs.Comparison.{Claim, bothRead, liesAfter, liesBefore, compare}
 use Rattle.rules.proofs.Logic.{or-case, or-left, or-right, both, and-both, clash, branch}
 

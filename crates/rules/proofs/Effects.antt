@@ -1,18 +1,17 @@
 -- What stores do, seen from the theory: to the words of a seat or a node, one after another, and to the view of the nodes. Over any
 -- tables that have room for the seat or the node.
-use Prim.Native.Nat.{ℕ, zero, suc, _+_, _*_, _≤_, _<_}
-use mathlib.Core.Path.{_≡_, refl, sym, _∙_, ap, fun-ext}
-use mathlib.Core.Bool.{Bool, true, false}
+use Prim.Native.Nat.{ℕ, _+_, _*_, _≤_, _<_}
+use mathlib.Core.Path.{_≡_, refl, sym, _∙_, fun-ext}
 use mathlib.Core.List.{List}
 use mathlib.Core.Logic.{_≢_}
 use native.Mathlib.Omega.{arith}
 use lib.ListN.{length}
 use borrow.Author.Tests.{eq-eqb, ne-eqb}
 use Rattle.rules.specs.Notation.{if_then_else_, _is_}
-use Rattle.rules.specs.Tables.{Tables, tables, beforeNodes, nodeWidth, seatWidth, startAt, endAt, kindAt, markAt, nextAt, phaseAt, ownAt, prevAt, curAt, nodeWord, linkWord, seatWord, putNode, putLink, putSeat, link, mark}
+use Rattle.rules.specs.Tables.{Tables, beforeNodes, nodeWidth, seatWidth, startAt, endAt, kindAt, markAt, nextAt, phaseAt, ownAt, prevAt, curAt, nodeWord, linkWord, seatWord, putNode, putLink, putSeat, link, mark}
 use Rattle.rules.proofs.Deciding.{if-same}
 use Rattle.rules.proofs.Words.{seat-put-same, seat-put-field, seat-put-seat, put-seat-length, node-put-same, node-put-field, node-put-node, put-node-length, put-link-node, link-put-other, link-put-field}
-use Rattle.rules.proofs.View.{Nodes, Seats, nodesOf, seatsOf, relink, remark, Reseated}
+use Rattle.rules.proofs.View.{nodesOf, seatsOf, relink, remark, Reseated}
 
 -- ---- the words of one seat
 abbrev pub Room : Tables → ℕ → Type 0

@@ -1,12 +1,11 @@
 -- Why the invariant keeps holders apart: of two that share a frame the one listed first reads, or it would end before the other; and
 -- if the other wrote, one of the two would have yet to come to the other.
 use mathlib.Core.Path.{_≡_, sym}
-use mathlib.Core.Logic.{_≢_, _⊎_, inl, inr}
+use mathlib.Core.Logic.{_≢_, inl, inr}
 use Prim.Native.Nat.{ℕ, _≤_, _<_}
 use native.Mathlib.Omega.{arith}
-use Rattle.rules.specs.Comparison.{Claim}
 use Rattle.rules.proofs.Following.{Reach, linear}
-use Rattle.rules.proofs.View.{Nodes, Seats, claimAt, Linked, holding}
+use Rattle.rules.proofs.View.{Nodes, Seats, holding}
 use Rattle.rules.proofs.Invariant.{Ahead, reader-comes, writer-comes, from-head, Invariant}
 use Rattle.rules.proofs.Known.{own-proper, ordered-along}
 

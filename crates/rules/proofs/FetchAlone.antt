@@ -1,11 +1,11 @@
 -- A withdrawn claim that is stepped alone is refused for want of a node, or starts again at the head, where it will see the whole list.
-use Prim.Native.Nat.{ℕ, _≤_, _<_}
-use mathlib.Core.Path.{_≡_, refl, sym, ap, _∙_}
+use Prim.Native.Nat.{ℕ, _<_}
+use mathlib.Core.Path.{_≡_, refl}
 use mathlib.Core.Bool.{true}
 use mathlib.Core.Logic.{_≢_, _⊎_, inl, inr}
 use native.Mathlib.Omega.{arith}
 use borrow.Author.Tests.{ne-eqb}
-use Rattle.rules.specs.Tables.{Tables, phaseAt, prevAt, curAt, link, head, phase, own, prev, cur}
+use Rattle.rules.specs.Tables.{Tables, phaseAt, prevAt, curAt, phase, own}
 use Rattle.rules.specs.Comparison.{Claim, claimOf}
 use Rattle.rules.specs.Reach.{lowestFree}
 use Rattle.rules.specs.Fetch.{Fetched, takenOut, writeClaim, enterAtHead, takeNode, fetch}

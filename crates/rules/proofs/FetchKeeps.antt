@@ -1,19 +1,18 @@
 -- Fetch leaves good tables good, whether it finds a node or none.
-use Prim.Native.Nat.{ℕ, zero, suc, _+_, _*_, _≤_, _<_}
-use mathlib.Core.Path.{_≡_, refl, sym, ap, _∙_}
+use Prim.Native.Nat.{ℕ, _+_, _*_, _≤_, _<_}
+use mathlib.Core.Path.{_≡_, sym, _∙_}
 use mathlib.Core.Bool.{true}
-use mathlib.Core.List.{List}
-use mathlib.Core.Logic.{_≢_, _⊎_, inl, inr}
+use mathlib.Core.Logic.{_≢_, _⊎_}
 use native.Mathlib.Omega.{arith}
 use lib.ListN.{length}
-use Rattle.rules.specs.Tables.{Tables, tables, beforeNodes, nodeWidth, nodeCount, nodeWord, seatWord, linkWord, startAt, endAt, kindAt, markAt, nextAt, phaseAt, ownAt, prevAt, curAt, link, head, phase}
+use Rattle.rules.specs.Tables.{Tables, beforeNodes, nodeWidth, nodeCount, nodeWord, startAt, endAt, kindAt, markAt, nextAt, head, phase}
 use Rattle.rules.specs.Comparison.{Claim}
 use Rattle.rules.specs.Reach.{free, lowestFree}
 use Rattle.rules.specs.Fetch.{Fetched, writeClaim, enterAtHead, takeNode}
 use Rattle.rules.proofs.Words.{link-node}
 use Rattle.rules.proofs.SameWords.{node-count}
 use Rattle.rules.proofs.Lowest.{lowest-has}
-use Rattle.rules.proofs.View.{Nodes, nodesOf, seatsOf}
+use Rattle.rules.proofs.View.{nodesOf}
 use Rattle.rules.proofs.Invariant.{Proper}
 use Rattle.rules.proofs.Take.{Written, take-keeps}
 use Rattle.rules.proofs.Effects.{stored, reseated, Noded, node-as-found, put-word, put-next}

@@ -1,29 +1,26 @@
 -- Good tables: lengths for N nodes and S seats, and the invariant. Each rule of a step that fetches nothing leaves good tables good, and
 -- so does release.
-use Prim.Native.Nat.{ℕ, zero, suc, _+_, _*_, _≤_, _<_}
-use mathlib.Core.Path.{_≡_, refl, sym, subst, _∙_, ap}
+use Prim.Native.Nat.{ℕ, _+_, _*_, _≤_, _<_}
+use mathlib.Core.Path.{_≡_, refl, sym, subst, _∙_}
 use mathlib.Core.List.{List}
 use mathlib.Core.Logic.{_≢_, _⊎_, inl, inr}
 use native.Mathlib.Omega.{arith}
 use lib.ListN.{length}
-use Rattle.rules.specs.Tables.{Tables, tables, beforeNodes, nodeWidth, seatWidth, markAt, nextAt, phaseAt, ownAt, prevAt, curAt, nodeWord, linkWord, putNode, putLink, kind, mark, link, next, head, phase, own, prev, cur, setLink, setMark, setPhase, setPrev, setCur}
+use Rattle.rules.specs.Tables.{Tables, tables, beforeNodes, nodeWidth, seatWidth, markAt, nextAt, phaseAt, ownAt, prevAt, curAt, nodeWord, putLink, mark, link, next, phase, own, prev, cur, setLink, setMark}
 use Rattle.rules.specs.Comparison.{claimOf}
-use Rattle.rules.specs.Steps.{moveTo, linkIn, pass, hold, withdraw, leave}
-use Rattle.rules.proofs.Deciding.{if-same}
+use Rattle.rules.specs.Steps.{linkIn}
 use Rattle.rules.proofs.Words.{link-put-same, link-put-other, link-put-field, node-put-link, node-put-same, node-put-field, node-put-node, put-link-length, put-node-length}
 use Rattle.rules.proofs.Following.{here}
 use Rattle.rules.proofs.Compared.{Precedes}
-use Rattle.rules.proofs.View.{Nodes, Seats, nodesOf, seatsOf, claimAt, relink, remark, Reseated, Outside, walking, Linked, validating, reader-waiting, holding}
+use Rattle.rules.proofs.View.{nodesOf, seatsOf, Reseated, walking, Linked}
 use Rattle.rules.proofs.Phases.{outside-busy, linked-busy}
-use Rattle.rules.proofs.Invariant.{Ordered, from-prev, from-cur, Invariant}
-use Rattle.rules.proofs.Known.{Known, known-prev, named-in, precedes-ordered, own-pos, own-proper, hidden}
-use Rattle.rules.proofs.SeatRules.{pass-keeps, skip-keeps, restart-keeps, reread-keeps, wake-keeps, wait-keeps, pass-reader-keeps, pass-writer-keeps, skip-validating-keeps, reader-wakes-keeps, reader-waits-keeps, hold-reader-keeps, hold-writer-keeps}
+use Rattle.rules.proofs.Invariant.{Ordered, from-prev, Invariant}
+use Rattle.rules.proofs.Known.{Known, named-in, precedes-ordered, own-pos, own-proper, hidden}
 use Rattle.rules.proofs.Unlink.{unlink-keeps}
-use Rattle.rules.proofs.Insert.{Starts, reader, writer, insert-keeps}
+use Rattle.rules.proofs.Insert.{Starts, insert-keeps}
 use Rattle.rules.proofs.Leave.{Leaves, leave-keeps}
-use Rattle.rules.proofs.Leave as leaves
-use Rattle.rules.proofs.Effects.{Room, stored, Seated, as-found, put, reseated, only-links, only-marks}
-use Rattle.rules.proofs.Reasons.{Joined, Unlinking, takes-out, goes-past, Starting, as-reader, as-writer, Inserting, links-in, restarts, rereads, Walking, inserts, unlinks, passes, waits, Waking, wakes, stays, ReaderValidating, reader-holds, reader-unlinks, reader-passes, reader-waits, WriterValidating, writer-holds, writer-unlinks, writer-passes, withdraws, Validating, validates-reader, validates-writer}
+use Rattle.rules.proofs.Effects.{Room, Seated, reseated, only-links, only-marks}
+use Rattle.rules.proofs.Reasons.{Joined}
 
 pub record Good (N S : ℕ) (t : Tables) : Type 0 where
   pub nodes-long : length (t .nodes) ≡ beforeNodes + nodeWidth * N

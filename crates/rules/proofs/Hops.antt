@@ -1,12 +1,12 @@
 -- N hops are enough, since every walk that is seen ends: what the tests find listed or free is so in the theory's sense.
-use Prim.Native.Nat.{ℕ, zero, suc, _≤_, _<_}
-use mathlib.Core.Path.{_≡_, refl, sym, ap, _∙_}
+use Prim.Native.Nat.{ℕ, _≤_, _<_}
+use mathlib.Core.Path.{_≡_, sym, _∙_}
 use mathlib.Core.Bool.{Bool, true, false, not, _&&_, _||_}
-use mathlib.Core.Logic.{_≢_, _⊎_, inl, inr}
+use mathlib.Core.Logic.{_≢_, inl, inr}
 use native.Mathlib.Omega.{arith}
 use native.Mathlib.Decide.{decLt}
 use borrow.Author.Tests.{ne-eqb}
-use Rattle.rules.specs.Notation.{_is_, any}
+use Rattle.rules.specs.Notation.{_is_}
 use Rattle.rules.specs.Tables.{Tables, nodeCount, seatCount, seatWord, phaseAt, ownAt, prevAt, curAt, link, head, phase, own, prev, cur}
 use Rattle.rules.specs.Reach.{met, listed, seatReaches, othersReach, free}
 use Rattle.rules.proofs.Logic.{or-neither, not-true, of-not, and-not, any-none, clash}

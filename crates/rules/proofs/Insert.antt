@@ -2,14 +2,14 @@
 -- within it ahead, a new writer starts at the head. The phase that the seat comes to is a parameter.
 use mathlib.Core.Path.{_≡_, refl, sym, _∙_, ap}
 use mathlib.Core.Logic.{_≢_, _⊎_, inl, inr}
-use Prim.Native.Nat.{ℕ, zero, suc, _≤_, _<_}
+use Prim.Native.Nat.{ℕ, suc, _≤_, _<_}
 use native.Mathlib.Omega.{arith}
 use Rattle.rules.proofs.Deciding.{if-same}
-use Rattle.rules.proofs.Following.{Reach, here, there, reach-source, reach-on, not-from-0, beyond, linear, Ends, stop, more, insert-keeps-reach, insert-adds-own, insert-reaches-own, insert-keeps-list, insert-keeps-ends}
+use Rattle.rules.proofs.Following.{Reach, here, reach-source, reach-on, not-from-0, beyond, linear, more, insert-keeps-reach, insert-adds-own, insert-reaches-own, insert-keeps-list, insert-keeps-ends}
 use Rattle.rules.proofs.View.{Nodes, Seats, claimAt, Unmarked, relink, Outside, walking, Linked, validating}
 use Rattle.rules.proofs.Phases.{outside-busy, linked-busy, not-both}
-use Rattle.rules.proofs.Invariant.{Proper, Named, nothing, NodeShape, SeatShape, OnList, Seen, from-head, from-prev, from-cur, Ending, Ordered, Standing, Owner, Ahead, reader-comes, writer-comes, Invariant}
-use Rattle.rules.proofs.Known.{along, Known, known-on, known-head, known-link, known-named, known-ends, seen-pos, seen-on, seen-named, seen-proper, own-pos, own-proper, precedes-ordered, hidden}
+use Rattle.rules.proofs.Invariant.{nothing, NodeShape, SeatShape, OnList, Seen, from-head, from-prev, from-cur, Ending, Ordered, Standing, Ahead, reader-comes, writer-comes, Invariant}
+use Rattle.rules.proofs.Known.{along, Known, known-on, known-head, known-link, known-ends, seen-pos, seen-proper, own-pos, own-proper, precedes-ordered, hidden}
 use Rattle.rules.proofs.SeatShapes.{not-waiting, on-its-way}
 use Rattle.rules.proofs.SeatMoves.{Moved, not-stuck}
 use Rattle.rules.proofs.Unlink.{relink-shape}

@@ -1,11 +1,11 @@
 -- The invariant that every call keeps, over the view: a named field for each clause. N is the number of nodes.
 use mathlib.Core.Path.{_≡_}
 use mathlib.Core.Logic.{_≢_, _⊎_}
-use Prim.Native.Nat.{ℕ, zero, suc, _≤_, _<_}
+use Prim.Native.Nat.{ℕ, _≤_, _<_}
 use Rattle.rules.specs.Comparison.{Claim}
 use Rattle.rules.proofs.Following.{Reach, Ends}
 use Rattle.rules.proofs.Compared.{Precedes}
-use Rattle.rules.proofs.View.{Nodes, Seats, claimAt, Marked, Unmarked, Outside, Linked}
+use Rattle.rules.proofs.View.{Nodes, Seats, claimAt, Unmarked, Outside, Linked}
 
 -- ---- sound shape, as far as the view shows it
 pub record Proper (c : Claim) : Type 0 where

@@ -1,15 +1,15 @@
 -- What the invariant says at once: of the nodes that are seen, of own nodes, and of the places a walk can go on to.
-use mathlib.Core.Path.{_≡_, refl, sym, _∙_, ap}
+use mathlib.Core.Path.{_≡_, refl, sym, ap}
 use mathlib.Core.Logic.{_≢_, _⊎_, inl, inr}
 use Prim.Native.Nat.{ℕ, _≤_, _<_}
 use native.Mathlib.Omega.{arith}
 use Rattle.rules.specs.Comparison.{Claim}
 use Rattle.rules.proofs.Deciding.{if-same}
-use Rattle.rules.proofs.Following.{Reach, here, there, reach-source, reach-target, reach-on, not-from-0, Ends, stop, more}
+use Rattle.rules.proofs.Following.{Reach, here, there, reach-source, reach-target, reach-on, not-from-0, stop}
 use Rattle.rules.proofs.Compared.{Precedes, apart, readers}
-use Rattle.rules.proofs.View.{Nodes, Seats, claimAt, Marked, Unmarked, Outside, Linked}
+use Rattle.rules.proofs.View.{Nodes, Seats, claimAt, Outside}
 use Rattle.rules.proofs.Phases.{outside-busy, linked-busy, not-both}
-use Rattle.rules.proofs.Invariant.{Proper, Named, nothing, node, NodeShape, OnList, Seen, from-head, from-prev, from-cur, Ending, Ordered, Stuck, Owner, Ahead, Invariant}
+use Rattle.rules.proofs.Invariant.{Proper, Named, nothing, node, NodeShape, Seen, from-head, from-prev, from-cur, Ending, Ordered, Invariant}
 
 -- ---- what is seen
 pub seen-pos : {link : ℕ → ℕ} {s : Seats} {a : ℕ} → Seen link s a → 0 < a

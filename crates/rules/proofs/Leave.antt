@@ -1,14 +1,14 @@
 -- A linked claim is marked and its seat leaves it: withdraw (phase 6, own kept) and release (idle). The invariant stays: what the claim
 -- had yet to come to is no longer asked of it.
-use mathlib.Core.Path.{_≡_, refl, sym, _∙_, ap}
-use mathlib.Core.Logic.{_≢_, _⊎_, inl, inr}
-use Prim.Native.Nat.{ℕ, _≤_, _<_}
+use mathlib.Core.Path.{_≡_, sym, _∙_, ap}
+use mathlib.Core.Logic.{_≢_, inl, inr}
+use Prim.Native.Nat.{ℕ, _<_}
 use native.Mathlib.Omega.{arith}
 use Rattle.rules.proofs.Deciding.{if-same}
-use Rattle.rules.proofs.Following.{Reach, not-from-0}
+use Rattle.rules.proofs.Following.{not-from-0}
 use Rattle.rules.proofs.View.{Nodes, Seats, claimAt, Unmarked, remark, Reseated, Outside, Linked}
 use Rattle.rules.proofs.Phases.{outside-busy, linked-busy, outside-not-gone, linked-not-gone}
-use Rattle.rules.proofs.Invariant.{Proper, NodeShape, SeatShape, Seen, from-head, from-prev, from-cur, Owner, Ahead, reader-comes, writer-comes, Invariant}
+use Rattle.rules.proofs.Invariant.{Proper, NodeShape, SeatShape, Seen, from-head, from-prev, from-cur, Ahead, reader-comes, writer-comes, Invariant}
 use Rattle.rules.proofs.Known.{own-pos, own-proper}
 use Rattle.rules.proofs.SeatShapes.{at-rest, idle-seat}
 use Rattle.rules.proofs.SeatMoves.{not-stuck}

@@ -1,12 +1,10 @@
 -- The list of a good table is ordered by first frame.
-use Prim.Native.Nat.{ℕ, zero, suc, _≤_, _<_}
-use mathlib.Core.Path.{_≡_, refl}
-use mathlib.Core.Bool.{Bool, true, false}
-use mathlib.Core.List.{List, [], _∷_}
-use mathlib.Core.Logic.{_≢_, _⊎_, inl, inr}
+use Prim.Native.Nat.{ℕ, zero, suc}
+use mathlib.Core.List.{_∷_}
+use mathlib.Core.Logic.{inl, inr}
 use native.Mathlib.Omega.{arith}
 use borrow.Author.Tests.{eqb-false}
-use Rattle.rules.specs.Notation.{if_then_else_, _is_}
+use Rattle.rules.specs.Notation.{_is_}
 use Rattle.rules.specs.Tables.{Tables, nodeCount, start, link, next, head}
 use Rattle.rules.specs.Reach.{nodesFrom, listOf}
 use Rattle.rules.specs.Demands.{Rising, none, one, more}

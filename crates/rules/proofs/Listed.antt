@@ -1,16 +1,15 @@
 -- The tests `met` and `listed` against following links: what is met is reached and, where the walk ends within the hops, the other way
 -- round.
 use Prim.Native.Nat.{ℕ, zero, suc, _≤_, _<_}
-use mathlib.Core.Path.{_≡_, refl, sym, ap, _∙_}
-use mathlib.Core.Bool.{Bool, true, false, not, _&&_, _||_}
-use mathlib.Core.Logic.{_≢_, _⊎_, inl, inr}
+use mathlib.Core.Path.{_≡_, refl}
+use mathlib.Core.Bool.{true, false, not, _||_}
+use mathlib.Core.Logic.{_≢_, inl, inr}
 use native.Mathlib.Omega.{arith}
 use borrow.Author.Tests.{eqb-true, eqb-false, eq-eqb, ne-eqb}
 use Rattle.rules.specs.Notation.{_is_}
-use Rattle.rules.specs.Tables.{Tables, nodeCount, link, next, head}
-use Rattle.rules.specs.Reach.{met, listed}
-use Rattle.rules.proofs.Logic.{both, and-both, or-case, or-left, or-right, not-true, of-not, not-of, clash}
-use Rattle.rules.proofs.Deciding.{if-same}
+use Rattle.rules.specs.Tables.{Tables, link, next}
+use Rattle.rules.specs.Reach.{met}
+use Rattle.rules.proofs.Logic.{both, and-both, or-case, or-left, or-right, not-true, of-not, clash}
 use Rattle.rules.proofs.Following.{Reach, here, there, not-from-0, Ends, stop, more}
 
 module _ (t : Tables) (x : ℕ) where

@@ -1,18 +1,18 @@
 -- A walk alone whose prev and cur may no longer be joined, since others have changed the list: within the nodes ahead of it and one step
 -- more the claim waits, or the walk is joined again.
-use Prim.Native.Nat.{ℕ, zero, suc, _≤_, _<_}
-use mathlib.Core.Path.{_≡_, refl, sym, ap, _∙_}
-use mathlib.Core.Bool.{Bool, true, false}
-use mathlib.Core.Logic.{_≢_, _⊎_, inl, inr}
+use Prim.Native.Nat.{ℕ, suc, _≤_, _<_}
+use mathlib.Core.Path.{_≡_, refl, _∙_}
+use mathlib.Core.Bool.{false}
+use mathlib.Core.Logic.{inl}
 use native.Mathlib.Omega.{arith}
-use Rattle.rules.specs.Tables.{Tables, phaseAt, prevAt, curAt, mark, link, next, head, phase, prev, cur}
+use Rattle.rules.specs.Tables.{Tables, phaseAt, prevAt, curAt, link, head, phase, prev, cur}
 use Rattle.rules.specs.Steps.{joined, pass}
 use Rattle.rules.specs.Calls.{step}
 use Rattle.rules.proofs.Logic.{clash}
 use Rattle.rules.proofs.Deciding.{if-true}
 use Rattle.rules.proofs.Following.{Ends, ends-tail}
 use Rattle.rules.proofs.RuleEffects.{pass-stored, place-stored, cur-stored}
-use Rattle.rules.proofs.Reasons.{Joined, is-joined, Inserting, links-in, restarts, rereads, Walking, inserts, unlinks, passes, waits}
+use Rattle.rules.proofs.Reasons.{Joined, is-joined, links-in, restarts, rereads, Walking, inserts, unlinks, passes, waits}
 use Rattle.rules.proofs.Good.{Good, room}
 use Rattle.rules.proofs.SoundReached.{Bounds}
 use Rattle.rules.proofs.Within.{Within, now, later, along-chain}

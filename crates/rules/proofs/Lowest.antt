@@ -1,11 +1,10 @@
 -- The lowest number of 1 to n that has p has it.
 use Prim.Native.Nat.{ℕ, zero, suc, _≤_}
-use mathlib.Core.Path.{_≡_, refl, sym, ap, _∙_}
-use mathlib.Core.Bool.{Bool, true, false}
+use mathlib.Core.Path.{_≡_, sym, ap, _∙_}
+use mathlib.Core.Bool.{Bool, true}
 use mathlib.Core.Logic.{_≢_}
 use native.Mathlib.Omega.{arith}
-use borrow.Author.Tests.{eqb-false}
-use Rattle.rules.specs.Notation.{if_then_else_, _is_, lowest}
+use Rattle.rules.specs.Notation.{_is_, lowest}
 use Rattle.rules.proofs.Logic.{branch}
 
 pub lowest-has : (n : ℕ) (p : ℕ → Bool) (a : ℕ) → lowest n p ≡ a → a ≢ 0 → (p a ≡ true) × (a ≤ n)

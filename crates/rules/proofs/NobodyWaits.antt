@@ -2,7 +2,6 @@
 use Prim.Native.Nat.{ℕ, _+_, _*_, _≤_, _<_}
 use mathlib.Core.Path.{_≡_}
 use mathlib.Core.Logic.{_≢_, _⊎_, inl, inr}
-use native.Mathlib.Omega.{arith}
 use lib.ListN.{replicate}
 use Rattle.rules.specs.Tables.{Tables, phase}
 use Rattle.rules.specs.Answers.{refused}
@@ -13,7 +12,7 @@ use Rattle.rules.specs.Demands.{stepTimes, Settled, RunEnds}
 use Rattle.rules.proofs.Hops.{busy-in}
 use Rattle.rules.proofs.CallKeeps.{good}
 use Rattle.rules.proofs.SoundReached.{bounds}
-use Rattle.rules.proofs.Refusals.{NoneOr8, no-refusal, refusal-8}
+use Rattle.rules.proofs.Refusals.{no-refusal, refusal-8}
 use Rattle.rules.proofs.Within.{more-time}
 use Rattle.rules.proofs.RestsAlone.{comes-to-rest}
 use Rattle.rules.proofs.StepsAlone.{times-good, settled-after, times-busy, step-none-or-8, run-alone, run-alone-ends}

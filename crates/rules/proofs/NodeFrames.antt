@@ -1,30 +1,29 @@
 -- What each call leaves of the nodes. Over any tables.
-use Prim.Native.Nat.{ℕ, zero, suc, _≤_, _<_}
+use Prim.Native.Nat.{ℕ, zero, suc, _<_}
 use mathlib.Core.Path.{_≡_, refl, sym, ap, _∙_}
-use mathlib.Core.Bool.{Bool, true, false, not, _&&_, _||_}
+use mathlib.Core.Bool.{true, false}
 use mathlib.Core.List.{List, [], _∷_}
 use mathlib.Core.Logic.{_≢_, _⊎_, inl, inr}
 use native.Mathlib.Omega.{arith}
 use lib.ListN.{length}
-use borrow.Author.Tests.{eqb-true, eqb-false, eq-eqb, ne-eqb}
-use Rattle.rules.specs.Notation.{if_then_else_, _is_}
-use Rattle.rules.specs.Tables.{Tables, nodeWidth, nodeCount, startAt, endAt, kindAt, markAt, nextAt, ownAt, nodeWord, linkWord, mark, marked, link, next, head, phase, own, prev, cur, setNode, setLink, setMark}
+use borrow.Author.Tests.{eqb-false, eq-eqb}
+use Rattle.rules.specs.Notation.{_is_}
+use Rattle.rules.specs.Tables.{Tables, nodeWidth, nodeCount, startAt, endAt, kindAt, markAt, nextAt, ownAt, nodeWord, linkWord, marked, next, head, phase, own, prev, cur, setNode, setLink, setMark}
 use Rattle.rules.specs.Comparison.{Claim, claim, claimOf}
 use Rattle.rules.specs.Reach.{met, listed}
-use Rattle.rules.specs.Fetch.{Fetched, fetched, fetch, keptFrom, kept, linkThrough, takenOut, writeClaim, enterAtHead, takeNode}
-use Rattle.rules.specs.Answers.{Answer, Done, done}
+use Rattle.rules.specs.Fetch.{Fetched, fetch, keptFrom, kept, linkThrough, takenOut, writeClaim, enterAtHead, takeNode}
+use Rattle.rules.specs.Answers.{Answer, Done}
 use Rattle.rules.specs.Steps.{linkIn, pass, hold, withdraw, leave, refetched}
 use Rattle.rules.specs.Calls.{begun, begin, step, release}
 use Rattle.rules.specs.Demands.{Stands, NodesKept, Nobody, FetchKept}
-use Rattle.rules.proofs.Logic.{branch, and-both, of-not, or-left, or-right}
-use Rattle.rules.proofs.Deciding.{if-same, if-true}
+use Rattle.rules.proofs.Logic.{branch, or-left, or-right}
 use Rattle.rules.proofs.Words.{node-put-field, node-put-node, node-put-link, link-put-field, link-put-other, put-node-length, put-link-length}
 use Rattle.rules.proofs.Listed.{met-first}
 use Rattle.rules.proofs.Effects.{Room}
 use Rattle.rules.proofs.RuleEffects.{enter-stored}
 use Rattle.rules.proofs.TakeOut.{taken-out-seats}
 use Rattle.rules.proofs.SeatFrames.{sound-room}
-use Rattle.rules.proofs.Reasons.{Unlinking, takes-out, goes-past, Starting, as-reader, as-writer, Inserting, links-in, restarts, rereads, Walking, inserts, unlinks, passes, waits, walks, Waking, wakes, stays, wakes-to-walk, wakes-to-validate, ReaderValidating, reader-holds, reader-unlinks, reader-passes, reader-waits, WriterValidating, writer-holds, writer-unlinks, writer-passes, withdraws, Validating, validates-reader, validates-writer, validates, by-phase-1, by-phase-2, by-phase-3, by-phase-4, by-phase-5, by-phase-6, Fetching, found, found-then, none, fetching as fetching-of}
+use Rattle.rules.proofs.Reasons.{Unlinking, takes-out, goes-past, as-reader, as-writer, Inserting, links-in, restarts, rereads, Walking, inserts, unlinks, passes, waits, walks, Waking, wakes, stays, wakes-to-walk, wakes-to-validate, reader-holds, reader-unlinks, reader-passes, reader-waits, writer-holds, writer-unlinks, writer-passes, withdraws, Validating, validates-reader, validates-writer, validates, by-phase-1, by-phase-2, by-phase-3, by-phase-4, by-phase-5, by-phase-6, Fetching, found, found-then, none, fetching as fetching-of}
 use Rattle.rules.proofs.Accepting.{Beginning, begin-refused, begin-accepted, beginning, step-or-same, Releasing, release-refused, release-accepted, releasing}
 
 -- ---- keeping, in general

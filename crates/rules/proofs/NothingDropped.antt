@@ -1,16 +1,16 @@
 -- A claim that stands on the list stands there after any call, or is marked: its seat still has it, or has just left it.
-use Prim.Native.Nat.{ℕ, _≤_, _<_}
+use Prim.Native.Nat.{ℕ, _<_}
 use mathlib.Core.Path.{_≡_, refl, sym, ap, _∙_}
-use mathlib.Core.Bool.{Bool, true, false}
+use mathlib.Core.Bool.{true}
 use mathlib.Core.Logic.{_≢_, _⊎_, inl, inr}
 use native.Mathlib.Omega.{arith}
 use borrow.Author.Tests.{eqb-false, eq-eqb}
-use Rattle.rules.specs.Tables.{Tables, seatCount, phaseAt, ownAt, markAt, mark, marked, link, next, phase, own, prev, cur, setMark}
+use Rattle.rules.specs.Tables.{Tables, phaseAt, ownAt, markAt, mark, marked, link, next, phase, own, cur, setMark}
 use Rattle.rules.specs.Comparison.{Claim}
 use Rattle.rules.specs.Reach.{listed}
 use Rattle.rules.specs.Answers.{Answer, Done}
 use Rattle.rules.specs.Steps.{withdraw, leave}
-use Rattle.rules.specs.Calls.{begin, step, release}
+use Rattle.rules.specs.Calls.{step}
 use Rattle.rules.specs.Play.{Call, beginCall, stepCall, releaseCall, call}
 use Rattle.rules.specs.Demands.{seatOf, Stands}
 use Rattle.rules.proofs.Deciding.{if-same}
@@ -21,7 +21,7 @@ use Rattle.rules.proofs.Invariant.{OnList}
 use Rattle.rules.proofs.Known.{own-pos}
 use Rattle.rules.proofs.Effects.{Room, Seated}
 use Rattle.rules.proofs.RuleEffects.{phase-stored, cur-stored, pass-stored, hold-stored}
-use Rattle.rules.proofs.Reasons.{Unlinking, takes-out, goes-past, Waking, wakes, stays, ReaderValidating, reader-holds, reader-unlinks, reader-passes, reader-waits, WriterValidating, writer-holds, writer-unlinks, writer-passes, withdraws, Validating, validates-reader, validates-writer, validates, wakes-to-validate, by-phase-3, by-phase-4, by-phase-5}
+use Rattle.rules.proofs.Reasons.{Unlinking, takes-out, goes-past, Waking, wakes, stays, reader-holds, reader-unlinks, reader-passes, reader-waits, writer-holds, writer-unlinks, writer-passes, withdraws, Validating, validates-reader, validates-writer, validates, wakes-to-validate, by-phase-3, by-phase-4, by-phase-5}
 use Rattle.rules.proofs.Accepting.{Beginning, begin-refused, begin-accepted, beginning, step-or-same, Releasing, release-refused, release-accepted, releasing}
 use Rattle.rules.proofs.Good.{Good, room, node-room, own-in}
 use Rattle.rules.proofs.Hops.{on-list, is-listed}

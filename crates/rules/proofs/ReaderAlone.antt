@@ -1,14 +1,14 @@
 -- A reader that validates alone comes to rest within the nodes ahead of it and one step more: it holds or waits at a writer.
-use Prim.Native.Nat.{ℕ, zero, suc, _≤_, _<_}
-use mathlib.Core.Path.{_≡_, refl, sym, ap, _∙_}
-use mathlib.Core.Logic.{_≢_, _⊎_, inl, inr}
+use Prim.Native.Nat.{ℕ, suc, _≤_, _<_}
+use mathlib.Core.Path.{_≡_, refl, ap, _∙_}
+use mathlib.Core.Logic.{inr}
 use native.Mathlib.Omega.{arith}
-use Rattle.rules.specs.Tables.{Tables, kindAt, phaseAt, ownAt, curAt, kind, mark, link, next, phase, own, cur}
+use Rattle.rules.specs.Tables.{Tables, kindAt, phaseAt, ownAt, curAt, kind, link, phase, own, cur}
 use Rattle.rules.specs.Steps.{pass}
 use Rattle.rules.specs.Calls.{step}
 use Rattle.rules.proofs.Following.{Ends, ends-tail}
-use Rattle.rules.proofs.RuleEffects.{phase-stored, pass-stored, hold-stored}
-use Rattle.rules.proofs.Reasons.{ReaderValidating, reader-holds, reader-unlinks, reader-passes, reader-waits, Validating, validates-reader, validates-writer}
+use Rattle.rules.proofs.RuleEffects.{pass-stored, hold-stored}
+use Rattle.rules.proofs.Reasons.{reader-holds, reader-unlinks, reader-passes, reader-waits, Validating, validates-reader, validates-writer}
 use Rattle.rules.proofs.Good.{Good, room}
 use Rattle.rules.proofs.SoundReached.{Bounds}
 use Rattle.rules.proofs.Within.{Within, now, later, along-chain}

@@ -2,19 +2,18 @@
 -- by clauses on these, phase by phase. Over any tables.
 use Prim.Native.Nat.{ℕ, _≤_, _<_}
 use mathlib.Core.Path.{_≡_, refl}
-use mathlib.Core.Bool.{Bool, true, false, not, _&&_, _||_}
+use mathlib.Core.Bool.{true, false, not, _||_}
 use mathlib.Core.Logic.{_≢_, _⊎_, inl, inr}
-use lib.Dec.{eqb, leb}
-use lib.IntN.{ℤ, pos, negsuc}
+use lib.IntN.{ℤ}
 use borrow.Author.Tests.{eqb-true, eqb-false, leb-true, leb-false, ne-eqb}
 use Rattle.rules.specs.Notation.{if_then_else_, _is_, _≤?_}
-use Rattle.rules.specs.Tables.{Tables, start, end, kind, mark, marked, link, next, head, phase, own, prev, cur, setLink, setMark, setPhase, setPrev, setCur}
-use Rattle.rules.specs.Comparison.{Claim, claimOf, reads, compare, byComparison}
+use Rattle.rules.specs.Tables.{Tables, start, end, kind, mark, marked, link, next, head, phase, own, prev, cur, setLink, setPhase, setPrev, setCur}
+use Rattle.rules.specs.Comparison.{Claim, claimOf, reads, byComparison}
 use Rattle.rules.specs.Reach.{lowestFree}
 use Rattle.rules.specs.Fetch.{Fetched, fetched, takenOut, takeNode, fetch, fetchAgain}
-use Rattle.rules.specs.Answers.{Answer, refused, Done, done, answered}
+use Rattle.rules.specs.Answers.{Answer, Done, answered}
 use Rattle.rules.specs.Steps.{moveTo, joined, unlink, pass, linkIn, startValidating, lookAgain, insert, hold, withdraw, walking, waitingToEnter, readerValidating, writerValidating, validating, readerWaiting, refetched, withdrawn, stepByPhase}
-use Rattle.rules.proofs.Logic.{branch, both, or-case, or-neither, and-not, not-true}
+use Rattle.rules.proofs.Logic.{branch, both, or-case, or-neither, not-true}
 use Rattle.rules.proofs.Compared.{Precedes, Compared, after, before, clashing, compared}
 
 -- ---- unlink and insert

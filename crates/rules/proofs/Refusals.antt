@@ -1,10 +1,10 @@
 -- With which refusals a call on sound tables can answer: an accepted begin or step with none or 8, and none with 1.
 use Prim.Native.Nat.{ℕ}
 use mathlib.Core.Path.{_≡_, refl, sym, ap, _∙_}
-use mathlib.Core.Bool.{Bool, true, false}
+use mathlib.Core.Bool.{true}
 use mathlib.Core.Logic.{_≢_}
 use native.Mathlib.Omega.{arith}
-use Rattle.rules.specs.Notation.{if_then_else_, _is_}
+use Rattle.rules.specs.Notation.{_is_}
 use Rattle.rules.specs.Tables.{Tables, phase}
 use Rattle.rules.specs.Shape.{sound}
 use Rattle.rules.specs.Comparison.{Claim}

@@ -1,8 +1,8 @@
 -- Stepped alone, any claim comes to rest: the stages one after the other, and the number of steps that they add up to.
-use Prim.Native.Nat.{ℕ, zero, suc, _+_, _*_, _≤_, _<_}
-use mathlib.Core.Path.{_≡_, refl, sym, ap, _∙_}
-use mathlib.Core.Bool.{Bool, true, false}
-use mathlib.Core.Logic.{_≢_, _⊎_, inl, inr}
+use Prim.Native.Nat.{ℕ, suc, _+_, _*_, _≤_, _<_}
+use mathlib.Core.Path.{_≡_, refl}
+use mathlib.Core.Bool.{true, false}
+use mathlib.Core.Logic.{_≢_, inl, inr}
 use native.Mathlib.Omega.{arith}
 use Rattle.rules.specs.Tables.{Tables, phaseAt, kind, mark, link, phase, own, cur}
 use Rattle.rules.specs.Calls.{step}
@@ -19,11 +19,11 @@ use Rattle.rules.proofs.Within.{Within, now, later, more-time, and-then
 use Rattle.rules.proofs.Alone.{AtRest, rests-holding, rests-waiting, after-2, after-4}
 use Rattle.rules.proofs.ReaderAlone.{reader-rests}
 use Rattle.rules.proofs.WriterAlone as writing
-use Rattle.rules.proofs.WriterAlone.{ClearWay, WriterEnds, writer-ends}
+use Rattle.rules.proofs.WriterAlone.{ClearWay, writer-ends}
 use Rattle.rules.proofs.WalkAlone as walk
-use Rattle.rules.proofs.WalkAlone.{WalkAt, WalkEnds, walk-ends}
+use Rattle.rules.proofs.WalkAlone.{WalkAt, walk-ends}
 use Rattle.rules.proofs.LooseWalkAlone as loose
-use Rattle.rules.proofs.LooseWalkAlone.{LooseEnds, loose-ends}
+use Rattle.rules.proofs.LooseWalkAlone.{loose-ends}
 use Rattle.rules.proofs.FetchAlone.{after-6}
 
 module _ {N S : ℕ} (b : Bounds N S) (s : ℕ) (s-in : s < S) where

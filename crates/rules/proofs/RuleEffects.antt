@@ -1,8 +1,7 @@
 -- What each rule does to its seat's words, in any tables that have room for the seat.
-use Prim.Native.Nat.{ℕ, _<_}
-use mathlib.Core.Path.{_≡_, refl}
+use Prim.Native.Nat.{ℕ}
 use native.Mathlib.Omega.{arith}
-use Rattle.rules.specs.Tables.{Tables, seatWord, phaseAt, ownAt, prevAt, curAt, link, next, head, own, prev, cur, setPhase, setPrev, setCur}
+use Rattle.rules.specs.Tables.{Tables, seatWord, phaseAt, ownAt, prevAt, curAt, next, head, cur, setPhase, setPrev, setCur}
 use Rattle.rules.specs.Fetch.{enterAtHead}
 use Rattle.rules.specs.Steps.{moveTo, linkIn, pass, hold, withdraw, leave}
 use Rattle.rules.proofs.Effects.{Room, stored, Seated, as-found, put}

@@ -1,22 +1,18 @@
 -- Run is its steps: its count says how many entries were stepped, each accepted, and its tables are those after these steps.
-use Prim.Native.Nat.{ℕ, zero, suc, _+_, _≤_, _<_}
-use mathlib.Core.Path.{_≡_, refl, sym, ap, _∙_}
-use mathlib.Core.Bool.{Bool, true, false}
-use mathlib.Core.List.{List, [], _∷_, map}
-use mathlib.Core.Logic.{_≢_, _⊎_, inl, inr}
-use native.Mathlib.Omega.{arith}
+use Prim.Native.Nat.{ℕ, zero, suc}
+use mathlib.Core.Path.{_≡_, refl}
+use mathlib.Core.List.{List, [], _∷_}
 use native.Mathlib.Numerals.{add-one}
-use lib.ListN.{take, length}
-use borrow.Author.Tests.{eqb-true, eqb-false}
-use Rattle.rules.specs.Notation.{if_then_else_, _is_}
+use borrow.Author.Tests.{eqb-true}
+use Rattle.rules.specs.Notation.{_is_}
 use Rattle.rules.specs.Tables.{Tables}
-use Rattle.rules.specs.Answers.{Answer, Done, done}
+use Rattle.rules.specs.Answers.{Done, done}
 use Rattle.rules.specs.Calls.{damaged, step}
 use Rattle.rules.specs.Run.{ran, refusalOf, oneMore, runSteps, run}
-use Rattle.rules.specs.Play.{Call, stepCall, call, afterAll}
+use Rattle.rules.specs.Play.{Call, call, afterAll}
 use Rattle.rules.specs.Reached.{Reached, called}
 use Rattle.rules.specs.declared.Ran.{Ran}
-use Rattle.rules.specs.Demands.{stepsOf, AllAccepted, no-more, one-more, IsItsSteps}
+use Rattle.rules.specs.Demands.{no-more, one-more, IsItsSteps}
 use Rattle.rules.proofs.Logic.{branch}
 
 none-taken : (t : Tables) (schedule : List ℕ) (number : ℕ) → IsItsSteps t schedule (done (ran 0 number) t)

@@ -1,14 +1,13 @@
 -- Further laws of the words, beside proofs/Words.antt: N and S by the lengths, the words of fresh tables, and stores that come to nothing
 -- new. With that file the only one that knows where a word stands.
-use Prim.Native.Nat.{ℕ, zero, suc, _+_, _-_, _*_, _/_, _<_, _≤_}
-use mathlib.Core.Path.{_≡_, refl, sym, ap, _∙_}
+use Prim.Native.Nat.{ℕ, zero, suc, _+_, _*_, _<_}
+use mathlib.Core.Path.{_≡_, refl, sym, _∙_}
 use mathlib.Core.List.{List}
-use mathlib.Core.Logic.{_≢_}
 use native.Mathlib.Omega.{arith}
 use native.Mathlib.Decide.{decLt}
-use lib.ListN.{getD, set, length, length-set, replicate, length-replicate, getD-replicate, List·getD-eq-default}
+use lib.ListN.{getD, set, length, length-set, length-replicate, getD-replicate, List·getD-eq-default}
 use lib.Seq.{ext-getD, set-getD, getD-set-same, getD-set-other}
-use Rattle.rules.specs.Tables.{Tables, tables, headAt, beforeNodes, nodeWidth, seatWidth, nextAt, nodeWord, putNode, linkWord, putLink, seatWord, nodeCountOf, seatCountOf, nodeCount, seatCount, zeros, fresh}
+use Rattle.rules.specs.Tables.{Tables, headAt, beforeNodes, nodeWidth, seatWidth, nextAt, nodeWord, putNode, linkWord, putLink, seatWord, nodeCountOf, seatCountOf, nodeCount, seatCount, zeros, fresh}
 use Rattle.rules.proofs.Deciding.{if-same}
 
 -- ---- N and S

@@ -1,17 +1,17 @@
 -- A seat moves and no node changes: the invariant stays, if the seat's new place is known and what its claim has yet to come to still
 -- lies ahead. First any move, then the moves of the rules, one by one.
-use mathlib.Core.Path.{_≡_, refl, sym, _∙_, ap}
-use mathlib.Core.Logic.{_≢_, _⊎_, inl, inr}
+use mathlib.Core.Path.{_≡_, sym, _∙_, ap}
+use mathlib.Core.Logic.{_≢_}
 use Prim.Native.Nat.{ℕ, _≤_, _<_}
 use native.Mathlib.Omega.{arith}
 use Rattle.rules.specs.Comparison.{Claim}
 use Rattle.rules.proofs.Deciding.{if-same}
-use Rattle.rules.proofs.Following.{Reach, here, there, reach-source, not-from-0, beyond}
+use Rattle.rules.proofs.Following.{Reach}
 use Rattle.rules.proofs.Compared.{Precedes}
-use Rattle.rules.proofs.View.{Nodes, Seats, claimAt, Marked, Reseated, Outside, walking, waiting, Linked, validating, reader-waiting, holding}
+use Rattle.rules.proofs.View.{Nodes, Seats, claimAt, Reseated, Outside, Linked}
 use Rattle.rules.proofs.Phases.{outside-busy, linked-busy, not-both}
-use Rattle.rules.proofs.Invariant.{Named, nothing, SeatShape, OnList, Seen, from-head, from-prev, from-cur, Stuck, Owner, Ahead, reader-comes, writer-comes, Invariant}
-use Rattle.rules.proofs.Known.{seen-pos, Known, known-on, known-head, known-cur, known-prev, known-next, known-link, known-named, own-proper, own-pos, ordered-along}
+use Rattle.rules.proofs.Invariant.{SeatShape, Seen, from-head, from-prev, from-cur, Stuck, Ahead, reader-comes, writer-comes, Invariant}
+use Rattle.rules.proofs.Known.{Known, known-on}
 
 -- the seat keeps its claim, which is on the list afterwards if and only if it was
 abbrev pub Moved : Seats → Seats → ℕ → ℕ → ℕ → ℕ → Type 0

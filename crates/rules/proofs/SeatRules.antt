@@ -7,10 +7,10 @@ use Rattle.rules.proofs.Following.{Reach, here, there, reach-source, no
 use Rattle.rules.proofs.Compared.{Precedes}
 use Rattle.rules.proofs.View.{Nodes, Seats, claimAt, Marked, Outside, walking, waiting, Linked, validating, reader-waiting, holding}
 use Rattle.rules.proofs.Phases.{outside-busy, linked-busy, not-both}
-use Rattle.rules.proofs.Invariant.{Seen, from-cur, Stuck, Invariant}
+use Rattle.rules.proofs.Invariant.{Seen, from-cur, Invariant}
 use Rattle.rules.proofs.Known.{Known, known-head, known-cur, known-prev, known-next, known-link, known-named, own-proper, own-pos, ordered-along}
 use Rattle.rules.proofs.SeatShapes.{not-waiting, on-its-way, at-rest}
-use Rattle.rules.proofs.SeatMoves.{Moved, SameClass, both-outside, both-linked, not-stuck, Crossing, reads-writer, writes-reader, move}
+use Rattle.rules.proofs.SeatMoves.{Moved, both-outside, both-linked, not-stuck, Crossing, reads-writer, writes-reader, move}
 
 module _ {N : ℕ} {n : Nodes} {s u : Seats} {i : ℕ} (v : Invariant N n s) where
   -- ---- phases 1 and 2

@@ -1,12 +1,11 @@
 -- Good tables within the bounds have sound shape, so every table that is reached has it.
-use Prim.Native.Nat.{ℕ, zero, suc, _≤_, _<_}
-use mathlib.Core.Path.{_≡_, refl, sym, ap, _∙_}
-use mathlib.Core.Bool.{Bool, true, false}
+use Prim.Native.Nat.{ℕ, zero, suc, _≤_}
+use mathlib.Core.Path.{_≡_, refl}
+use mathlib.Core.Bool.{true}
 use mathlib.Core.Logic.{_≢_, _⊎_, inl, inr}
 use native.Mathlib.Omega.{arith}
-use borrow.Author.Tests.{eq-eqb}
 use Rattle.rules.specs.Notation.{_is_}
-use Rattle.rules.specs.Tables.{Tables, nodeCount, link, next, head, own, phase}
+use Rattle.rules.specs.Tables.{Tables, nodeCount, link, next}
 use Rattle.rules.specs.Shape.{endsWithin, sound}
 use Rattle.rules.specs.Reached.{Reached, cleared, called, afterRun}
 use Rattle.rules.proofs.Logic.{or-right}

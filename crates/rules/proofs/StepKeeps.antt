@@ -1,19 +1,17 @@
 -- Every rule of a step that fetches nothing, and release, leave good tables good: by clauses on why the step did what it did.
-use Prim.Native.Nat.{ℕ, _≤_, _<_}
+use Prim.Native.Nat.{ℕ, _<_}
 use mathlib.Core.Path.{_≡_, refl, sym, _∙_, ap}
-use mathlib.Core.List.{List}
 use mathlib.Core.Logic.{_≢_, _⊎_, inl, inr}
 use native.Mathlib.Omega.{arith}
-use Rattle.rules.specs.Tables.{Tables, tables, seatWord, phaseAt, ownAt, prevAt, curAt, markAt, kindAt, nextAt, kind, mark, link, next, head, phase, own, prev, cur, setLink, setPhase, setPrev, setCur}
+use Rattle.rules.specs.Tables.{Tables, markAt, kindAt, kind, mark, link, next, head, phase, own, prev, cur, setLink, setPhase, setCur}
 use Rattle.rules.specs.Comparison.{claimOf}
-use Rattle.rules.specs.Steps.{moveTo, linkIn, pass, hold, withdraw, leave}
+use Rattle.rules.specs.Steps.{linkIn, pass, hold, withdraw, leave}
 use Rattle.rules.proofs.Deciding.{if-same}
 use Rattle.rules.proofs.Words.{link-put-same, link-put-other, node-put-link}
 use Rattle.rules.proofs.Compared.{Precedes}
 use Rattle.rules.proofs.View.{nodesOf, seatsOf, Linked, validating, holding}
 use Rattle.rules.proofs.Invariant.{Invariant}
 use Rattle.rules.proofs.SeatMoves.{Moved}
-use Rattle.rules.proofs.Phases.{linked-busy}
 use Rattle.rules.proofs.Known.{known-prev, own-proper}
 use Rattle.rules.proofs.SeatRules.{pass-keeps, skip-keeps, restart-keeps, reread-keeps, wake-keeps, wait-keeps, pass-reader-keeps, pass-writer-keeps, skip-validating-keeps, reader-wakes-keeps, reader-waits-keeps, hold-reader-keeps, hold-writer-keeps}
 use Rattle.rules.proofs.Insert.{reader, writer}
@@ -21,7 +19,7 @@ use Rattle.rules.proofs.Leave as leaving
 use Rattle.rules.proofs.Effects.{Room}
 use Rattle.rules.proofs.RuleEffects.{phase-stored, cur-stored, place-stored, pass-stored, start-stored, hold-stored, withdraw-stored, leave-stored}
 use Rattle.rules.proofs.Reasons.{Joined, Unlinking, takes-out, goes-past, Starting, as-reader, as-writer, Inserting, links-in, restarts, rereads, Walking, inserts, unlinks, passes, waits, Waking, wakes, stays, ReaderValidating, reader-holds, reader-unlinks, reader-passes, reader-waits, WriterValidating, writer-holds, writer-unlinks, writer-passes, withdraws, Validating, validates-reader, validates-writer}
-use Rattle.rules.proofs.Good.{Good, room, node-room, moves, passes-over, prev-in, new-prev, new-own, link-in-words, links-in-good, leaves-good}
+use Rattle.rules.proofs.Good.{Good, room, node-room, moves, passes-over, prev-in, new-own, link-in-words, links-in-good, leaves-good}
 
 -- the seat's cur goes on to a marked cur's next
 skip-good : {N S : ℕ} {t : Tables} → Good N S t → (s : ℕ) → s < S → (phase t s ≡ 1) ⊎ (phase t s ≡ 3) → cur t s ≢ 0 → mark t (cur t s) ≡ 1

@@ -1,29 +1,26 @@
 -- Steps of one seat alone, counted: they settle its claim, each is accepted until one is refused 8, and a run of them does the same.
-use Prim.Native.Nat.{ℕ, zero, suc, _+_, _*_, _≤_, _<_}
-use mathlib.Core.Path.{_≡_, refl, sym, ap, _∙_}
-use mathlib.Core.Bool.{Bool, true, false}
-use mathlib.Core.List.{List, [], _∷_}
-use mathlib.Core.Logic.{_≢_, _⊎_, inl, inr}
+use Prim.Native.Nat.{ℕ, zero, suc, _+_, _≤_, _<_}
+use mathlib.Core.Path.{_≡_, refl, sym, ap}
+use mathlib.Core.Logic.{_≢_}
 use native.Mathlib.Omega.{arith}
 use lib.ListN.{replicate}
-use borrow.Author.Tests.{eqb-true, eqb-false}
-use Rattle.rules.specs.Notation.{if_then_else_, _is_}
-use Rattle.rules.specs.Tables.{Tables, phaseAt, link, next, head, phase, own, prev, cur}
-use Rattle.rules.specs.Comparison.{claimOf}
-use Rattle.rules.specs.Fetch.{Fetched, writeClaim, enterAtHead, takeNode, takenOut}
-use Rattle.rules.specs.Answers.{Answer, refused, Done, done, answered}
-use Rattle.rules.specs.Steps.{linkIn, refetched}
-use Rattle.rules.specs.Calls.{damaged, step}
-use Rattle.rules.specs.Run.{ran, refusalOf, oneMore, runSteps, run}
+use borrow.Author.Tests.{eqb-false}
+use Rattle.rules.specs.Notation.{_is_}
+use Rattle.rules.specs.Tables.{Tables, phase}
+use Rattle.rules.specs.Fetch.{Fetched}
+use Rattle.rules.specs.Answers.{Answer, Done, answered}
+use Rattle.rules.specs.Steps.{refetched}
+use Rattle.rules.specs.Calls.{step}
+use Rattle.rules.specs.Run.{ran, refusalOf, runSteps, run}
 use Rattle.rules.specs.Demands.{stepTimes, Settled, RunEnds, all-stepped, stopped-at-8}
 use Rattle.rules.specs.declared.Ran.{Ran}
 use Rattle.rules.proofs.Logic.{branch}
 use Rattle.rules.proofs.Shape.{sound-is}
-use Rattle.rules.proofs.Reasons.{Fetching, Stepping, in-1, in-2, in-3, in-4, in-6, at-rest, steps}
+use Rattle.rules.proofs.Reasons.{in-1, in-2, in-3, in-4, in-6, at-rest, steps}
 use Rattle.rules.proofs.Accepting.{Stepped, step-refused, step-accepted, stepped}
 use Rattle.rules.proofs.Refusals.{NoneOr8, no-refusal, refusal-8, stepping-none-or-8, answer-accepted}
 use Rattle.rules.proofs.StaysBusy.{step-stays-busy}
-use Rattle.rules.proofs.Good.{Good, room}
+use Rattle.rules.proofs.Good.{Good}
 use Rattle.rules.proofs.CallKeeps.{step-keeps}
 use Rattle.rules.proofs.SoundReached.{Bounds, good-sound}
 use Rattle.rules.proofs.Within.{Within, now, later}

@@ -3,14 +3,13 @@ use mathlib.Core.Path.{_≡_, refl, sym, _∙_, ap, subst, subst₂}
 use mathlib.Core.Logic.{_≢_, _⊎_, inl, inr}
 use Prim.Native.Nat.{ℕ, _≤_, _<_}
 use native.Mathlib.Omega.{arith}
-use Rattle.rules.specs.Comparison.{Claim}
 use Rattle.rules.proofs.Deciding.{if-same}
 use Rattle.rules.proofs.Following.{Reach, here, there, reach-on, not-from-0, away-keeps-reach, away-adds-none, away-keeps-ends}
 use Rattle.rules.proofs.Compared.{Precedes}
-use Rattle.rules.proofs.View.{Nodes, Seats, claimAt, Unmarked, Reseated, Outside, walking, Linked}
-use Rattle.rules.proofs.Phases.{outside-busy, linked-busy, linked-not-gone, not-both}
-use Rattle.rules.proofs.Invariant.{Proper, Named, nothing, node, Blank, NodeShape, SeatShape, OnList, Seen, from-head, from-prev, from-cur, Ordered, Private, Stuck, Owner, Ahead, reader-comes, writer-comes, Invariant}
-use Rattle.rules.proofs.Known.{seen-pos, own-pos}
+use Rattle.rules.proofs.View.{Nodes, Seats, claimAt, Reseated, Outside, walking, Linked}
+use Rattle.rules.proofs.Phases.{linked-busy, linked-not-gone, not-both}
+use Rattle.rules.proofs.Invariant.{Proper, Named, nothing, node, NodeShape, SeatShape, OnList, Seen, from-head, from-prev, from-cur, Ordered, Private, Stuck, Ahead, reader-comes, writer-comes, Invariant}
+use Rattle.rules.proofs.Known.{seen-pos}
 use Rattle.rules.proofs.SeatShapes.{not-waiting, on-its-way}
 use Rattle.rules.proofs.SeatMoves.{not-stuck}
 

@@ -1,16 +1,15 @@
 -- Taking the marked nodes out is passing over them one after the other, so it leaves good tables good.
 use Prim.Native.Nat.{ℕ, zero, suc, _≤_, _<_}
-use mathlib.Core.Path.{_≡_, refl, sym, subst, ap, _∙_}
-use mathlib.Core.Bool.{Bool, true, false}
+use mathlib.Core.Path.{_≡_, refl, sym, ap, _∙_}
 use mathlib.Core.List.{List, [], _∷_}
 use mathlib.Core.Logic.{_≢_, _⊎_, inl, inr}
 use native.Mathlib.Omega.{arith}
-use borrow.Author.Tests.{eqb-true, eqb-false, eq-eqb, ne-eqb}
-use Rattle.rules.specs.Notation.{if_then_else_, _is_}
-use Rattle.rules.specs.Tables.{Tables, tables, nodeCount, markAt, putLink, linkWord, mark, marked, link, next, head, setLink}
+use borrow.Author.Tests.{eqb-true, eqb-false}
+use Rattle.rules.specs.Notation.{_is_}
+use Rattle.rules.specs.Tables.{Tables, tables, nodeCount, markAt, putLink, mark, marked, link, next, head, setLink}
 use Rattle.rules.specs.Fetch.{keptFrom, kept, linkThrough, takenOut}
 use Rattle.rules.proofs.Logic.{branch}
-use Rattle.rules.proofs.Deciding.{if-same, if-true}
+use Rattle.rules.proofs.Deciding.{if-true}
 use Rattle.rules.proofs.Words.{link-put-same, link-put-other, node-put-link}
 use Rattle.rules.proofs.SameWords.{node-count, put-link-self, put-link-twice}
 use Rattle.rules.proofs.Following.{Reach, here, there, reach-target, reach-next, Ends, stop, more, ends-tail, no-circle, unlink-keeps-ends}

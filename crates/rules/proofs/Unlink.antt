@@ -1,15 +1,15 @@
 -- A marked node is passed over: the link that led to it leads to its next. The invariant stays; the seat's own advance is a move of
 -- its own. Assumes that the link is the head's or that of a node that is seen.
-use mathlib.Core.Path.{_≡_, sym, _∙_, ap}
+use mathlib.Core.Path.{_≡_, _∙_, ap}
 use mathlib.Core.Logic.{_≢_, _⊎_, inl, inr}
-use Prim.Native.Nat.{ℕ, _≤_, _<_}
+use Prim.Native.Nat.{ℕ, _<_}
 use native.Mathlib.Omega.{arith}
 use Rattle.rules.proofs.Deciding.{if-same}
-use Rattle.rules.proofs.Following.{Reach, here, there, Ends, unlink-keeps-reach, unlink-adds-none, unlink-keeps-ends, unlink-keeps-list, unlink-adds-none-to-list}
+use Rattle.rules.proofs.Following.{Reach, here, there, unlink-keeps-reach, unlink-adds-none, unlink-keeps-ends, unlink-keeps-list, unlink-adds-none-to-list}
 use Rattle.rules.proofs.View.{Nodes, Seats, claimAt, Marked, Unmarked, relink, Linked}
 use Rattle.rules.proofs.Phases.{outside-busy}
 use Rattle.rules.proofs.Invariant.{Named, NodeShape, OnList, Seen, from-head, from-prev, from-cur, Ordered, Ahead, reader-comes, writer-comes, Invariant}
-use Rattle.rules.proofs.Known.{Known, seen-pos, seen-on, seen-proper, known-named, named-proper, own-pos, hidden}
+use Rattle.rules.proofs.Known.{Known, seen-pos, seen-on, known-named, named-proper, own-pos, hidden}
 
 -- links are changed, each the head's or that of a node in use, to what names a node
 pub relink-shape : {N : ℕ} {n : Nodes} (new : ℕ → ℕ) → NodeShape N n

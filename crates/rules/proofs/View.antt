@@ -2,7 +2,7 @@
 -- no rule of keeping apart looks at stays outside this view.
 use mathlib.Core.Path.{_≡_}
 use mathlib.Core.Logic.{_≢_}
-use Prim.Native.Nat.{ℕ, _≤_}
+use Prim.Native.Nat.{ℕ}
 use Rattle.rules.specs.Tables as tables
 use Rattle.rules.specs.Tables.{Tables}
 use Rattle.rules.specs.Comparison.{Claim, claim}

@@ -1,8 +1,8 @@
 -- A walk alone, along joined nodes: within the nodes ahead of it and one step more the claim waits, or it is linked in. A writer that
 -- has seen every claim of the list on its way is then sure to hold.
-use Prim.Native.Nat.{ℕ, zero, suc, _≤_, _<_}
+use Prim.Native.Nat.{ℕ, suc, _≤_, _<_}
 use mathlib.Core.Path.{_≡_, refl, sym, ap, _∙_}
-use mathlib.Core.Bool.{Bool, true, false}
+use mathlib.Core.Bool.{Bool, true}
 use mathlib.Core.Logic.{_≢_, _⊎_, inl, inr}
 use native.Mathlib.Omega.{arith}
 use Rattle.rules.specs.Tables.{Tables, startAt, endAt, kindAt, markAt, phaseAt, ownAt, prevAt, curAt, start, end, kind, mark, link, next, head, phase, own, prev, cur}
@@ -17,7 +17,7 @@ use Rattle.rules.proofs.Phases.{outside-busy}
 use Rattle.rules.proofs.Invariant.{OnList, from-head, from-cur}
 use Rattle.rules.proofs.Known.{own-proper, ordered-along}
 use Rattle.rules.proofs.RuleEffects.{pass-stored, start-stored}
-use Rattle.rules.proofs.Reasons.{Joined, Starting, as-reader, as-writer, Inserting, links-in, restarts, rereads, Walking, inserts, unlinks, passes, waits}
+use Rattle.rules.proofs.Reasons.{Joined, Starting, as-reader, as-writer, links-in, restarts, rereads, Walking, inserts, unlinks, passes, waits}
 use Rattle.rules.proofs.Good.{Good, room, link-in-words}
 use Rattle.rules.proofs.SoundReached.{Bounds}
 use Rattle.rules.proofs.Within.{Within, now, later, along-chain}

@@ -1,19 +1,17 @@
 -- A writer that validates alone holds or withdraws within the nodes ahead of it and one step more; and it holds if its way to itself is
 -- known to be clear.
-use Prim.Native.Nat.{ℕ, zero, suc, _≤_, _<_}
-use mathlib.Core.Path.{_≡_, refl, sym, ap, _∙_}
+use Prim.Native.Nat.{ℕ, suc, _≤_, _<_}
+use mathlib.Core.Path.{_≡_, sym, _∙_}
 use mathlib.Core.Bool.{Bool, true, false}
-use mathlib.Core.Logic.{_≢_, _⊎_, inl, inr}
+use mathlib.Core.Logic.{_≢_, inl, inr}
 use native.Mathlib.Omega.{arith}
-use Rattle.rules.specs.Tables.{Tables, startAt, endAt, kindAt, markAt, phaseAt, ownAt, curAt, start, end, kind, mark, link, next, phase, own, cur}
+use Rattle.rules.specs.Tables.{Tables, startAt, endAt, kindAt, markAt, phaseAt, ownAt, curAt, start, end, kind, mark, link, phase, own, cur}
 use Rattle.rules.specs.Steps.{pass}
 use Rattle.rules.specs.Calls.{step}
 use Rattle.rules.proofs.Logic.{not-of}
 use Rattle.rules.proofs.Following.{Reach, here, there, reach-source, not-from-0, beyond, Ends, ends-tail}
-use Rattle.rules.proofs.View.{validating}
-use Rattle.rules.proofs.Known.{own-proper}
 use Rattle.rules.proofs.RuleEffects.{pass-stored, hold-stored, withdraw-stored}
-use Rattle.rules.proofs.Reasons.{WriterValidating, writer-holds, writer-unlinks, writer-passes, withdraws, Validating, validates-reader, validates-writer}
+use Rattle.rules.proofs.Reasons.{writer-holds, writer-unlinks, writer-passes, withdraws, Validating, validates-reader, validates-writer}
 use Rattle.rules.proofs.Good.{Good, room}
 use Rattle.rules.proofs.SoundReached.{Bounds}
 use Rattle.rules.proofs.Within.{Within, now, later, along-chain}
