@@ -14,3 +14,4 @@ pub mod Script
 pub mod Play
 pub mod Reached
 pub mod Means
+pub mod Demands

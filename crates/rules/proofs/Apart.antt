@@ -1,0 +1,98 @@
+-- Demand 2: claims are kept apart, the list keeps its order and nothing is dropped. Of every table that is reached from a fresh one by any
+-- calls in any order with any numbers; what a call may touch is said of any tables. Nothing else stands here: the words are those of
+-- specs/Demands.antt, and each proof is a citation.
+use Prim.Native.Nat.{ℕ}
+use mathlib.Core.Path.{_≡_}
+use mathlib.Core.Bool.{true}
+use mathlib.Core.List.{List}
+use mathlib.Core.Logic.{_≢_, _⊎_}
+use Rattle.rules.specs.Tables.{Tables, start, marked, phase, own, prev}
+use Rattle.rules.specs.Comparison.{Claim, claimOf}
+use Rattle.rules.specs.Shape.{sound}
+use Rattle.rules.specs.Reach.{listed, listOf}
+use Rattle.rules.specs.Answers.{refused}
+use Rattle.rules.specs.Calls.{begin, step, release}
+use Rattle.rules.specs.Run.{run}
+use Rattle.rules.specs.Play.{Call, call, afterAll}
+use Rattle.rules.specs.Reached.{Reached}
+use Rattle.rules.specs.Demands.{Covers, claimOfSeat, Holds, Stands, Rising, seatOf, OtherSeatsKept, NodesKept, FetchKept, Nobody, stepsOf, IsItsSteps}
+use Rattle.rules.proofs.CallKeeps.{good}
+use Rattle.rules.proofs.Exclusion.{both-read}
+use Rattle.rules.proofs.ListOrder.{rising}
+use Rattle.rules.proofs.NothingDropped.{stands-still}
+use Rattle.rules.proofs.RunSteps.{run-is-its-steps, calls-reached}
+use Rattle.rules.proofs.SoundReached.{reached-sound}
+use Rattle.rules.proofs.Refusals.{sound-never-damaged}
+use Rattle.rules.proofs.SeatFrames.{other-seats-kept}
+use Rattle.rules.proofs.NodeFrames.{step-1-kept, step-2-kept, step-3-kept, step-4-kept, step-5-kept, step-6-kept, begin-kept, release-kept}
+use Rattle.rules.proofs.ClaimFrames as frames
+
+-- ---- two seats that hold share a frame only if both read
+pub apart : {N S : ℕ} {t : Tables} → Reached N S t → (i j frame : ℕ) → i ≢ j → Holds t i → Holds t j
+    → Covers (claimOfSeat t i) frame → Covers (claimOfSeat t j) frame → (claimOfSeat t i .kind ≡ 1) × (claimOfSeat t j .kind ≡ 1)
+apart r i j frame d hi hj ci cj = both-read (good r .inv) i j frame d hi hj (ci .0) (ci .1) (cj .0) (cj .1)
+
+-- ---- the list is ordered by first frame
+pub ordered : {N S : ℕ} {t : Tables} → Reached N S t → Rising (start t) (listOf t)
+ordered r = rising (good r)
+
+-- ---- a claim that stands on the list stands there after any one call, or is marked
+pub nothing-dropped : {N S : ℕ} {t : Tables} → Reached N S t → (c : Call) (a : ℕ) → Stands t a
+    → (listed (call t c .after) a ≡ true) ⊎ (marked (call t c .after) a ≡ true)
+nothing-dropped r = stands-still (good r)
+
+-- a run is its steps, and between them every table is reached too, so nothing is dropped by a run
+pub run-is-steps : (t : Tables) (schedule : List ℕ) (budget : ℕ) → IsItsSteps t schedule (run t schedule budget)
+run-is-steps = run-is-its-steps
+
+pub run-reaches : {N S : ℕ} {t : Tables} → Reached N S t → (schedule : List ℕ) (steps : ℕ) → Reached N S (afterAll t (stepsOf schedule steps))
+run-reaches r schedule steps = calls-reached r (stepsOf schedule steps)
+
+-- ---- no table that is reached is damaged, so no call on one is refused 1
+pub always-sound : {N S : ℕ} {t : Tables} → Reached N S t → sound t ≡ true
+always-sound r = reached-sound r
+
+pub never-damaged : {N S : ℕ} {t : Tables} → Reached N S t → (c : Call) → call t c .answer ≢ refused 1
+never-damaged {t = t} r = sound-never-damaged t (reached-sound r)
+
+-- ---- what a call may touch, in any tables
+-- of the seats its own alone
+pub touches-one-seat : (t : Tables) (c : Call) → OtherSeatsKept (seatOf c) t (call t c .after)
+touches-one-seat = other-seats-kept
+
+-- of the nodes, by its rule: begin, the node that it takes
+pub begin-touches : (t : Tables) (s : ℕ) (c : Claim) → FetchKept s t (begin t s c .after)
+begin-touches = begin-kept
+
+-- release, the mark of own
+pub release-touches : (t : Tables) (s : ℕ) → NodesKept Nobody (λ a. a ≡ own t s) Nobody t (release t s .after)
+release-touches = release-kept
+
+-- a step, by its phase: the links of own and prev, where the claim is linked in or a marked node is unlinked
+pub walking-touches : (t : Tables) (s : ℕ) → phase t s ≡ 1 → NodesKept (λ a. (a ≡ own t s) ⊎ (a ≡ prev t s)) Nobody Nobody t (step t s .after)
+walking-touches = step-1-kept
+
+pub waiting-touches : (t : Tables) (s : ℕ) → phase t s ≡ 2 → NodesKept Nobody Nobody Nobody t (step t s .after)
+waiting-touches = step-2-kept
+
+-- the link of prev, where a marked node is unlinked, and the mark of own, where the claim is withdrawn
+pub validating-touches : (t : Tables) (s : ℕ) → phase t s ≡ 3 → NodesKept (λ a. a ≡ prev t s) (λ a. a ≡ own t s) Nobody t (step t s .after)
+validating-touches = step-3-kept
+
+pub reader-waiting-touches : (t : Tables) (s : ℕ) → phase t s ≡ 4 → NodesKept Nobody Nobody Nobody t (step t s .after)
+reader-waiting-touches = step-4-kept
+
+pub holding-touches : (t : Tables) (s : ℕ) → phase t s ≡ 5 → step t s .after ≡ t
+holding-touches = step-5-kept
+
+pub withdrawn-touches : (t : Tables) (s : ℕ) → phase t s ≡ 6 → FetchKept s t (step t s .after)
+withdrawn-touches = step-6-kept
+
+-- no call changes a claim but that of the node it takes
+pub claims-kept : (t : Tables) (c : Call) (a : ℕ) → a ≢ own (call t c .after) (seatOf c) → claimOf (call t c .after) a ≡ claimOf t a
+claims-kept = frames.claims-kept
+
+-- so on a table that is reached every other seat keeps its claim
+pub others-keep-claims : {N S : ℕ} {t : Tables} → Reached N S t → (c : Call) (r : ℕ) → r ≢ seatOf c
+    → claimOfSeat (call t c .after) r ≡ claimOfSeat t r
+others-keep-claims r = frames.others-claims-kept (good r)

@@ -1,0 +1,36 @@
+-- Demand 3: nobody waits without cause. From every table that is reached, a seat with a claim that is stepped 6·N + 8 times, with no other
+-- call between, holds, or waits at a claim that clashes with its own and stands, or is refused 8 because no node is free for it.
+-- Nothing else stands here: the words are those of specs/Demands.antt, and each proof is a citation.
+use Prim.Native.Nat.{ℕ, _+_, _*_, _≤_}
+use mathlib.Core.Path.{_≡_}
+use mathlib.Core.Logic.{_≢_, _⊎_}
+use native.Mathlib.Omega.{arith}
+use lib.ListN.{replicate}
+use Rattle.rules.specs.Tables.{Tables, phase}
+use Rattle.rules.specs.Answers.{refused}
+use Rattle.rules.specs.Calls.{step}
+use Rattle.rules.specs.Run.{refusalOf, run}
+use Rattle.rules.specs.Reached.{Reached}
+use Rattle.rules.specs.Demands.{stepTimes, Settled, RunEnds}
+use Rattle.rules.proofs.NobodyWaits.{settled, none-or-8, settled-by-run, run-ends}
+
+pub nobody-waits-without-cause : {N S : ℕ} {t : Tables} → Reached N S t → (s : ℕ) → phase t s ≢ 0 → Settled (stepTimes (6 * N + 8) t s) s
+nobody-waits-without-cause {N} r s d = settled r s d (6 * N + 8) (omega arith)
+
+-- each of these steps, and any after them, is accepted or refused 8
+pub steps-accepted : {N S : ℕ} {t : Tables} → Reached N S t → (s : ℕ) → phase t s ≢ 0
+    → (k : ℕ) → (refusalOf (step (stepTimes k t s) s .answer) ≡ 0) ⊎ (step (stepTimes k t s) s .answer ≡ refused 8)
+steps-accepted = none-or-8
+
+-- so it is with a run of that many entries of the seat and a budget as large
+pub run-settles : {N S : ℕ} {t : Tables} → Reached N S t → (s : ℕ) → phase t s ≢ 0 → (budget : ℕ) → 6 * N + 8 ≤ budget
+    → Settled (run t (replicate (6 * N + 8) s) budget .after) s
+run-settles {N} r s d budget h = settled-by-run r s d (6 * N + 8) (omega arith) budget h
+
+pub run-stops : {N S : ℕ} {t : Tables} → Reached N S t → (s : ℕ) → phase t s ≢ 0 → (k budget : ℕ) → k ≤ budget
+    → RunEnds k (run t (replicate k s) budget .answer)
+run-stops = run-ends
+
+-- fewer steps are enough, and any number from there on
+pub fewer-steps-settle : {N S : ℕ} {t : Tables} → Reached N S t → (s : ℕ) → phase t s ≢ 0 → (k : ℕ) → 5 * N + 7 ≤ k → Settled (stepTimes k t s) s
+fewer-steps-settle = settled
