@@ -14,22 +14,22 @@ const NODE_WORDS: usize = 5;
 pub const MOST_NODES: usize = 256;
 
 /// "Seats: S seats of four words: phase, own, prev, cur. S is 1 to 64, numbered from 0."
-const PHASE: usize = 0;
-const OWN: usize = 1;
-const PREV: usize = 2;
-const CUR: usize = 3;
-const SEAT_WORDS: usize = 4;
+pub const PHASE: usize = 0;
+pub const OWN: usize = 1;
+pub const PREV: usize = 2;
+pub const CUR: usize = 3;
+pub const SEAT_WORDS: usize = 4;
 pub const MOST_SEATS: usize = 64;
 
 type Seat = [u32; SEAT_WORDS];
 
-const IDLE: u32 = 0;
-const WALKING: u32 = 1;
-const WAITING_TO_ENTER: u32 = 2;
-const VALIDATING: u32 = 3;
-const READER_WAITING: u32 = 4;
-const HOLDING: u32 = 5;
-const WITHDRAWN: u32 = 6;
+pub const IDLE: u32 = 0;
+pub const WALKING: u32 = 1;
+pub const WAITING_TO_ENTER: u32 = 2;
+pub const VALIDATING: u32 = 3;
+pub const READER_WAITING: u32 = 4;
+pub const HOLDING: u32 = 5;
+pub const WITHDRAWN: u32 = 6;
 
 /// "Kind 1 reads, 2 writes."
 const READS: u32 = 1;
@@ -85,7 +85,7 @@ fn next(nodes: &[u32], node: u32) -> u32 {
 }
 
 /// "Mark 1 means released or withdrawn."
-fn marked(nodes: &[u32], node: u32) -> bool {
+pub fn marked(nodes: &[u32], node: u32) -> bool {
     word(nodes, node, MARK) == 1
 }
 

@@ -57,7 +57,7 @@ fn contents(fields: &[&[u8]]) -> Option<Script> {
     let [nodes, seats, count] = numbers(fields)?;
     let within = |value: u32, least: usize, most: usize| (least..=most).contains(&(value as usize));
     let fits = within(nodes, 1, MOST_NODES) && within(seats, 1, MOST_SEATS) && within(count, 0, MOST_ROWS);
-    fits.then(|| Script { nodes, seats, count, rows: [[0; 5]; MOST_ROWS] })
+    fits.then_some(Script { nodes, seats, count, rows: [[0; 5]; MOST_ROWS] })
 }
 
 /// "`b seat start end kind`, `s seat`, `r seat`."

@@ -1,7 +1,9 @@
 //! The histories H1 to H11 of document 01, played on the second machine, and each refusal and each bad line by itself.
 
+use crate::generate::{script, FLAWS};
 use crate::machine::{begin, board, clear, free_count, fresh, release, run, step, Answer};
 use crate::script::{play, read_script};
+use crate::tally::Tally;
 
 /// Plays bodies separated by `;` on N nodes and S seats, and gives the answers and the closing lines separated by `;`.
 fn played(nodes: u32, seats: u32, bodies: &str) -> String {
@@ -135,7 +137,7 @@ fn lengths_that_do_not_fit_are_refused() {
         assert_eq!(free_count(&vec![0; nodes], &vec![0; seats]), Err(1), "{nodes} {seats}");
     }
     assert_eq!(free_count(&vec![0; 1281], &vec![0; 256]), Ok(256));
-    assert_eq!(free_count(&vec![0; 6], &vec![0; 4]), Ok(1));
+    assert_eq!(free_count(&[0; 6], &[0; 4]), Ok(1));
 }
 
 /// A writer of each seat's own frame that holds.
@@ -232,4 +234,48 @@ fn bad_scripts_name_the_first_wrong_line() {
     assert_eq!(line(b"1 1 1\ns 0\ns 0\n"), Some(3));
     assert_eq!(line(&[b'1'; 16385]), Some(0));
     assert_eq!(line(&[b'1'; 16384]), Some(1));
+}
+
+#[test]
+fn the_generated_scripts_reach_every_rule() {
+    let mut tally = Tally::default();
+    for (flaw, bytes) in (0..400).map(|number| script(1, number)) {
+        tally.count_script(flaw, &bytes);
+    }
+    let steps = [
+        "step: begins to wait in phase 2",
+        "step: waits on in phase 2",
+        "step: wait in phase 2 is over",
+        "step: reader begins to wait in phase 4",
+        "step: reader waits on in phase 4",
+        "step: reader's wait in phase 4 is over",
+        "step: insert that links",
+        "step: insert that finds another link",
+        "step: restart behind a marked prev",
+        "step: pass while walking",
+        "step: pass while validating",
+        "step: unlink while walking",
+        "step: unlink while validating",
+        "step: hold",
+        "step: of a holder",
+        "step: withdrawal",
+        "step: fetch after withdrawal, the same node",
+        "step: fetch after withdrawal, another node",
+        "fetch that takes marked nodes out",
+        "script with a list longer than 30",
+    ];
+    let refusals =
+        ["2 of begin", "3 of begin", "4 of begin", "5 of begin", "8 of begin", "2 of step", "6 of step", "8 of step"];
+    for name in steps {
+        assert!(tally.of(name) >= 10, "{name}");
+    }
+    for refusal in refusals.iter().chain(&["2 of release", "7 of release"]) {
+        assert!(tally.of(&format!("refusal {refusal}")) >= 10, "{refusal}");
+    }
+    for (flaw, _) in FLAWS {
+        assert!(tally.of(&format!("script: {flaw}")) >= 3, "{flaw}");
+    }
+    for line in ["bad 0", "bad 1", "bad 2", "bad, a later line"] {
+        assert!(tally.of(line) >= 3, "{line}");
+    }
 }
