@@ -3,14 +3,14 @@
 //! Behind the test of sound shape every name of a node is in bounds, and the functions that follow rely on that.
 
 /// "Nodes: one head word, then N nodes of five words: start, end, kind, next, mark. N is 1 to 256."
-const HEAD: usize = 0;
-const HEAD_WORDS: usize = 1;
-const START: usize = 0;
-const END: usize = 1;
-const KIND: usize = 2;
-const NEXT: usize = 3;
-const MARK: usize = 4;
-const NODE_WORDS: usize = 5;
+pub const HEAD: usize = 0;
+pub const HEAD_WORDS: usize = 1;
+pub const START: usize = 0;
+pub const END: usize = 1;
+pub const KIND: usize = 2;
+pub const NEXT: usize = 3;
+pub const MARK: usize = 4;
+pub const NODE_WORDS: usize = 5;
 pub const MOST_NODES: usize = 256;
 
 /// "Seats: S seats of four words: phase, own, prev, cur. S is 1 to 64, numbered from 0."
@@ -72,7 +72,7 @@ fn seat_count(seats: &[u32]) -> usize {
 }
 
 /// "Nodes are numbered 1 to N": 0 is no node and has no place.
-fn place(node: u32, field: usize) -> usize {
+pub fn place(node: u32, field: usize) -> usize {
     HEAD_WORDS + NODE_WORDS * (node as usize - 1) + field
 }
 
@@ -104,7 +104,7 @@ fn store_seat(seats: &mut [u32], number: u32, seat: Seat) {
 }
 
 /// "'The link of prev' is head if prev is 0, else prev's next": the place of that word.
-fn link(prev: u32) -> usize {
+pub fn link(prev: u32) -> usize {
     if prev == 0 {
         HEAD
     } else {
