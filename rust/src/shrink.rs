@@ -62,51 +62,80 @@ fn words(case: &mut Case) -> Vec<&mut u32> {
     words
 }
 
-/// Runs of words that may be left out: entries of a run.
-fn without_entry(case: &Case, index: usize) -> Case {
-    let mut smaller = case.clone();
-    if let Call::Run { entries, .. } = &mut smaller.call {
-        entries.remove(index);
-    }
-    smaller
+/// The smallest case found so far on which the machines differ.
+struct Search<Differs> {
+    smallest: Case,
+    differs: Differs,
 }
 
-/// Cases that are smaller by one thing, in the order in which they are tried.
-fn smaller_cases(case: &Case) -> impl Iterator<Item = Case> + '_ {
-    let nodes = case.nodes.len().saturating_sub(HEAD_WORDS) / NODE_WORDS;
-    let seats = case.seats.len() / SEAT_WORDS;
-    let entries = if let Call::Run { entries, .. } = &case.call { entries.len() } else { 0 };
-    let shorter = (0..3).filter_map(move |list| {
-        let mut smaller = case.clone();
-        lists(&mut smaller).get_mut(list)?.pop()?;
-        Some(smaller)
-    });
-    let lowered = (0..words(&mut case.clone()).len()).flat_map(move |at| {
-        [|_| 0, |_| 1, |word| word / 2, |word| word - 1].into_iter().filter_map(move |lower: fn(u32) -> u32| {
-            let mut smaller = case.clone();
-            let word = &mut *words(&mut smaller)[at];
-            let before = *word;
-            *word = lower(before.max(1));
-            let falls = *word < before;
-            falls.then_some(smaller)
-        })
-    });
-    let fewer_nodes = (0..nodes).rev().map(move |index| without_node(case, index));
-    let fewer_seats = (0..seats).rev().map(move |index| without_seat(case, index));
-    let fewer_entries = (0..entries).map(move |index| without_entry(case, index));
-    fewer_nodes.chain(fewer_seats).chain(fewer_entries).chain(shorter).chain(lowered)
+impl<Differs: Fn(&Case) -> bool> Search<Differs> {
+    fn take(&mut self, smaller: Case) -> bool {
+        let taken = (self.differs)(&smaller);
+        if taken {
+            self.smallest = smaller;
+        }
+        taken
+    }
+
+    /// The case with one of its lists (nodes, seats, and entries or rows) without its last word.
+    fn shorten(&mut self, list: usize) -> bool {
+        let mut smaller = self.smallest.clone();
+        let shorter = lists(&mut smaller).get_mut(list).map_or(false, |list| list.pop().is_some());
+        shorter && self.take(smaller)
+    }
+
+    fn leave_entry_out(&mut self, index: usize) -> bool {
+        let mut smaller = self.smallest.clone();
+        if let Call::Run { entries, .. } = &mut smaller.call {
+            entries.remove(index);
+        }
+        self.take(smaller)
+    }
+
+    /// One of the words lowered: to 0, else by half of it, else by a quarter, and so on.
+    fn lower(&mut self, at: usize) -> bool {
+        let word = *words(&mut self.smallest)[at];
+        let falls = (0..32).map(|halvings| word >> halvings).take_while(|&fall| fall > 0);
+        for fall in falls {
+            let mut smaller = self.smallest.clone();
+            *words(&mut smaller)[at] -= fall;
+            if self.take(smaller) {
+                return true;
+            }
+        }
+        false
+    }
+
+    /// Tries everything once, and says whether anything got smaller.
+    fn pass(&mut self) -> bool {
+        let mut taken = false;
+        for index in (0..self.smallest.nodes.len().saturating_sub(HEAD_WORDS) / NODE_WORDS).rev() {
+            taken |= self.take(without_node(&self.smallest, index));
+        }
+        for index in (0..self.smallest.seats.len() / SEAT_WORDS).rev() {
+            taken |= self.take(without_seat(&self.smallest, index));
+        }
+        let entries = if let Call::Run { entries, .. } = &self.smallest.call { entries.len() } else { 0 };
+        for index in (0..entries).rev() {
+            taken |= self.leave_entry_out(index);
+        }
+        for list in 0..3 {
+            while self.shorten(list) {
+                taken = true;
+            }
+        }
+        for at in 0..words(&mut self.smallest).len() {
+            taken |= self.lower(at);
+        }
+        taken
+    }
 }
 
 /// The smallest case found on which the machines differ, from one on which they do.
 pub fn shrink(case: Case, differs: impl Fn(&Case) -> bool) -> Case {
-    let mut smallest = case;
-    loop {
-        let smaller = smaller_cases(&smallest).find(|smaller| differs(smaller));
-        match smaller {
-            Some(smaller) => smallest = smaller,
-            None => return smallest,
-        }
-    }
+    let mut search = Search { smallest: case, differs };
+    while search.pass() {}
+    search.smallest
 }
 
 fn table_text(words: &[u32], first: usize, width: usize) -> String {
@@ -126,16 +155,14 @@ pub fn difference_text(case: &Case, ours: &Library, theirs: &Library) -> String 
         case.call
     );
     for (name, library) in [("second", ours), ("other", theirs)] {
-        let outcome = outcome(library, case);
-        text += &format!(
-            "{name}: answer {} {}, covered {}\n  nodes {}\n  seats {}\n  rows  {}\n",
-            outcome.answer >> 32,
-            outcome.answer as u32,
-            outcome.covered,
-            table_text(outcome.nodes.words(), HEAD_WORDS, NODE_WORDS),
-            table_text(outcome.seats.words(), 0, SEAT_WORDS),
-            table_text(outcome.rows.words(), 0, ROW_WORDS),
-        );
+        let after = outcome(library, case);
+        let (nodes, seats) = (after.nodes.words(), after.seats.words());
+        text += &format!("{name}: answer {} {}\n", after.answer >> 32, after.answer as u32);
+        text += &format!("  nodes {}\n", table_text(nodes, HEAD_WORDS, NODE_WORDS));
+        text += &format!("  seats {}\n", table_text(seats, 0, SEAT_WORDS));
+        if let Call::Board { .. } = case.call {
+            text += &format!("  rows  {}\n  covered {}\n", table_text(after.rows.words(), 0, ROW_WORDS), after.covered);
+        }
     }
     text
 }
