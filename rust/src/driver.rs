@@ -9,6 +9,7 @@ use crate::tables::{any_words, damaged, sound_words, Tables, DAMAGES};
 
 /// The functions of one machine.
 #[derive(Clone, Copy)]
+#[allow(clippy::type_complexity)]
 pub struct Library {
     pub clear: fn(&mut [u32], &mut [u32]) -> u64,
     pub begin: fn(&mut [u32], &mut [u32], u32, u32, u32, u32) -> u64,
@@ -89,21 +90,32 @@ impl Guarded {
     }
 }
 
+/// Makes the call; the board's rows are given apart.
+pub fn make(
+    library: &Library,
+    call: &Call,
+    nodes: &mut [u32],
+    seats: &mut [u32],
+    rows: &mut [u32],
+    covered: &mut u64,
+) -> u64 {
+    match call {
+        Call::Clear => (library.clear)(nodes, seats),
+        &Call::Begin { seat, start, end, kind } => (library.begin)(nodes, seats, seat, start, end, kind),
+        &Call::Step { seat } => (library.step)(nodes, seats, seat),
+        &Call::Release { seat } => (library.release)(nodes, seats, seat),
+        Call::Run { entries, budget } => (library.run)(nodes, seats, entries, *budget),
+        Call::Board { .. } => (library.board)(nodes, seats, rows, covered),
+        Call::FreeCount => (library.free_count)(nodes, seats),
+    }
+}
+
 pub fn outcome(library: &Library, case: &Case) -> Outcome {
-    let mut covered = 0xdead_0004;
+    let mut covered = 0xdead_0003;
     let mut nodes = Guarded::new(&case.nodes);
     let mut seats = Guarded::new(&case.seats);
     let mut rows = Guarded::new(if let Call::Board { rows } = &case.call { rows } else { &[] });
-    let (lent_nodes, lent_seats) = (nodes.lend(), seats.lend());
-    let answer = match &case.call {
-        Call::Clear => (library.clear)(lent_nodes, lent_seats),
-        &Call::Begin { seat, start, end, kind } => (library.begin)(lent_nodes, lent_seats, seat, start, end, kind),
-        &Call::Step { seat } => (library.step)(lent_nodes, lent_seats, seat),
-        &Call::Release { seat } => (library.release)(lent_nodes, lent_seats, seat),
-        Call::Run { entries, budget } => (library.run)(lent_nodes, lent_seats, entries, *budget),
-        Call::Board { .. } => (library.board)(lent_nodes, lent_seats, rows.lend(), &mut covered),
-        Call::FreeCount => (library.free_count)(lent_nodes, lent_seats),
-    };
+    let answer = make(library, &case.call, nodes.lend(), seats.lend(), rows.lend(), &mut covered);
     Outcome { answer, covered, nodes, seats, rows }
 }
 
