@@ -23,6 +23,10 @@ use Rattle.rules.proofs.Good.{Good, room, node-room, prev-in}
 use Rattle.rules.proofs.StepKeeps.{walking-keeps, waiting-keeps, reader-waiting-keeps, validating-keeps}
 use Rattle.rules.proofs.SoundReached.{Bounds, good-sound}
 
+-- the step of seat s and of no other
+abbrev pub alone : ℕ → Tables → Tables
+alone s t = step t s .after
+
 -- the claim need not be stepped on: it holds, it waits at an unmarked claim, or no node is free for it
 pub data AtRest (s : ℕ) (t : Tables) : Type 0 where
   rests-holding : phase t s ≡ 5 → AtRest s t

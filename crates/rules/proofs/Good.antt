@@ -1,7 +1,7 @@
 -- Good tables: lengths for N nodes and S seats, and the invariant. Each rule of a step that fetches nothing leaves good tables good, and
 -- so does release.
 use Prim.Native.Nat.{ℕ, _+_, _*_, _≤_, _<_}
-use mathlib.Core.Path.{_≡_, refl, sym, subst, _∙_}
+use mathlib.Core.Path.{_≡_, refl, sym, subst, subst₂, _∙_}
 use mathlib.Core.List.{List}
 use mathlib.Core.Logic.{_≢_, _⊎_, inl, inr}
 use native.Mathlib.Omega.{arith}
@@ -32,6 +32,11 @@ room g s h = let l = g .seats-long in omega arith
 
 pub node-room : {N S : ℕ} {t : Tables} → Good N S t → (a : ℕ) → a ≤ N → beforeNodes + nodeWidth * a ≤ length (t .nodes)
 node-room g a h = let l = g .nodes-long in omega arith
+
+-- words outside the view do not matter
+pub same-view : {N S : ℕ} {t u : Tables} → Good N S t → length (u .nodes) ≡ length (t .nodes) → length (u .seats) ≡ length (t .seats)
+    → nodesOf t ≡ nodesOf u → seatsOf t ≡ seatsOf u → Good N S u
+same-view {N} g l l′ e e′ = record { nodes-long = l ∙ g .nodes-long; seats-long = l′ ∙ g .seats-long; inv = subst₂ (Invariant N) e e′ (g .inv) }
 
 -- ---- a seat moves
 pub moves : {N S : ℕ} {t : Tables} {s : ℕ} {words : ℕ → ℕ} {seats : List ℕ} → Good N S t → Seated (t .seats) seats s words

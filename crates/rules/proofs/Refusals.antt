@@ -1,7 +1,8 @@
 -- With which refusals a call on sound tables can answer: an accepted begin or step with none or 8, and none with 1.
-use Prim.Native.Nat.{ℕ}
+use Prim.Native.Nat.{ℕ, zero, suc}
 use mathlib.Core.Path.{_≡_, refl, sym, ap, _∙_}
 use mathlib.Core.Bool.{true}
+use mathlib.Core.List.{List, [], _∷_}
 use mathlib.Core.Logic.{_≢_}
 use native.Mathlib.Omega.{arith}
 use Rattle.rules.specs.Notation.{_is_}
@@ -9,13 +10,16 @@ use Rattle.rules.specs.Tables.{Tables, phase}
 use Rattle.rules.specs.Shape.{sound}
 use Rattle.rules.specs.Comparison.{Claim}
 use Rattle.rules.specs.Fetch.{Fetched}
-use Rattle.rules.specs.Answers.{Answer, refused, Done, answerOf}
+use Rattle.rules.specs.Answers.{Answer, node, out, on, wait, held, back, refused, Done, answerOf}
 use Rattle.rules.specs.Steps.{refetched}
-use Rattle.rules.specs.Calls.{begun}
-use Rattle.rules.specs.Run.{refusalOf}
+use Rattle.rules.specs.Calls.{begun, step}
+use Rattle.rules.specs.Run.{refusalOf, runSteps, run}
 use Rattle.rules.specs.Play.{Call, beginCall, stepCall, releaseCall, call}
+use Rattle.rules.specs.Reached.{Reached, called}
+use Rattle.rules.specs.declared.Ran.{Ran}
 use Rattle.rules.proofs.Logic.{branch, clash}
 use Rattle.rules.proofs.Reasons.{Stepping, in-1, in-2, in-3, in-4, in-6, at-rest}
+use Rattle.rules.proofs.SoundReached.{reached-sound}
 use Rattle.rules.proofs.Accepting.{Refuses, Beginning, begin-refused, begin-accepted, beginning, Stepped, step-refused, step-accepted, stepped, Releasing, release-refused, release-accepted, releasing}
 
 pub answer-accepted : (t : Tables) (s : ℕ) → refusalOf (answerOf t s) ≡ 0
@@ -73,3 +77,26 @@ unfolding call
 sound-never-damaged t e (beginCall s c) = begin-not-1 t e s (beginning t s c)
 sound-never-damaged t e (stepCall s) = step-not-1 t e s (stepped t s)
 sound-never-damaged t e (releaseCall s) = release-not-1 t e s (releasing t s)
+
+-- ---- nor is a run, nor any of its steps
+refusal-1 : (a : Answer) → refusalOf a ≡ 1 → a ≡ refused 1
+refusal-1 (node n) e = absurd (omega arith)
+refusal-1 out e = absurd (omega arith)
+refusal-1 on e = absurd (omega arith)
+refusal-1 (wait n) e = absurd (omega arith)
+refusal-1 held e = absurd (omega arith)
+refusal-1 back e = absurd (omega arith)
+refusal-1 (refused k) e = ap refused e
+
+run-steps-not-1 : {N S : ℕ} (budget : ℕ) (t : Tables) (schedule : List ℕ) → Reached N S t → runSteps budget t schedule .answer .refusal ≢ 1
+unfolding runSteps call
+run-steps-not-1 zero t schedule r = omega arith
+run-steps-not-1 (suc budget) t [] r = omega arith
+run-steps-not-1 (suc budget) t (s ∷ rest) r =
+    branch (λ (d : Done Ran). d .answer .refusal ≢ 1) (refusalOf (step t s .answer) is 0)
+    (λ e. run-steps-not-1 budget (step t s .after) rest (called r (stepCall s)))
+    (λ e q. sound-never-damaged t (reached-sound r) (stepCall s) (refusal-1 (step t s .answer) q))
+
+pub run-not-1 : {N S : ℕ} {t : Tables} → Reached N S t → (schedule : List ℕ) (budget : ℕ) → run t schedule budget .answer .refusal ≢ 1
+unfolding run
+run-not-1 {t = t} r schedule budget = rw (reached-sound r) (run-steps-not-1 budget t schedule r)

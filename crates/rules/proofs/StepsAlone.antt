@@ -24,7 +24,7 @@ use Rattle.rules.proofs.Good.{Good}
 use Rattle.rules.proofs.CallKeeps.{step-keeps}
 use Rattle.rules.proofs.SoundReached.{Bounds, good-sound}
 use Rattle.rules.proofs.Within.{Within, now, later}
-use Rattle.rules.proofs.Alone.{AtRest, accepted}
+use Rattle.rules.proofs.Alone.{alone, AtRest, accepted}
 use Rattle.rules.proofs.Causes.{rest-stays, rest-settled}
 
 pub times-good : {N S : ℕ} (k : ℕ) {t : Tables} (s : ℕ) → Good N S t → Good N S (stepTimes k t s)
@@ -39,12 +39,12 @@ module _ {N S : ℕ} (b : Bounds N S) (s : ℕ) (s-in : s < S) where
   still-at-rest zero t g r = r
   still-at-rest (suc k) t g r = rw (rest-stays b s s-in g r) (still-at-rest k t g r)
 
-  at-rest-after : (k : ℕ) (t : Tables) → Good N S t → Within (λ t. step t s .after) (AtRest s) k t → AtRest s (stepTimes k t s)
+  at-rest-after : (k : ℕ) (t : Tables) → Good N S t → Within (alone s) (AtRest s) k t → AtRest s (stepTimes k t s)
   unfolding stepTimes
   at-rest-after k t g (now r) = still-at-rest k t g r
   at-rest-after (suc k) t g (later w) = at-rest-after k (step t s .after) (step-keeps g s) w
 
-  pub settled-after : (k : ℕ) (t : Tables) → Good N S t → Within (λ t. step t s .after) (AtRest s) k t → Settled (stepTimes k t s) s
+  pub settled-after : (k : ℕ) (t : Tables) → Good N S t → Within (alone s) (AtRest s) k t → Settled (stepTimes k t s) s
   settled-after k t g w = rest-settled b s s-in (times-good k s g) (at-rest-after k t g w)
 
 -- ---- each step is accepted, or refused 8
