@@ -3,6 +3,8 @@ pub mod Histories
 pub mod Logic
 pub mod Words
 pub mod Shape
+pub mod Refused
+pub mod OneAnswer
 pub mod Deciding
 pub mod Following
 pub mod Pigeonhole

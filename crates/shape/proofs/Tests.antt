@@ -130,3 +130,7 @@ few-seats l t n e f =
     let w = both (nodesFit (tables l t)) (seatsFit (tables l t)) f in
     let y = all3 (eqb (length t) (seatWidth * seatCountOf t)) (leb 1 (seatCountOf t)) (leb (seatCountOf t) 64) (w .1) in
     rw e (leb-true (seatCountOf t) 64 (y .2))
+
+-- what a caller knows after the test
+pub now-sound : (l t : List ℕ) (b : Bool) → b ≡ sound (tables l t) → b ≡ true → sound (tables l t) ≡ true
+now-sound l t b p e = sym p ∙ e

@@ -3,7 +3,8 @@
 ghost use mathlib.Core.Path.{_≡_};
 ghost use lib.ListN.{getD, set};
 ghost use mathlib.Core.List.{[]};
-ghost use Rattle.rules.specs.Tables.{tables, nodeWord, putNode, linkWord, putLink, seatWord, putSeat, nodeCountOf, seatCountOf};
+ghost use Rattle.rules.specs.Tables.{tables, beforeNodes, nodeWidth, seatWidth, nodeWord, putNode, linkWord, putLink, seatWord, putSeat, nodeCountOf, seatCountOf, zeros};
+ghost use Prim.Native.Nat.{_+_, _*_};
 ghost use Rattle.rules.specs.Shape.{nodesFit, seatsFit};
 
 // Where the words of a node stand in it.
@@ -132,4 +133,30 @@ pub fn seats_fit(seats: &[u32]) -> bool
 {
     let s = seat_count(seats);
     (seats.len() == SEAT_WIDTH * s) & (1 <= s) & (s <= 64)
+}
+
+// How many words the tables of n nodes and of s seats have.
+pub fn node_words(n: u32) -> usize
+    ensures { λ r. ⌜ r ≡ beforeNodes + nodeWidth * n ⌝ }
+{
+    BEFORE_NODES + NODE_WIDTH * n as usize
+}
+
+pub fn seat_words(s: u32) -> usize
+    ensures { λ r. ⌜ r ≡ seatWidth * s ⌝ }
+{
+    SEAT_WIDTH * s as usize
+}
+
+// The longest tables there are, fresh.
+pub fn fresh_nodes() -> [u32; 1281]
+    ensures { λ r. ⌜ r ≡ zeros (beforeNodes + nodeWidth * 256) ⌝ }
+{
+    [0; 1281]
+}
+
+pub fn fresh_seats() -> [u32; 256]
+    ensures { λ r. ⌜ r ≡ zeros (seatWidth * 64) ⌝ }
+{
+    [0; 256]
 }

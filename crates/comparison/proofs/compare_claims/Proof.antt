@@ -1,10 +1,8 @@
+-- `comparison::compare_claims` meets its promise.
 use Rattle.comparison.proofs.Signs.{compare-after, compare-before, compare-clash}
 use borrow.Author.Needs.{needs}
 use Rattle.comparison.proofs.compare_claims.Statement.{statement}
 use Rattle.comparison.proofs.compare_claims.Tie as tie
-use Rattle.comparison.proofs.compare_claims.Reads as reads
-use Rattle.comparison.proofs.compare_claims.Lts as lts
-use Rattle.comparison.proofs.lies_behind.Reads as lies-behind-reads
 
 lies-behind-requires : tie.Need-lies-behind-requires
 lies-behind-requires c κs = search needs

@@ -1,11 +1,8 @@
+-- `comparison::compare_nodes` meets its promise.
 use Rattle.comparison.proofs.Signs.{of-words}
 use borrow.Author.Needs.{needs}
 use Rattle.comparison.proofs.compare_nodes.Statement.{statement}
 use Rattle.comparison.proofs.compare_nodes.Tie as tie
-use Rattle.comparison.proofs.compare_nodes.Reads as reads
-use Rattle.comparison.proofs.compare_nodes.Lts as lts
-use Rattle.comparison.proofs.compare_claims.Reads as compare-claims-reads
-use Rattle.words.proofs.node_word.Reads as node-word-reads
 
 node-word-requires : tie.Need-node-word-requires
 node-word-requires c κs = search needs

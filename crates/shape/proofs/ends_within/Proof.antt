@@ -1,3 +1,4 @@
+-- `shape::ends_within` meets its promise.
 use Rattle.rules.specs.Shape.{endsWithin}
 use Rattle.rules.specs.Tables.{tables}
 use mathlib.Core.List.{[]}
@@ -8,9 +9,6 @@ use borrow.Author.Needs.{needs}
 use Rattle.shape.proofs.Tests.{ends-again, ends-left, ends-done}
 use Rattle.shape.proofs.ends_within.Statement.{statement}
 use Rattle.shape.proofs.ends_within.Tie as tie
-use Rattle.shape.proofs.ends_within.Reads as reads
-use Rattle.shape.proofs.ends_within.Lts as lts
-use Rattle.words.proofs.link.Reads as link-reads
 
 abbrev Inv-loop : tie.InvT-loop
 Inv-loop nodes n from left₀ a₀ left a = endsWithin left (tables nodes []) a ≡ endsWithin n (tables nodes []) from

@@ -1,9 +1,8 @@
+-- `shape::is_kind` meets its promise.
 use Rattle.rules.specs.Shape.{isKind}
 use mathlib.Core.Path.{refl}
 use Rattle.shape.proofs.is_kind.Statement.{statement}
 use Rattle.shape.proofs.is_kind.Tie as tie
-use Rattle.shape.proofs.is_kind.Reads as reads
-use Rattle.shape.proofs.is_kind.Lts as lts
 
 returns : tie.Need-returns
 unfolding isKind

@@ -1,11 +1,8 @@
+-- `shape::is_sound` meets its promise.
 use Rattle.shape.proofs.Tests.{fits, sound-not}
 use borrow.Author.Needs.{needs}
 use Rattle.shape.proofs.is_sound.Statement.{statement}
 use Rattle.shape.proofs.is_sound.Tie as tie
-use Rattle.shape.proofs.is_sound.Reads as reads
-use Rattle.shape.proofs.is_sound.Lts as lts
-use Rattle.shape.proofs.lengths_fit.Reads as lengths-fit-reads
-use Rattle.shape.proofs.words_sound.Reads as words-sound-reads
 
 lengths-fit-requires : tie.Need-lengths-fit-requires
 lengths-fit-requires c κs = search needs

@@ -1,11 +1,8 @@
+-- `shape::lengths_fit` meets its promise.
 use Rattle.shape.proofs.Tests.{lengths-is}
 use borrow.Author.Needs.{needs}
 use Rattle.shape.proofs.lengths_fit.Statement.{statement}
 use Rattle.shape.proofs.lengths_fit.Tie as tie
-use Rattle.shape.proofs.lengths_fit.Reads as reads
-use Rattle.shape.proofs.lengths_fit.Lts as lts
-use Rattle.words.proofs.nodes_fit.Reads as nodes-fit-reads
-use Rattle.words.proofs.seats_fit.Reads as seats-fit-reads
 
 nodes-fit-requires : tie.Need-nodes-fit-requires
 nodes-fit-requires c κs = search needs

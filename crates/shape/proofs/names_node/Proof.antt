@@ -1,11 +1,8 @@
+-- `shape::names_node` meets its promise.
 use Rattle.shape.proofs.Tests.{names-is}
 use borrow.Author.Needs.{needs}
 use Rattle.shape.proofs.names_node.Statement.{statement}
 use Rattle.shape.proofs.names_node.Tie as tie
-use Rattle.shape.proofs.names_node.Reads as reads
-use Rattle.shape.proofs.names_node.Lts as lts
-use Rattle.shape.proofs.is_kind.Reads as is-kind-reads
-use Rattle.words.proofs.node_word.Reads as node-word-reads
 
 node-word-requires : tie.Need-node-word-requires
 node-word-requires c κs = search needs

@@ -1,13 +1,8 @@
+-- `shape::node_sound` meets its promise.
 use Rattle.shape.proofs.Tests.{node-is}
 use borrow.Author.Needs.{needs}
 use Rattle.shape.proofs.node_sound.Statement.{statement}
 use Rattle.shape.proofs.node_sound.Tie as tie
-use Rattle.shape.proofs.node_sound.Reads as reads
-use Rattle.shape.proofs.node_sound.Lts as lts
-use Rattle.shape.proofs.is_kind.Reads as is-kind-reads
-use Rattle.shape.proofs.names_node.Reads as names-node-reads
-use Rattle.words.proofs.link.Reads as link-reads
-use Rattle.words.proofs.node_word.Reads as node-word-reads
 
 node-word-requires : tie.Need-node-word-requires
 node-word-requires c κs = search needs

@@ -1,3 +1,4 @@
+-- `shape::nodes_sound` meets its promise.
 use Rattle.shape.proofs.Tests.{nodesBelow, nodes-none, nodes-more, nodes-fail, nodes-all}
 use mathlib.Core.Bool.{true}
 use Prim.Native.Nat.{_+_, _-_, _≤_}
@@ -6,9 +7,6 @@ use native.Mathlib.Omega.{arith}
 use borrow.Author.Needs.{needs}
 use Rattle.shape.proofs.nodes_sound.Statement.{statement}
 use Rattle.shape.proofs.nodes_sound.Tie as tie
-use Rattle.shape.proofs.nodes_sound.Reads as reads
-use Rattle.shape.proofs.nodes_sound.Lts as lts
-use Rattle.shape.proofs.node_sound.Reads as node-sound-reads
 
 abbrev Inv-loop : tie.InvT-loop
 Inv-loop nodes n i₀ i = (i ≤ n) × (nodesBelow nodes i ≡ true)

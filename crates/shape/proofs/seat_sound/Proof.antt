@@ -1,12 +1,8 @@
+-- `shape::seat_sound` meets its promise.
 use Rattle.shape.proofs.Tests.{seat-is}
 use borrow.Author.Needs.{needs}
 use Rattle.shape.proofs.seat_sound.Statement.{statement}
 use Rattle.shape.proofs.seat_sound.Tie as tie
-use Rattle.shape.proofs.seat_sound.Reads as reads
-use Rattle.shape.proofs.seat_sound.Lts as lts
-use Rattle.shape.proofs.names_node.Reads as names-node-reads
-use Rattle.shape.proofs.phase_sound.Reads as phase-sound-reads
-use Rattle.words.proofs.seat_word.Reads as seat-word-reads
 
 seat-word-requires : tie.Need-seat-word-requires
 seat-word-requires c κs = search needs

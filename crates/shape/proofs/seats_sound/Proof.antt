@@ -1,3 +1,4 @@
+-- `shape::seats_sound` meets its promise.
 use Rattle.rules.specs.Shape.{seatSound}
 use Rattle.rules.specs.Tables.{tables}
 use Rattle.rules.specs.Notation.{all}
@@ -9,9 +10,6 @@ use borrow.Author.Needs.{needs}
 use Rattle.shape.proofs.Tests.{seats-none, seats-more, seats-fail, seats-all}
 use Rattle.shape.proofs.seats_sound.Statement.{statement}
 use Rattle.shape.proofs.seats_sound.Tie as tie
-use Rattle.shape.proofs.seats_sound.Reads as reads
-use Rattle.shape.proofs.seats_sound.Lts as lts
-use Rattle.shape.proofs.seat_sound.Reads as seat-sound-reads
 
 abbrev Inv-loop : tie.InvT-loop
 Inv-loop nodes seats n count s₀ s = (s ≤ count) × (all s (seatSound (tables nodes seats)) ≡ true)

@@ -1,17 +1,9 @@
+-- `shape::words_sound` meets its promise.
 use native.Mathlib.Omega.{arith}
 use Rattle.shape.proofs.Tests.{few-nodes, few-seats, words-is}
 use borrow.Author.Needs.{needs}
 use Rattle.shape.proofs.words_sound.Statement.{statement}
 use Rattle.shape.proofs.words_sound.Tie as tie
-use Rattle.shape.proofs.words_sound.Reads as reads
-use Rattle.shape.proofs.words_sound.Lts as lts
-use Rattle.shape.proofs.ends_within.Reads as ends-within-reads
-use Rattle.shape.proofs.names_node.Reads as names-node-reads
-use Rattle.shape.proofs.nodes_sound.Reads as nodes-sound-reads
-use Rattle.shape.proofs.seats_sound.Reads as seats-sound-reads
-use Rattle.words.proofs.link.Reads as link-reads
-use Rattle.words.proofs.node_count.Reads as node-count-reads
-use Rattle.words.proofs.seat_count.Reads as seat-count-reads
 
 node-count-requires : tie.Need-node-count-requires
 node-count-requires c κs = search needs

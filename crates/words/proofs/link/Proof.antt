@@ -1,11 +1,8 @@
+-- `words::link` meets its promise.
 use Rattle.words.proofs.Places.{read-head, read-next}
 use borrow.Author.Needs.{needs}
 use Rattle.words.proofs.link.Statement.{statement}
 use Rattle.words.proofs.link.Tie as tie
-use Rattle.words.proofs.link.Reads as reads
-use Rattle.words.proofs.link.Lts as lts
-use Rattle.words.proofs.node_word.Reads as node-word-reads
-use Rattle.words.proofs.word.Reads as word-reads
 
 word-requires : tie.Need-word-requires
 word-requires c κs = search needs

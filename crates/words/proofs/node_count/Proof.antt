@@ -1,10 +1,9 @@
+-- `words::node_count` meets its promise.
 use borrow.Author.Needs.{needs}
 use native.Mathlib.Omega.{arith}
 use Rattle.rules.specs.Tables.{nodeCountOf}
 use Rattle.words.proofs.node_count.Statement.{statement}
 use Rattle.words.proofs.node_count.Tie as tie
-use Rattle.words.proofs.node_count.Reads as reads
-use Rattle.words.proofs.node_count.Lts as lts
 
 returns : tie.Need-returns
 unfolding nodeCountOf

@@ -1,11 +1,9 @@
+-- `words::node_word` meets its promise.
 use Rattle.rules.specs.Tables.{nodeWord}
 use Rattle.words.proofs.Places.{read-node}
 use borrow.Author.Needs.{needs}
 use Rattle.words.proofs.node_word.Statement.{statement}
 use Rattle.words.proofs.node_word.Tie as tie
-use Rattle.words.proofs.node_word.Reads as reads
-use Rattle.words.proofs.node_word.Lts as lts
-use Rattle.words.proofs.word.Reads as word-reads
 
 returns : tie.Need-returns
 unfolding nodeWord

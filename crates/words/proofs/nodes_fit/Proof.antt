@@ -1,11 +1,9 @@
+-- `words::nodes_fit` meets its promise.
 use native.Mathlib.Omega.{arith}
 use Rattle.words.proofs.Places.{nodes-within, nodes-fit-is}
 use borrow.Author.Needs.{needs}
 use Rattle.words.proofs.nodes_fit.Statement.{statement}
 use Rattle.words.proofs.nodes_fit.Tie as tie
-use Rattle.words.proofs.nodes_fit.Reads as reads
-use Rattle.words.proofs.nodes_fit.Lts as lts
-use Rattle.words.proofs.node_count.Reads as node-count-reads
 
 node-count-requires : tie.Need-node-count-requires
 node-count-requires c κs = search needs

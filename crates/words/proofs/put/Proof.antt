@@ -1,10 +1,9 @@
+-- `words::put` meets its promise.
 use mathlib.Core.Path.{sym}
 use lib.Seq.{set-out}
 use borrow.Author.Needs.{needs}
 use Rattle.words.proofs.put.Statement.{statement}
 use Rattle.words.proofs.put.Tie as tie
-use Rattle.words.proofs.put.Reads as reads
-use Rattle.words.proofs.put.Lts as lts
 
 mul-table : tie.Need-mul-table
 mul-table c = search needs

@@ -1,11 +1,8 @@
+-- `words::put_link` meets its promise.
 use Rattle.words.proofs.Places.{store-head, store-next}
 use borrow.Author.Needs.{needs}
 use Rattle.words.proofs.put_link.Statement.{statement}
 use Rattle.words.proofs.put_link.Tie as tie
-use Rattle.words.proofs.put_link.Reads as reads
-use Rattle.words.proofs.put_link.Lts as lts
-use Rattle.words.proofs.put.Reads as put-reads
-use Rattle.words.proofs.put_node.Reads as put-node-reads
 
 put-requires : tie.Need-put-requires
 put-requires c κs = search needs

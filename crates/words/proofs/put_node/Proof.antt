@@ -1,11 +1,9 @@
+-- `words::put_node` meets its promise.
 use Rattle.rules.specs.Tables.{putNode}
 use Rattle.words.proofs.Places.{store-node}
 use borrow.Author.Needs.{needs}
 use Rattle.words.proofs.put_node.Statement.{statement}
 use Rattle.words.proofs.put_node.Tie as tie
-use Rattle.words.proofs.put_node.Reads as reads
-use Rattle.words.proofs.put_node.Lts as lts
-use Rattle.words.proofs.put.Reads as put-reads
 
 returns : tie.Need-returns
 unfolding putNode

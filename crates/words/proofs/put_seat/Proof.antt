@@ -1,10 +1,8 @@
+-- `words::put_seat` meets its promise.
 use Rattle.rules.specs.Tables.{putSeat}
 use borrow.Author.Needs.{needs}
 use Rattle.words.proofs.put_seat.Statement.{statement}
 use Rattle.words.proofs.put_seat.Tie as tie
-use Rattle.words.proofs.put_seat.Reads as reads
-use Rattle.words.proofs.put_seat.Lts as lts
-use Rattle.words.proofs.put.Reads as put-reads
 
 mul-put : tie.Need-mul-put
 mul-put c = search needs

@@ -1,9 +1,8 @@
+-- `words::seat_count` meets its promise.
 use borrow.Author.Needs.{needs}
 use Rattle.rules.specs.Tables.{seatCountOf}
 use Rattle.words.proofs.seat_count.Statement.{statement}
 use Rattle.words.proofs.seat_count.Tie as tie
-use Rattle.words.proofs.seat_count.Reads as reads
-use Rattle.words.proofs.seat_count.Lts as lts
 
 returns : tie.Need-returns
 unfolding seatCountOf

@@ -1,10 +1,8 @@
+-- `words::seat_word` meets its promise.
 use Rattle.rules.specs.Tables.{seatWord}
 use borrow.Author.Needs.{needs}
 use Rattle.words.proofs.seat_word.Statement.{statement}
 use Rattle.words.proofs.seat_word.Tie as tie
-use Rattle.words.proofs.seat_word.Reads as reads
-use Rattle.words.proofs.seat_word.Lts as lts
-use Rattle.words.proofs.word.Reads as word-reads
 
 mul-word : tie.Need-mul-word
 mul-word c = search needs

@@ -1,11 +1,9 @@
+-- `words::seats_fit` meets its promise.
 use native.Mathlib.Omega.{arith}
 use Rattle.words.proofs.Places.{seats-within, seats-fit-is}
 use borrow.Author.Needs.{needs}
 use Rattle.words.proofs.seats_fit.Statement.{statement}
 use Rattle.words.proofs.seats_fit.Tie as tie
-use Rattle.words.proofs.seats_fit.Reads as reads
-use Rattle.words.proofs.seats_fit.Lts as lts
-use Rattle.words.proofs.seat_count.Reads as seat-count-reads
 
 seat-count-requires : tie.Need-seat-count-requires
 seat-count-requires c κs = search needs

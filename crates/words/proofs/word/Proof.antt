@@ -1,10 +1,9 @@
+-- `words::word` meets its promise.
 use mathlib.Core.Path.{sym}
 use lib.ListN.{List·getD-eq-default}
 use borrow.Author.Needs.{needs}
 use Rattle.words.proofs.word.Statement.{statement}
 use Rattle.words.proofs.word.Tie as tie
-use Rattle.words.proofs.word.Reads as reads
-use Rattle.words.proofs.word.Lts as lts
 
 mul-result : tie.Need-mul-result
 mul-result c = search needs

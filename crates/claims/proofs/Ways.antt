@@ -1,0 +1,214 @@
+-- The public calls as one law for each way through the code: n and t are the tables before, n′ and t′ after.
+use Prim.Native.Nat.{ℕ, zero, suc, _+_, _*_, _≤_, _<_}
+use mathlib.Core.Path.{_≡_, refl, sym, ap, _∙_}
+use mathlib.Core.Bool.{Bool, true, false, not}
+use mathlib.Core.List.{List, [], _∷_}
+use mathlib.Core.Logic.{_≢_, _⊎_, inl, inr, ⊎-elim}
+use native.Mathlib.Omega.{arith}
+use native.Mathlib.Nat.{eq-or-lt-of-le}
+use lib.Dec.{eqb, leb}
+use lib.ListN.{length, getD, set, replicate}
+use lib.Seq.{getD-set-same, getD-set-other}
+use borrow.Author.Tests.{eq-eqb, ne-eqb, le-leb, lt-leb, eqb-true}
+use Rattle.rules.specs.Notation.{_is_}
+use Rattle.rules.specs.Tables.{Tables, tables, zeros, fresh, nodeWord, seatWord, nodeCountOf, seatCountOf, phaseAt, ownAt, startAt, endAt, kindAt, beforeNodes, nodeWidth, seatWidth}
+use Rattle.rules.specs.Comparison.{Claim, claim, claimOf}
+use Rattle.rules.specs.Shape.{nodesFit, seatsFit, lengthsFit, sound, isKind}
+use Rattle.rules.specs.Reach.{countFree}
+use Rattle.rules.specs.Fetch.{Fetched, fetched, fetch}
+use Rattle.rules.specs.Answers.{Answer, node, out, on, held, refused, Done, done, answerOf, answered}
+use Rattle.rules.specs.Steps.{leave, walking, waitingToEnter, validating, readerWaiting, refetched, withdrawn, stepByPhase}
+use Rattle.rules.specs.Calls.{clear, begun, begin, step, release}
+use Rattle.rules.specs.FreeCount.{Counted, freeCount}
+use Rattle.rules.proofs.Logic.{both, all3}
+use Rattle.rules.proofs.Shape.{is-sound}
+use Rattle.rules.proofs.Refused.{fetch-none}
+use Rattle.steps.proofs.Arms.{answered-is}
+use Rattle.claims.specs.Parts.{beginFetching, beginClaim, stepBusy, releaseSeat}
+
+-- ---- zeros
+pub record ZeroBelow (l : List ℕ) (i : ℕ) : Type 0 where
+  pub zero-at : (k : ℕ) → k < i → getD l k 0 ≡ 0
+
+pub zero-none : (l : List ℕ) → ZeroBelow l 0
+zero-none l = record { zero-at = λ k h. absurd (omega arith) }
+
+pub zero-more : (l : List ℕ) (i : ℕ) → ZeroBelow l i → i < length l → ZeroBelow (set l i 0) (i + 1)
+zero-more l i z h = record {
+  zero-at = λ k j. ⊎-elim
+      (λ e. rw e (getD-set-same l i 0 0 h))
+      (λ e. getD-set-other l i k 0 0 (λ q. omega arith) ∙ z .zero-at k e)
+      (eq-or-lt-of-le {n = k} {m = i} (omega arith));
+}
+
+all-zero : (l : List ℕ) → ((k : ℕ) → k < length l → getD l k 0 ≡ 0) → l ≡ zeros (length l)
+all-zero [] f = refl
+all-zero (x ∷ l) f = ap (λ (y : ℕ). y ∷ l) (f 0 (omega arith)) ∙ ap (λ (m : List ℕ). 0 ∷ m) (all-zero l (λ k h. f (suc k) (omega arith)))
+
+pub zero-all : (l : List ℕ) (i n : ℕ) → ZeroBelow l i → length l ≤ i → length l ≡ n → l ≡ zeros n
+zero-all l i n z h e = rw (← e) (all-zero l (λ k j. z .zero-at k (omega arith)))
+
+-- ---- clear
+lengths : (t : Tables) → lengthsFit t ≡ true → (length (t .nodes) ≡ beforeNodes + nodeWidth * nodeCountOf (t .nodes)) × (length (t .seats) ≡ seatWidth * seatCountOf (t .seats))
+unfolding lengthsFit nodesFit seatsFit
+lengths t e =
+    let w = both (nodesFit t) (seatsFit t) e in
+    let y = all3 (eqb (length (t .nodes)) (beforeNodes + nodeWidth * nodeCountOf (t .nodes))) (leb 1 (nodeCountOf (t .nodes))) (leb (nodeCountOf (t .nodes)) 256) (w .0) in
+    let z = all3 (eqb (length (t .seats)) (seatWidth * seatCountOf (t .seats))) (leb 1 (seatCountOf (t .seats))) (leb (seatCountOf (t .seats)) 64) (w .1) in
+    (eqb-true (length (t .nodes)) (beforeNodes + nodeWidth * nodeCountOf (t .nodes)) (y .0), eqb-true (length (t .seats)) (seatWidth * seatCountOf (t .seats)) (z .0))
+
+module _ (n t : List ℕ) (b : Bool) (fits : b ≡ lengthsFit (tables n t)) where
+  pub clear-fits : (n′ t′ : List ℕ) → t′ ≡ zeros (length t) → n′ ≡ zeros (length n) → b ≡ true → done 0 (tables n′ t′) ≡ clear (tables n t)
+  unfolding clear fresh
+  clear-fits n′ t′ p q e =
+      let f = sym fits ∙ e in
+      let l = lengths (tables n t) f in
+      rw (f, p, q, l .0, l .1)
+
+  pub clear-not : b ≡ false → done 1 (tables n t) ≡ clear (tables n t)
+  unfolding clear
+  clear-not e = rw (sym fits ∙ e)
+
+-- ---- fetch's answer
+module _ (n t n′ t′ : List ℕ) (s x y k a : ℕ) (isFetched : fetched a (tables n′ t′) ≡ fetch (tables n t) s (claim x y k)) where
+  as-found : a ≡ 0 → tables n′ t′ ≡ tables n t
+  as-found e =
+      let z : fetch (tables n t) s (claim x y k) .node ≡ 0 = sym (ap (λ (f : Fetched). f .node) isFetched) ∙ e in
+      ap (λ (f : Fetched). f .after) isFetched ∙ fetch-none (tables n t) s (claim x y k) z
+
+  pub begin-none : a ≡ 0 → done (refused 8) (tables n′ t′) ≡ beginFetching (tables n t) s (claim x y k)
+  unfolding begun
+  begin-none e = rw (as-found e, ← isFetched, e)
+
+  pub begin-node : a ≢ 0 → done (node a) (tables n′ t′) ≡ beginFetching (tables n t) s (claim x y k)
+  unfolding begun
+  begin-node d = rw (← isFetched, ne-eqb a 0 d)
+
+  module _ (o : ℕ) (isKind′ : k ≡ nodeWord n o kindAt) (isEnd : y ≡ nodeWord n o endAt) (isStart : x ≡ nodeWord n o startAt) (isOwn : o ≡ seatWord t s ownAt) where
+    same-claim : claim x y k ≡ claimOf (tables n t) (seatWord t s ownAt)
+    same-claim = rw (isStart, isEnd, isKind′, isOwn)
+
+    pub refetch-none : a ≡ 0 → done (refused 8) (tables n′ t′) ≡ withdrawn (tables n t) s
+    unfolding withdrawn refetched
+    refetch-none e = rw (as-found e, ← same-claim, ← isFetched, e)
+
+    pub refetch-node : (r : Answer) → r ≡ answerOf (tables [] t′) s → a ≢ 0 → done r (tables n′ t′) ≡ withdrawn (tables n t) s
+    unfolding withdrawn refetched
+    refetch-node r p d = rw (← same-claim, ← isFetched, ne-eqb a 0 d) (answered-is n′ t′ (tables n′ t′) s r p refl)
+
+-- ---- begin, past 2
+module _ (n t : List ℕ) (s x y k : ℕ) where
+  pub begin-empty : y ≤ x → done (refused 3) (tables n t) ≡ beginClaim (tables n t) s (claim x y k)
+  begin-empty h = rw (le-leb y x h)
+
+  module _ (b : Bool) (isKindOf : b ≡ isKind k) (some : x < y) where
+    pub begin-kind : b ≡ false → done (refused 4) (tables n t) ≡ beginClaim (tables n t) s (claim x y k)
+    begin-kind e = rw (lt-leb y x some, sym isKindOf ∙ e)
+
+    module _ (p : ℕ) (isPhase : p ≡ seatWord t s phaseAt) where
+      pub begin-busy : p ≢ 0 → b ≡ true → done (refused 5) (tables n t) ≡ beginClaim (tables n t) s (claim x y k)
+      begin-busy d e = rw (lt-leb y x some, sym isKindOf ∙ e, ne-eqb (seatWord t s phaseAt) 0 (λ q. d (isPhase ∙ q)))
+
+      pub begin-idle : (n′ t′ : List ℕ) (r : Answer) → done r (tables n′ t′) ≡ beginFetching (tables n t) s (claim x y k) → p ≡ 0 → b ≡ true → done r (tables n′ t′) ≡ beginClaim (tables n t) s (claim x y k)
+      begin-idle n′ t′ r w q e = rw (lt-leb y x some, sym isKindOf ∙ e, eq-eqb (seatWord t s phaseAt) 0 (sym isPhase ∙ q)) w
+
+-- ---- step, past 2: by the phase
+no-more : (p : ℕ) → p ≤ 6 → p ≢ 0 → p ≢ 1 → p ≢ 2 → p ≢ 3 → p ≢ 4 → p ≢ 5 → p ≢ 6 → ⊥
+no-more zero h d0 d1 d2 d3 d4 d5 d6 = d0 refl
+no-more (suc zero) h d0 d1 d2 d3 d4 d5 d6 = d1 refl
+no-more (suc (suc zero)) h d0 d1 d2 d3 d4 d5 d6 = d2 refl
+no-more (suc (suc (suc zero))) h d0 d1 d2 d3 d4 d5 d6 = d3 refl
+no-more (suc (suc (suc (suc zero)))) h d0 d1 d2 d3 d4 d5 d6 = d4 refl
+no-more (suc (suc (suc (suc (suc zero))))) h d0 d1 d2 d3 d4 d5 d6 = d5 refl
+no-more (suc (suc (suc (suc (suc (suc zero)))))) h d0 d1 d2 d3 d4 d5 d6 = d6 refl
+no-more (suc (suc (suc (suc (suc (suc (suc k))))))) h _ _ _ _ _ _ _ = omega arith
+
+module _ (n t : List ℕ) (s p : ℕ) (isPhase : p ≡ seatWord t s phaseAt) where
+  pub step-idle : p ≡ 0 → done (refused 6) (tables n t) ≡ stepBusy (tables n t) s
+  step-idle e = rw (sym isPhase ∙ e)
+
+  pub step-five : p ≡ 5 → done held (tables n t) ≡ stepBusy (tables n t) s
+  unfolding stepByPhase answerOf
+  step-five e = rw (sym isPhase ∙ e)
+
+  -- no other phase is sound
+  pub step-none : sound (tables n t) ≡ true → p ≢ 0 → p ≢ 1 → p ≢ 2 → p ≢ 3 → p ≢ 4 → p ≢ 5 → p ≢ 6 → done (refused 1) (tables n t) ≡ stepBusy (tables n t) s
+  step-none z d0 d1 d2 d3 d4 d5 d6 = absurd (no-more p (rw isPhase (is-sound (tables n t) z .seat s .phase-small)) d0 d1 d2 d3 d4 d5 d6)
+
+  module _ (t′ : List ℕ) (r : Answer) where
+    pub step-two : done r (tables n t′) ≡ answered (waitingToEnter (tables n t) s) s → p ≡ 2 → done r (tables n t′) ≡ stepBusy (tables n t) s
+    unfolding stepByPhase
+    step-two w e = rw (sym isPhase ∙ e) w
+
+    pub step-four : done r (tables n t′) ≡ answered (readerWaiting (tables n t) s) s → p ≡ 4 → done r (tables n t′) ≡ stepBusy (tables n t) s
+    unfolding stepByPhase
+    step-four w e = rw (sym isPhase ∙ e) w
+
+    module _ (n′ : List ℕ) where
+      pub step-one : done r (tables n′ t′) ≡ answered (walking (tables n t) s) s → p ≡ 1 → done r (tables n′ t′) ≡ stepBusy (tables n t) s
+      unfolding stepByPhase
+      step-one w e = rw (sym isPhase ∙ e) w
+
+      pub step-three : done r (tables n′ t′) ≡ answered (validating (tables n t) s) s → p ≡ 3 → done r (tables n′ t′) ≡ stepBusy (tables n t) s
+      unfolding stepByPhase
+      step-three w e = rw (sym isPhase ∙ e) w
+
+      pub step-six : done r (tables n′ t′) ≡ withdrawn (tables n t) s → p ≡ 6 → done r (tables n′ t′) ≡ stepBusy (tables n t) s
+      unfolding stepByPhase
+      step-six w e = rw (sym isPhase ∙ e) w
+
+-- ---- release, past 2
+module _ (n t : List ℕ) (s p : ℕ) (isPhase : p ≡ seatWord t s phaseAt) where
+  pub release-holder : (n′ t′ : List ℕ) → tables n′ t′ ≡ leave (tables n t) s → p ≡ 5 → done out (tables n′ t′) ≡ releaseSeat (tables n t) s
+  release-holder n′ t′ w e = rw (eq-eqb (seatWord t s phaseAt) 5 (sym isPhase ∙ e), w)
+
+  pub release-other : (p ≡ 5 → ⊥) → done (refused 7) (tables n t) ≡ releaseSeat (tables n t) s
+  release-other d = rw (ne-eqb (seatWord t s phaseAt) 5 (λ e. d (isPhase ∙ e)))
+
+-- ---- refusals 1 and 2, the same in each call
+module _ (n t : List ℕ) (s : ℕ) where
+  module _ (b : Bool) (isSound : b ≡ sound (tables n t)) where
+    pub begin-damaged : (x y k : ℕ) → b ≡ false → done (refused 1) (tables n t) ≡ begin (tables n t) s (claim x y k)
+    unfolding begin
+    begin-damaged x y k e = rw (sym isSound ∙ e)
+
+    pub step-damaged : b ≡ false → done (refused 1) (tables n t) ≡ step (tables n t) s
+    unfolding step
+    step-damaged e = rw (sym isSound ∙ e)
+
+    pub release-damaged : b ≡ false → done (refused 1) (tables n t) ≡ release (tables n t) s
+    unfolding release
+    release-damaged e = rw (sym isSound ∙ e)
+
+    pub begin-past : (x y k c : ℕ) → c ≡ seatCountOf t → c ≤ s → b ≡ true → done (refused 2) (tables n t) ≡ begin (tables n t) s (claim x y k)
+    unfolding begin
+    begin-past x y k c p h e = rw (sym isSound ∙ e, ← p, le-leb c s h)
+
+    pub begin-seat : (n′ t′ : List ℕ) (r : Answer) (x y k c : ℕ) → done r (tables n′ t′) ≡ beginClaim (tables n t) s (claim x y k) → c ≡ seatCountOf t → s < c → b ≡ true → done r (tables n′ t′) ≡ begin (tables n t) s (claim x y k)
+    unfolding begin
+    begin-seat n′ t′ r x y k c w p h e = rw (sym isSound ∙ e, ← p, lt-leb c s h) w
+
+    pub release-past : (c : ℕ) → c ≡ seatCountOf t → c ≤ s → b ≡ true → done (refused 2) (tables n t) ≡ release (tables n t) s
+    unfolding release
+    release-past c p h e = rw (sym isSound ∙ e, ← p, le-leb c s h)
+
+    pub release-seat : (n′ t′ : List ℕ) (r : Answer) (c : ℕ) → done r (tables n′ t′) ≡ releaseSeat (tables n t) s → c ≡ seatCountOf t → s < c → b ≡ true → done r (tables n′ t′) ≡ release (tables n t) s
+    unfolding release
+    release-seat n′ t′ r c w p h e = rw (sym isSound ∙ e, ← p, lt-leb c s h) w
+
+    pub count-damaged : b ≡ false → Counted.refused 1 ≡ freeCount (tables n t)
+    unfolding freeCount
+    count-damaged e = rw (sym isSound ∙ e)
+
+    pub count-sound : (k : ℕ) → k ≡ countFree (tables n t) → b ≡ true → Counted.counted k ≡ freeCount (tables n t)
+    unfolding freeCount
+    count-sound k p e = rw (sym isSound ∙ e, p)
+
+  module _ (c : ℕ) (isCount : c ≡ seatCountOf t) (isSound : sound (tables n t) ≡ true) where
+    pub step-past : c ≤ s → done (refused 2) (tables n t) ≡ step (tables n t) s
+    unfolding step
+    step-past h = rw (isSound, ← isCount, le-leb c s h)
+
+    pub step-seat : (n′ t′ : List ℕ) (r : Answer) → done r (tables n′ t′) ≡ stepBusy (tables n t) s → s < c → done r (tables n′ t′) ≡ step (tables n t) s
+    unfolding step
+    step-seat n′ t′ r w h = rw (isSound, ← isCount, lt-leb c s h) w

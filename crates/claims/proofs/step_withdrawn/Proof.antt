@@ -1,0 +1,58 @@
+-- `claims::step_withdrawn` meets its promise.
+use Rattle.claims.proofs.Ways.{refetch-none, refetch-node}
+use borrow.Author.Needs.{needs}
+use Rattle.claims.proofs.step_withdrawn.Statement.{statement}
+use Rattle.claims.proofs.step_withdrawn.Tie as tie
+
+seat-word-requires : tie.Need-seat-word-requires
+seat-word-requires c κs = search needs
+
+node-word-requires : tie.Need-node-word-requires
+node-word-requires c κs = search needs
+
+node-word-requires-2 : tie.Need-node-word-requires-2
+node-word-requires-2 c κs = search needs
+
+node-word-requires-3 : tie.Need-node-word-requires-3
+node-word-requires-3 c κs = search needs
+
+fetch-requires : tie.Need-fetch-requires
+fetch-requires c κs = search needs
+
+same-length : tie.Need-same-length
+same-length c = search needs
+
+same-length-2 : tie.Need-same-length-2
+same-length-2 c = search needs
+
+returns : tie.Need-returns
+returns c = search refetch-none
+
+answer-requires : tie.Need-answer-requires
+answer-requires c κs = search needs
+
+same-length-3 : tie.Need-same-length-3
+same-length-3 c = search needs
+
+same-length-4 : tie.Need-same-length-4
+same-length-4 c = search needs
+
+returns-2 : tie.Need-returns-2
+returns-2 c = search refetch-node
+
+pub step-withdrawn-spec : {M : Type 1} → statement M
+step-withdrawn-spec =
+    tie.close
+    (tie.spec
+    seat-word-requires
+    node-word-requires
+    node-word-requires-2
+    node-word-requires-3
+    fetch-requires
+    same-length
+    same-length-2
+    returns
+    answer-requires
+    same-length-3
+    same-length-4
+    returns-2)

@@ -1,0 +1,28 @@
+-- What is left of each call once its first refusals are past: functions of their own in the code.
+use Prim.Native.Nat.{ℕ}
+use mathlib.Core.Bool.{not}
+use mathlib.Core.List.{[], _∷_}
+use Rattle.rules.specs.Notation.{_is_, _≤?_}
+use Rattle.rules.specs.Tables.{Tables, phase}
+use Rattle.rules.specs.Comparison.{Claim}
+use Rattle.rules.specs.Shape.{isKind}
+use Rattle.rules.specs.Fetch.{fetch}
+use Rattle.rules.specs.Answers.{Answer, out, refused, Done, done, _when_, refusing}
+use Rattle.rules.specs.Steps.{leave, stepByPhase}
+use Rattle.rules.specs.Calls.{begun}
+
+-- of begin, past 5 and past 2
+abbrev pub beginFetching : Tables → ℕ → Claim → Done Answer
+beginFetching t s c = begun t (fetch t s c)
+
+abbrev pub beginClaim : Tables → ℕ → Claim → Done Answer
+beginClaim t s c =
+    refusing refused ((3 when c .end ≤? c .start) ∷ (4 when not (isKind (c .kind))) ∷ (5 when not (phase t s is 0)) ∷ []) t (beginFetching t s c)
+
+-- of step, past 2
+abbrev pub stepBusy : Tables → ℕ → Done Answer
+stepBusy t s = refusing refused ((6 when phase t s is 0) ∷ []) t (stepByPhase t s)
+
+-- of release, past 2
+abbrev pub releaseSeat : Tables → ℕ → Done Answer
+releaseSeat t s = refusing refused ((7 when not (phase t s is 5)) ∷ []) t (done out (leave t s))

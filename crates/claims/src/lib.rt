@@ -1,0 +1,191 @@
+// The public calls on the two lent tables: clear, begin, step, release and free count. None asks anything of its caller: any tables and
+// any numbers are taken. Each has one promise, an equation with its rule: the answer and every word of both tables afterwards. A refused
+// call leaves both as found.
+ghost use mathlib.Core.Path.{_≡_};
+ghost use mathlib.Core.Bool.{true};
+ghost use lib.ListN.{length};
+ghost use Rattle.rules.specs.Tables.{tables, zeros};
+ghost use Rattle.rules.specs.Comparison.{claim, claimOf};
+ghost use Rattle.rules.specs.Shape.{sound};
+ghost use Rattle.rules.specs.Answers.{done};
+ghost use Rattle.rules.specs.Means.{means, meansCount};
+ghost use Rattle.rules.specs.Steps as rule;
+ghost use Rattle.rules.specs.Calls as call;
+ghost use Rattle.rules.specs.FreeCount as count;
+ghost use Rattle.claims.specs.Parts as part;
+use rules::CountReply;
+use rules::Reply;
+
+// ---- clear
+
+fn fill_with_zeros(table: &mut [u32])
+    ensures { λ r. ⌜ now (table .exit) ≡ zeros (length (now (table .entry))) ⌝ }
+{
+    let mut i = 0;
+    while i < table.len() {
+        table[i] = 0;
+        i += 1;
+    }
+}
+
+// 0, or the refusal
+pub fn clear(nodes: &mut [u32], seats: &mut [u32]) -> u32
+    ensures { λ r. ⌜ done r (tables (now (nodes .exit)) (now (seats .exit))) ≡ call.clear (tables (now (nodes .entry)) (now (seats .entry))) ⌝ }
+{
+    if shape::lengths_fit(nodes, seats) {
+        fill_with_zeros(nodes);
+        fill_with_zeros(seats);
+        return 0;
+    }
+    1
+}
+
+// ---- begin
+
+fn begin_fetching(
+    nodes: &mut [u32],
+    seats: &mut [u32],
+    s: u32,
+    start: u32,
+    end: u32,
+    kind: u32,
+) -> Reply
+    requires { ⌜ sound (tables (now nodes) (now seats)) ≡ true ⌝ }
+    ensures { λ r. ⌜ done (means r) (tables (now (nodes .exit)) (now (seats .exit))) ≡ part.beginFetching (tables (now (nodes .entry)) (now (seats .entry))) s (claim start end kind) ⌝ }
+{
+    let a = fetch::fetch(nodes, seats, s, start, end, kind);
+    if a == 0 {
+        return Reply::Refused(8);
+    }
+    Reply::Node(a)
+}
+
+fn begin_claim(
+    nodes: &mut [u32],
+    seats: &mut [u32],
+    s: u32,
+    start: u32,
+    end: u32,
+    kind: u32,
+) -> Reply
+    requires { ⌜ sound (tables (now nodes) (now seats)) ≡ true ⌝ }
+    ensures { λ r. ⌜ done (means r) (tables (now (nodes .exit)) (now (seats .exit))) ≡ part.beginClaim (tables (now (nodes .entry)) (now (seats .entry))) s (claim start end kind) ⌝ }
+{
+    if end <= start {
+        return Reply::Refused(3);
+    }
+    if shape::is_kind(kind) {
+        let phase = words::seat_word(seats, s, words::PHASE);
+        return match phase {
+            0 => begin_fetching(nodes, seats, s, start, end, kind),
+            1..=4294967295 => Reply::Refused(5),
+        };
+    }
+    Reply::Refused(4)
+}
+
+pub fn begin(nodes: &mut [u32], seats: &mut [u32], s: u32, start: u32, end: u32, kind: u32) -> Reply
+    ensures { λ r. ⌜ done (means r) (tables (now (nodes .exit)) (now (seats .exit))) ≡ call.begin (tables (now (nodes .entry)) (now (seats .entry))) s (claim start end kind) ⌝ }
+{
+    if shape::is_sound(nodes, seats) {
+        if (s as usize) < words::seat_count(seats) {
+            return begin_claim(nodes, seats, s, start, end, kind);
+        }
+        return Reply::Refused(2);
+    }
+    Reply::Refused(1)
+}
+
+// ---- step
+
+fn step_withdrawn(nodes: &mut [u32], seats: &mut [u32], s: u32) -> Reply
+    requires { ⌜ sound (tables (now nodes) (now seats)) ≡ true ⌝ }
+    ensures { λ r. ⌜ done (means r) (tables (now (nodes .exit)) (now (seats .exit))) ≡ rule.withdrawn (tables (now (nodes .entry)) (now (seats .entry))) s ⌝ }
+{
+    let own = words::seat_word(seats, s, words::OWN);
+    let start = words::node_word(nodes, own, words::START);
+    let end = words::node_word(nodes, own, words::END);
+    let kind = words::node_word(nodes, own, words::KIND);
+    let a = fetch::fetch(nodes, seats, s, start, end, kind);
+    if a == 0 {
+        return Reply::Refused(8);
+    }
+    steps::answer(seats, s)
+}
+
+// the phase decides the step
+fn step_by_phase(nodes: &mut [u32], seats: &mut [u32], s: u32) -> Reply
+    requires { ⌜ sound (tables (now nodes) (now seats)) ≡ true ⌝ }
+    ensures { λ r. ⌜ done (means r) (tables (now (nodes .exit)) (now (seats .exit))) ≡ part.stepBusy (tables (now (nodes .entry)) (now (seats .entry))) s ⌝ }
+{
+    let phase = words::seat_word(seats, s, words::PHASE);
+    match phase {
+        0 => Reply::Refused(6),
+        1 => steps::step_walking(nodes, seats, s),
+        2 => steps::step_waiting_to_enter(nodes, seats, s),
+        3 => steps::step_validating(nodes, seats, s),
+        4 => steps::step_reader_waiting(nodes, seats, s),
+        5 => Reply::Held,
+        6 => step_withdrawn(nodes, seats, s),
+        7..=4294967295 => Reply::Refused(1),
+    }
+}
+
+// a step on tables that are known to be sound
+pub fn step_known(nodes: &mut [u32], seats: &mut [u32], s: u32) -> Reply
+    requires { ⌜ sound (tables (now nodes) (now seats)) ≡ true ⌝ }
+    ensures { λ r. ⌜ done (means r) (tables (now (nodes .exit)) (now (seats .exit))) ≡ call.step (tables (now (nodes .entry)) (now (seats .entry))) s ⌝ }
+{
+    if (s as usize) < words::seat_count(seats) {
+        return step_by_phase(nodes, seats, s);
+    }
+    Reply::Refused(2)
+}
+
+pub fn step(nodes: &mut [u32], seats: &mut [u32], s: u32) -> Reply
+    ensures { λ r. ⌜ done (means r) (tables (now (nodes .exit)) (now (seats .exit))) ≡ call.step (tables (now (nodes .entry)) (now (seats .entry))) s ⌝ }
+{
+    if shape::is_sound(nodes, seats) {
+        return step_known(nodes, seats, s);
+    }
+    Reply::Refused(1)
+}
+
+// ---- release
+
+fn release_seat(nodes: &mut [u32], seats: &mut [u32], s: u32) -> Reply
+    ensures { λ r. ⌜ done (means r) (tables (now (nodes .exit)) (now (seats .exit))) ≡ part.releaseSeat (tables (now (nodes .entry)) (now (seats .entry))) s ⌝ }
+{
+    let phase = words::seat_word(seats, s, words::PHASE);
+    match phase {
+        5 => {
+            steps::leave(nodes, seats, s);
+            Reply::Out
+        }
+        0..=4 | 6..=4294967295 => Reply::Refused(7),
+    }
+}
+
+pub fn release(nodes: &mut [u32], seats: &mut [u32], s: u32) -> Reply
+    ensures { λ r. ⌜ done (means r) (tables (now (nodes .exit)) (now (seats .exit))) ≡ call.release (tables (now (nodes .entry)) (now (seats .entry))) s ⌝ }
+{
+    if shape::is_sound(nodes, seats) {
+        if (s as usize) < words::seat_count(seats) {
+            return release_seat(nodes, seats, s);
+        }
+        return Reply::Refused(2);
+    }
+    Reply::Refused(1)
+}
+
+// ---- free count
+
+pub fn free_count(nodes: &[u32], seats: &[u32]) -> CountReply
+    ensures { λ r. ⌜ meansCount r ≡ count.freeCount (tables (now (nodes .entry)) (now (seats .entry))) ⌝ }
+{
+    if shape::is_sound(nodes, seats) {
+        let free = fetch::free_count(nodes, seats);
+        return CountReply::Count(free);
+    }
+    CountReply::Refused(1)
+}

@@ -1,0 +1,100 @@
+// Fetch: a free node for a seat's claim, and how many are free. It decides on the tables as they stand, and stores only what is decided:
+// where no node is free, even with the marked ones taken out, nothing is stored.
+ghost use mathlib.Core.Path.{_≡_};
+ghost use mathlib.Core.Bool.{true};
+ghost use mathlib.Core.List.{[]};
+ghost use Rattle.rules.specs.Tables.{tables, nodeCount, head};
+ghost use Rattle.rules.specs.Comparison.{claim};
+ghost use Rattle.rules.specs.Shape.{endsWithin, sound};
+ghost use Rattle.rules.specs.Reach.{countFree};
+ghost use Rattle.rules.specs.Fetch.{takenOut, writeClaim, enterAtHead, takeNode, fetched, fetchAgain, fetch as fetchRule};
+
+// How many nodes are free, every seat counted: no seat has the number of seats.
+pub fn free_count(nodes: &[u32], seats: &[u32]) -> u32
+    requires { ⌜ sound (tables (now nodes) (now seats)) ≡ true ⌝ }
+    ensures { λ r. ⌜ r ≡ countFree (tables (now (nodes .entry)) (now (seats .entry))) ⌝ }
+{
+    let count = words::seat_count(seats) as u32;
+    let free = reach::free_set(nodes, seats, count);
+    nodesets::count(free)
+}
+
+// ---- what is stored
+
+fn write_claim(nodes: &mut [u32], a: u32, start: u32, end: u32, kind: u32)
+    ensures { λ r. ⌜ now (nodes .exit) ≡ writeClaim (tables (now (nodes .entry)) []) a (claim start end kind) .nodes ⌝ }
+{
+    words::put_node(nodes, a, words::START, start);
+    words::put_node(nodes, a, words::END, end);
+    words::put_node(nodes, a, words::KIND, kind);
+    words::put_link(nodes, a, 0);
+    words::put_node(nodes, a, words::MARK, 0);
+}
+
+fn enter_at_head(nodes: &[u32], seats: &mut [u32], s: u32, a: u32)
+    ensures { λ r. ⌜ tables (now (nodes .entry)) (now (seats .exit)) ≡ enterAtHead (tables (now (nodes .entry)) (now (seats .entry))) s a ⌝ }
+{
+    let head = words::link(nodes, 0);
+    words::put_seat(seats, s, words::PHASE, 1);
+    words::put_seat(seats, s, words::OWN, a);
+    words::put_seat(seats, s, words::PREV, 0);
+    words::put_seat(seats, s, words::CUR, head);
+}
+
+fn take_node(nodes: &mut [u32], seats: &mut [u32], s: u32, a: u32, start: u32, end: u32, kind: u32)
+    ensures { λ r. ⌜ tables (now (nodes .exit)) (now (seats .exit)) ≡ takeNode (tables (now (nodes .entry)) (now (seats .entry))) s a (claim start end kind) ⌝ }
+{
+    write_claim(nodes, a, start, end, kind);
+    enter_at_head(nodes, seats, s, a);
+}
+
+// Head and the unmarked listed nodes then link to the next unmarked one.
+fn take_out(nodes: &mut [u32])
+    requires { ⌜ endsWithin (nodeCount (tables (now nodes) [])) (tables (now nodes) []) (head (tables (now nodes) [])) ≡ true ⌝ }
+    ensures { λ r. ⌜ now (nodes .exit) ≡ takenOut (tables (now (nodes .entry)) []) .nodes ⌝ }
+{
+    let mut left = words::node_count(nodes);
+    let mut prev: u32 = 0;
+    let mut cur = words::link(nodes, 0);
+    while cur != 0 {
+        let next = words::link(nodes, cur);
+        if words::node_word(nodes, cur, words::MARK) == 1 {
+            cur = next;
+            left -= 1;
+        } else {
+            words::put_link(nodes, prev, cur);
+            prev = cur;
+            cur = next;
+            left -= 1;
+        }
+    }
+    words::put_link(nodes, prev, 0);
+}
+
+// ---- fetch
+
+fn fetch_again(nodes: &mut [u32], seats: &mut [u32], s: u32, start: u32, end: u32, kind: u32) -> u32
+    requires { ⌜ sound (tables (now nodes) (now seats)) ≡ true ⌝ }
+    ensures { λ r. ⌜ fetched r (tables (now (nodes .exit)) (now (seats .exit))) ≡ fetchAgain (tables (now (nodes .entry)) (now (seats .entry))) s (claim start end kind) ⌝ }
+{
+    let a = reach::lowest_free_after(nodes, seats, s);
+    if a == 0 {
+        return 0;
+    }
+    take_out(nodes);
+    take_node(nodes, seats, s, a, start, end, kind);
+    a
+}
+
+// The node taken for seat s, or 0 if none is free.
+pub fn fetch(nodes: &mut [u32], seats: &mut [u32], s: u32, start: u32, end: u32, kind: u32) -> u32
+    requires { ⌜ sound (tables (now nodes) (now seats)) ≡ true ⌝ }
+    ensures { λ r. ⌜ fetched r (tables (now (nodes .exit)) (now (seats .exit))) ≡ fetchRule (tables (now (nodes .entry)) (now (seats .entry))) s (claim start end kind) ⌝ }
+{
+    let a = reach::lowest_free(nodes, seats, s);
+    if a == 0 {
+        return fetch_again(nodes, seats, s, start, end, kind);
+    }
+    take_node(nodes, seats, s, a, start, end, kind);
+    a
+}

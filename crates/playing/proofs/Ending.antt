@@ -1,0 +1,15 @@
+-- What is printed after the calls, part by part.
+use mathlib.Core.List.{List, [], _++_}
+use mathlib.Core.Path.{_≡_}
+use Prim.Native.Nat.{ℕ}
+use Rattle.rules.specs.Tables.{tables}
+use Rattle.rules.specs.Board.{holders, coveredBy}
+use Rattle.rules.specs.Play.{ascii, decimal, listText, rowsText, coveredText, endText}
+use Rattle.text.specs.Page.{Page, puts}
+use Rattle.text.proofs.Pages.{joined}
+use Rattle.playing.proofs.Listing.{list-of-nodes}
+
+pub end-is : (nodes seats : List ℕ) (p q r s : Page) (sum : ℕ) → s ≡ puts r (ascii "covered " ++ decimal sum ++ ascii "\n") → sum ≡ coveredBy (holders (tables nodes seats)) → r ≡ puts q (rowsText (holders (tables nodes seats))) → q ≡ puts p (listText (tables nodes [])) → s ≡ puts p (endText (tables nodes seats))
+unfolding endText coveredText
+end-is nodes seats p q r s sum d e f g =
+    joined p r s _ _ (joined p q r _ _ (rw (list-of-nodes nodes [] seats) at g) f) (rw e at d)

@@ -1,0 +1,6 @@
+pub mod Walk
+pub mod Used
+pub mod TakingOut
+pub mod After
+pub mod NodesAlone
+pub mod Ways

@@ -1,0 +1,32 @@
+-- What reads the node table alone reads the same beside any seats.
+use Prim.Native.Nat.{ℕ, zero, suc, _-_}
+use mathlib.Core.Path.{_≡_, refl, ap}
+use mathlib.Core.Bool.{Bool, _||_}
+use mathlib.Core.List.{List, [], _∷_}
+use Rattle.rules.specs.Notation.{_is_}
+use Rattle.rules.specs.Tables.{tables, linkWord, putLink, nodeCountOf}
+use Rattle.rules.specs.Shape.{endsWithin}
+use Rattle.rules.specs.Fetch.{keptFrom, kept, linkThrough, takenOut}
+
+pub ends-alone : (h : ℕ) (nodes seats : List ℕ) (a : ℕ) → endsWithin h (tables nodes []) a ≡ endsWithin h (tables nodes seats) a
+unfolding endsWithin
+ends-alone zero nodes seats a = refl
+ends-alone (suc h) nodes seats a = ap (λ (b : Bool). a is 0 || b) (ends-alone h nodes seats (linkWord nodes a))
+
+kept-from-alone : (h : ℕ) (nodes seats : List ℕ) (a : ℕ) → keptFrom h (tables nodes []) a ≡ keptFrom h (tables nodes seats) a
+unfolding keptFrom
+kept-from-alone zero nodes seats a = refl
+kept-from-alone (suc h) nodes seats a = rw (kept-from-alone h nodes seats (linkWord nodes a))
+
+pub kept-alone : (nodes seats : List ℕ) → kept (tables nodes []) ≡ kept (tables nodes seats)
+unfolding kept
+kept-alone nodes seats = kept-from-alone (nodeCountOf nodes) nodes seats (linkWord nodes 0)
+
+through-alone : (ks nodes seats : List ℕ) (p : ℕ) → tables (linkThrough (tables nodes []) p ks .nodes) seats ≡ linkThrough (tables nodes seats) p ks
+unfolding linkThrough
+through-alone [] nodes seats p = refl
+through-alone (a ∷ ks) nodes seats p = through-alone ks (putLink nodes p a) seats a
+
+pub taken-out-alone : (nodes seats : List ℕ) → tables (takenOut (tables nodes []) .nodes) seats ≡ takenOut (tables nodes seats)
+unfolding takenOut
+taken-out-alone nodes seats = rw (kept-alone nodes seats) (through-alone (kept (tables nodes seats)) nodes seats 0)

@@ -1,0 +1,120 @@
+-- A rule for each way through the code: what a function has learnt on that way gives what it promises.
+use Prim.Native.Nat.{ℕ, zero, suc, _+_, _-_, _≤_, _<_}
+use mathlib.Core.Path.{_≡_, refl, sym, _∙_}
+use mathlib.Core.Bool.{Bool, true, false, _&&_, not, or-true}
+use mathlib.Core.List.{List, []}
+use mathlib.Core.Logic.{_≢_}
+use native.Mathlib.Omega.{arith}
+use native.Mathlib.Numerals.{add-one}
+use borrow.Author.Tests.{eq-eqb, ne-eqb}
+use mir.Syntax.{w32}
+use mir.Val.{Fits}
+use Rattle.rules.specs.Notation.{_is_, _<?_, lowest}
+use Rattle.rules.specs.Tables.{Tables, tables, ownAt, prevAt, curAt, markAt, nodeWord, linkWord, seatWord, nodeCountOf, seatCountOf, nodeCount, seatCount, head, next}
+use Rattle.rules.specs.Shape.{sound}
+use Rattle.rules.specs.Reach.{free, lowestFree}
+use Rattle.rules.specs.Fetch.{keptFrom, kept, takenOut}
+use Rattle.rules.proofs.Shape.{is-sound}
+use Rattle.nodesets.specs.Set.{has, none, add}
+use Rattle.nodesets.proofs.Counting.{lowest-cut}
+use Rattle.reach.specs.Walks.{reachFrom, reachSeat, reachSeats, reachOthers, addAll}
+use Rattle.reach.specs.FreeSet.{IsFreeSet}
+use Rattle.reach.proofs.Used.{sound-named, used-free}
+use Rattle.reach.proofs.TakingOut.{kept-end, kept-in, kept-out}
+use Rattle.reach.proofs.NodesAlone.{kept-alone}
+use Rattle.reach.proofs.After.{after-count, after-free}
+
+-- ---- reach
+pub reach-none : (h : ℕ) (nodes ws : List ℕ) (a : ℕ) → h ≡ 0 → ws ≡ reachFrom h nodes ws a
+unfolding reachFrom
+reach-none h nodes ws a e = rw e
+
+module _ (nodes ws : List ℕ) (a : ℕ) where
+  pub reach-end : (h : ℕ) → a ≡ 0 → ws ≡ reachFrom h nodes ws a
+  unfolding reachFrom
+  reach-end zero e = refl
+  reach-end (suc h) e = rw (eq-eqb a 0 e)
+
+  pub reach-stop : (h : ℕ) (b : Bool) → b ≡ has ws a → b ≡ true → ws ≡ reachFrom h nodes ws a
+  unfolding reachFrom
+  reach-stop zero b p q = refl
+  reach-stop (suc h) b p q = rw (← p, q, or-true (a is 0))
+
+  pub reach-on : (h x : ℕ) (vs r : List ℕ) (b : Bool) → r ≡ reachFrom (h - 1) nodes vs x → vs ≡ add ws a → x ≡ linkWord nodes a → h ≢ 0 → a ≢ 0 → b ≡ has ws a → b ≡ false → r ≡ reachFrom h nodes ws a
+  unfolding reachFrom
+  reach-on zero x vs r b p q e n z i j = absurd (n refl)
+  reach-on (suc h) x vs r b p q e n z i j = let y : suc h - 1 ≡ h = omega arith in rw (ne-eqb a 0 z, ← i, j, ← q, ← e) (rw y at p)
+
+-- ---- the seats
+pub seat-reached : (h r o p u : ℕ) (nodes seats us vs ws xs : List ℕ) → xs ≡ reachFrom h nodes ws u → ws ≡ reachFrom h nodes vs p → vs ≡ reachFrom h nodes us o
+    → o ≡ seatWord seats r ownAt → p ≡ seatWord seats r prevAt → u ≡ seatWord seats r curAt → xs ≡ reachSeat h (tables nodes seats) us r
+unfolding reachSeat
+seat-reached h r o p u nodes seats us vs ws xs a b c d e f = rw (a, b, c, d, e, f)
+
+module _ (h s : ℕ) (t : Tables) (ws : List ℕ) where
+  pub seats-start : ws ≡ reachSeats h t s ws 0
+  unfolding reachSeats
+  seats-start = refl
+
+  pub seats-pass : (r : ℕ) (us : List ℕ) → us ≡ reachSeats h t s ws r → r ≡ s → us ≡ reachSeats h t s ws (r + 1)
+  unfolding reachSeats
+  seats-pass r us p e = rw (add-one r, eq-eqb r s e) p
+
+  pub seats-join : (r : ℕ) (us vs : List ℕ) → vs ≡ reachSeat h t us r → us ≡ reachSeats h t s ws r → r ≢ s → vs ≡ reachSeats h t s ws (r + 1)
+  unfolding reachSeats
+  seats-join r us vs q p e = rw (add-one r, ne-eqb r s e, ← p) q
+
+  pub seats-done : (r c : ℕ) (us : List ℕ) → us ≡ reachSeats h t s ws r → r ≤ c → c ≤ r → h ≡ nodeCount t → c ≡ seatCount t → us ≡ reachOthers t s ws
+  unfolding reachOthers
+  seats-done r c us p x y e f = let q : r ≡ c = omega arith in rw (← e, ← f, ← q) p
+
+-- ---- the unmarked listed nodes: what is left to gather gives the whole
+module _ (t : Tables) (ws whole : List ℕ) where
+  pub kept-start : (n a : ℕ) → ws ≡ none → n ≡ nodeCount t → a ≡ head t → addAll ws (keptFrom n t a) ≡ addAll none (kept t)
+  unfolding kept
+  kept-start n a e p q = rw (e, p, q)
+
+  pub kept-ended : (h a : ℕ) → addAll ws (keptFrom h t a) ≡ whole → a ≡ 0 → ws ≡ whole
+  unfolding addAll
+  kept-ended h a g e = rw (kept-end h t a e) at g
+
+  pub kept-spent : (h a : ℕ) → addAll ws (keptFrom h t a) ≡ whole → h ≡ 0 → ws ≡ whole
+  unfolding addAll keptFrom
+  kept-spent h a g e = rw e at g
+
+  pub kept-skip : (h a x m : ℕ) → addAll ws (keptFrom h t a) ≡ whole → h ≢ 0 → a ≢ 0 → x ≡ next t a → m ≡ nodeWord (t .nodes) a markAt → m ≡ 1 → addAll ws (keptFrom (h - 1) t x) ≡ whole
+  kept-skip zero a x m g n z p q e = absurd (n refl)
+  kept-skip (suc h) a x m g n z p q e = let y : suc h - 1 ≡ h = omega arith in rw (y, p) (rw (kept-out h t a z (sym q ∙ e)) at g)
+
+  pub kept-join : (h a x m : ℕ) (vs : List ℕ) → addAll ws (keptFrom h t a) ≡ whole → vs ≡ add ws a → h ≢ 0 → a ≢ 0 → x ≡ next t a → m ≡ nodeWord (t .nodes) a markAt → m ≢ 1 → addAll vs (keptFrom (h - 1) t x) ≡ whole
+  unfolding addAll
+  kept-join zero a x m vs g v n z p q e = absurd (n refl)
+  kept-join (suc h) a x m vs g v n z p q e = let y : suc h - 1 ≡ h = omega arith in rw (y, p, v) (rw (kept-in h t a z (λ i. e (q ∙ i))) at g)
+
+-- ---- the free set of sound tables, and what is read off it
+module _ (nodes seats : List ℕ) (ok : sound (tables nodes seats) ≡ true) where
+  abbrev both : Tables
+  both = tables nodes seats
+
+  pub few-seats : (c : ℕ) → c ≡ seatCountOf seats → c ≤ 64
+  few-seats c e = omega (arith, is-sound both ok .few-seats)
+
+  pub seats-fit : (c : ℕ) → c ≡ seatCountOf seats → Fits w32 c
+  seats-fit c e = let h = few-seats c e in omega arith
+
+  pub free-now : (ws us vs es : List ℕ) (n a s : ℕ) → ((m : ℕ) → m < 256 → has ws (m + 1) ≡ (m <? n && not (has us (m + 1)))) → us ≡ reachOthers both s vs → vs ≡ reachFrom n nodes es a → es ≡ none → n ≡ nodeCountOf nodes → a ≡ linkWord nodes 0 → IsFreeSet ws both s
+  free-now ws us vs es n a s f p q e b d =
+      let w = is-sound both ok in
+      record { few = w .few-nodes; free-nodes = λ m h. f m h ∙ rw (p, q, e, b, d, used-free both (sound-named both w) s (m + 1)) }
+
+  pub free-after : (ws us vs : List ℕ) (n s : ℕ) → ((m : ℕ) → m < 256 → has ws (m + 1) ≡ (m <? n && not (has us (m + 1)))) → us ≡ reachOthers both s vs → vs ≡ addAll none (kept (tables nodes [])) → n ≡ nodeCountOf nodes → IsFreeSet ws (takenOut both) s
+  free-after ws us vs n s f p q b =
+      let w = is-sound both ok in
+      record {
+        few = rw (after-count both w) (w .few-nodes);
+        free-nodes = λ m h. f m h ∙ rw (p, q, b, kept-alone nodes seats, after-free both w s (m + 1), after-count both w);
+      }
+
+pub lowest-read : (ws : List ℕ) (t : Tables) (s r : ℕ) → r ≡ lowest 256 (has ws) → IsFreeSet ws t s → r ≡ lowestFree t s
+unfolding lowestFree
+lowest-read ws t s r p f = p ∙ lowest-cut (nodeCount t) 256 (has ws) (free t s) (f .few) (λ m h. rw (add-one m) at (f .free-nodes m h))

@@ -1,0 +1,73 @@
+-- Two results that meet one promise are equal: the law that every public call cites. Each case of an enum means something else, so the
+-- enum can be read back from what it means.
+use mathlib.Core.Path.{_≡_, refl, sym, ap, _∙_}
+use mathlib.Core.List.{List}
+use Prim.Native.Nat.{ℕ}
+use Rattle.rules.specs.Tables.{Tables}
+use Rattle.rules.specs.Answers.{Answer, node, out, on, wait, held, back, refused, Done, done}
+use Rattle.rules.specs.FreeCount.{Counted}
+use Rattle.rules.specs.Board.{Boarded, Shown, shown}
+use Rattle.rules.specs.Means.{means, meansCount, meansBoard}
+use Rattle.rules.specs.declared.Reply.{Reply}
+use Rattle.rules.specs.declared.Reply.the-variants.{Node, Out, On, Wait, Held, Back, Refused}
+use Rattle.rules.specs.declared.CountReply.{CountReply}
+use Rattle.rules.specs.declared.CountReply.the-variants.{Count, Refused as CountRefused}
+use Rattle.rules.specs.declared.BoardReply.{BoardReply}
+use Rattle.rules.specs.declared.BoardReply.the-variants.{Rows, Refused as BoardRefused}
+
+-- the enum that means an answer
+replyOf : Answer → Reply
+replyOf (node n) = Node n
+replyOf out = Out
+replyOf on = On
+replyOf (wait n) = Wait n
+replyOf held = Held
+replyOf back = Back
+replyOf (refused number) = Refused number
+
+read-back : (r : Reply) → replyOf (means r) ≡ r
+unfolding replyOf
+read-back (Node n) = refl
+read-back Out = refl
+read-back On = refl
+read-back (Wait n) = refl
+read-back Held = refl
+read-back Back = refl
+read-back (Refused number) = refl
+
+countOf : Counted → CountReply
+countOf (Counted.counted n) = Count n
+countOf (Counted.refused number) = CountRefused number
+
+count-back : (r : CountReply) → countOf (meansCount r) ≡ r
+unfolding countOf
+count-back (Count n) = refl
+count-back (CountRefused number) = refl
+
+boardOf : Boarded → BoardReply
+boardOf (Boarded.filled n covered) = Rows n covered
+boardOf (Boarded.refused number) = BoardRefused number
+
+board-back : (r : BoardReply) → boardOf (meansBoard r) ≡ r
+unfolding boardOf
+board-back (Rows n covered) = refl
+board-back (BoardRefused number) = refl
+
+-- ---- one result and one pair of tables
+pub one-result : {A : Type 0} (promised : Done A) (a a′ : A) (t t′ : Tables) → done a t ≡ promised → done a′ t′ ≡ promised → (a ≡ a′) × (t ≡ t′)
+one-result {A} promised a a′ t t′ p q =
+    let e = p ∙ sym q in
+    (ap (λ (d : Done A). d .answer) e, ap (λ (d : Done A). d .after) e)
+
+pub one-reply : (promised : Done Answer) (r r′ : Reply) (t t′ : Tables) → done (means r) t ≡ promised → done (means r′) t′ ≡ promised → (r ≡ r′) × (t ≡ t′)
+one-reply promised r r′ t t′ p q =
+    let w = one-result promised (means r) (means r′) t t′ p q in
+    (sym (read-back r) ∙ ap replyOf (w .0) ∙ read-back r′, w .1)
+
+pub one-count : (promised : Counted) (r r′ : CountReply) → meansCount r ≡ promised → meansCount r′ ≡ promised → r ≡ r′
+one-count promised r r′ p q = sym (count-back r) ∙ ap countOf (p ∙ sym q) ∙ count-back r′
+
+pub one-board : {A : Type 0} (promised : Shown A) (r r′ : BoardReply) (b b′ : List A) → shown (meansBoard r) b ≡ promised → shown (meansBoard r′) b′ ≡ promised → (r ≡ r′) × (b ≡ b′)
+one-board {A} promised r r′ b b′ p q =
+    let e = p ∙ sym q in
+    (sym (board-back r) ∙ ap (λ (x : Shown A). boardOf (x .answer)) e ∙ board-back r′, ap (λ (x : Shown A). x .board) e)

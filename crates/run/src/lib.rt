@@ -1,0 +1,82 @@
+// Run: a lent list of seat numbers, stepped in order within a budget.
+ghost use mathlib.Core.Path.{_≡_};
+ghost use mathlib.Core.Bool.{true};
+ghost use Prim.Native.Nat.{_≤_};
+ghost use Rattle.rules.specs.Tables.{tables};
+ghost use Rattle.rules.specs.Shape.{sound};
+ghost use Rattle.rules.specs.Answers.{done};
+ghost use Rattle.rules.specs.Means.{means};
+ghost use Rattle.rules.specs.Run as rule;
+ghost use Rattle.run.specs.Parts as part;
+use rules::Ran;
+use rules::Reply;
+
+// the number of a refusal, 0 of any other answer
+fn refusal_of(reply: Reply) -> u32
+    ensures { λ r. ⌜ r ≡ rule.refusalOf (means reply) ⌝ }
+{
+    match reply {
+        Reply::Refused(number) => number,
+        Reply::Node(_) => 0,
+        Reply::Out => 0,
+        Reply::On => 0,
+        Reply::Wait(_) => 0,
+        Reply::Held => 0,
+        Reply::Back => 0,
+    }
+}
+
+// one entry: 0, or the refusal. The tables are tested for damage unless they are known to be sound.
+fn step_entry(nodes: &mut [u32], seats: &mut [u32], s: u32, known: bool) -> u32
+    requires { ⌜ (known ≡ true → sound (tables (now nodes) (now seats)) ≡ true) ⌝ }
+    ensures { λ r. ⌜ done r (tables (now (nodes .exit)) (now (seats .exit))) ≡ part.stepEntry (tables (now (nodes .entry)) (now (seats .entry))) s ⌝ }
+{
+    if known {
+        let reply = claims::step_known(nodes, seats, s);
+        return refusal_of(reply);
+    }
+    let reply = claims::step(nodes, seats, s);
+    refusal_of(reply)
+}
+
+fn run_steps(nodes: &mut [u32], seats: &mut [u32], schedule: &[u32], budget: u32) -> Ran
+    requires { ⌜ sound (tables (now nodes) (now seats)) ≡ true ⌝ }
+    ensures { λ r. ⌜ done r (tables (now (nodes .exit)) (now (seats .exit))) ≡ rule.runSteps budget (tables (now (nodes .entry)) (now (seats .entry))) (now (schedule .entry)) ⌝ }
+{
+    let mut steps: u32 = 0;
+    loop {
+        if steps == budget {
+            break Ran {
+                steps: steps,
+                refusal: 0,
+            };
+        }
+        if schedule.len() <= steps as usize {
+            break Ran {
+                steps: steps,
+                refusal: 0,
+            };
+        }
+        let s = schedule[steps as usize];
+        let refusal = step_entry(nodes, seats, s, steps == 0);
+        if refusal != 0 {
+            break Ran {
+                steps: steps,
+                refusal: refusal,
+            };
+        }
+        steps += 1;
+    }
+}
+
+pub fn run(nodes: &mut [u32], seats: &mut [u32], schedule: &[u32], budget: u32) -> Ran
+    ensures { λ r. ⌜ done r (tables (now (nodes .exit)) (now (seats .exit))) ≡ rule.run (tables (now (nodes .entry)) (now (seats .entry))) (now (schedule .entry)) budget ⌝ }
+{
+    if shape::is_sound(nodes, seats) {
+        return run_steps(nodes, seats, schedule, budget);
+    }
+    Ran {
+        steps: 0,
+        refusal: 1,
+    }
+}

@@ -1,0 +1,183 @@
+-- Reading, one law for each way through the code: from what the code has seen at a place to what the definition says there.
+-- Assumes nothing but the definitions of Script.
+use Prim.Native.Nat.{ℕ, zero, suc, _+_, _*_, _-_, _<_, _≤_}
+use native.Mathlib.Omega.{arith}
+use mathlib.Core.List.{List, [], _∷_}
+use mathlib.Core.Bool.{Bool, true, false}
+use mathlib.Core.Path.{_≡_, refl, sym, _∙_}
+use lib.Dec.{eqb}
+use lib.ListN.{getD, set, length, List·getD-eq-default}
+use borrow.Author.Tests.{lt-ltb, le-ltb, le-leb, lt-leb, eq-eqb, ne-eqb}
+use Rattle.rules.specs.declared.Line.{Line}
+use Rattle.rules.specs.declared.Script.{Script}
+use Rattle.rules.specs.declared.Found.{Found}
+use Rattle.rules.specs.declared.Body.{Body}
+use Rattle.rules.specs.declared.Contents.{Contents}
+use Rattle.rules.specs.Script.{found, body, byteAt, digitAt, digitsFrom, numberAt, fieldAt, lineEnd, beginLine, seatLine, bodyAt, inBounds, contentsOf, noLine, noLines, badAt, goodScript, bodiesFrom, readScript}
+
+-- ---- a byte
+pub byte-past : (src : List ℕ) (at : ℕ) → length src ≤ at → 0 ≡ byteAt src at
+unfolding byteAt
+byte-past src at h = sym (List·getD-eq-default src 0 h)
+
+-- what is not 0 stands in the list
+inside : (l : List ℕ) (i : ℕ) → (getD l i 0 ≡ 0 → ⊥) → i < length l
+inside [] zero h = absurd (h refl)
+inside [] (suc i) h = absurd (h refl)
+inside (a ∷ l) zero h = omega arith
+inside (a ∷ l) (suc i) h = let k = inside l i h in omega arith
+
+module _ (src : List ℕ) (at b : ℕ) (isByte : b ≡ byteAt src at) where
+  pub byte-inside : 0 < b → at < length src
+  unfolding byteAt
+  byte-inside h = inside src at (λ e. omega arith)
+
+  pub digit-low : b < 48 → 10 ≡ digitAt src at
+  unfolding digitAt
+  digit-low h = rw (← isByte, lt-leb 48 b h)
+
+  pub digit-high : 57 < b → 10 ≡ digitAt src at
+  unfolding digitAt
+  digit-high h = rw (← isByte, lt-leb b 57 h, le-leb 48 b (omega arith))
+
+  pub digit-here : 48 ≤ b → b ≤ 57 → b - 48 ≡ digitAt src at
+  unfolding digitAt
+  digit-here h i = rw (← isByte, le-leb b 57 i, le-leb 48 b h)
+
+  pub field-here : (r : Found) → b ≡ 32 → r ≡ numberAt src (at + 1) → r ≡ fieldAt src at
+  unfolding fieldAt
+  field-here r h e = rw (← isByte, eq-eqb b 32 h) e
+
+  pub field-none : (b ≡ 32 → ⊥) → found 0 (length src) ≡ fieldAt src at
+  unfolding fieldAt
+  field-none h = rw (← isByte, ne-eqb b 32 h)
+
+  pub end-here : b ≡ 10 → at + 1 ≡ lineEnd src at
+  unfolding lineEnd
+  end-here h = rw (← isByte, eq-eqb b 10 h)
+
+  pub end-none : (b ≡ 10 → ⊥) → 0 ≡ lineEnd src at
+  unfolding lineEnd
+  end-none h = rw (← isByte, ne-eqb b 10 h)
+
+  pub body-begin : (r : Body) → b ≡ 98 → r ≡ beginLine src (at + 1) → r ≡ bodyAt src at
+  unfolding bodyAt
+  body-begin r h e = rw (← isByte, eq-eqb b 98 h) e
+
+  pub body-step : (r : Body) → (b ≡ 98 → ⊥) → b ≡ 115 → r ≡ seatLine src 2 (at + 1) → r ≡ bodyAt src at
+  unfolding bodyAt
+  body-step r g h e = rw (← isByte, ne-eqb b 98 g, eq-eqb b 115 h) e
+
+  pub body-release : (r : Body) → (b ≡ 98 → ⊥) → (b ≡ 115 → ⊥) → b ≡ 114 → r ≡ seatLine src 3 (at + 1) → r ≡ bodyAt src at
+  unfolding bodyAt
+  body-release r f g h e = rw (← isByte, ne-eqb b 98 f, ne-eqb b 115 g, eq-eqb b 114 h) e
+
+  pub body-none : (l : Line) → l ≡ noLine → (b ≡ 98 → ⊥) → (b ≡ 115 → ⊥) → (b ≡ 114 → ⊥) → body l 0 ≡ bodyAt src at
+  unfolding bodyAt
+  body-none l e f g h = rw (← isByte, ne-eqb b 98 f, ne-eqb b 115 g, ne-eqb b 114 h, e)
+
+-- ---- a number
+no-byte-no-digit : (src : List ℕ) (at : ℕ) → byteAt src at ≡ 0 → digitAt src at ≡ 10
+unfolding digitAt
+no-byte-no-digit src at e = rw e
+
+pub digit-inside : (src : List ℕ) (at d : ℕ) → d ≡ digitAt src at → (d ≡ 10 → ⊥) → at < length src
+unfolding byteAt
+digit-inside src at d e h = inside src at (λ z. h (e ∙ no-byte-no-digit src at z))
+
+pub digits-none : (src : List ℕ) (left at value : ℕ) → left ≡ 0 → found value at ≡ digitsFrom src left at value
+unfolding digitsFrom
+digits-none src left at value e = rw e
+
+module _ (src : List ℕ) (left at value d : ℕ) (isDigit : d ≡ digitAt src at) where
+  pub digits-end : 10 ≤ d → found value at ≡ digitsFrom src left at value
+  unfolding digitsFrom
+  digits-end h = go left
+    where
+      go : (left : ℕ) → found value at ≡ digitsFrom src left at value
+      go zero = refl
+      go (suc left) = rw (← isDigit, le-ltb d 10 h)
+
+  pub digits-big : d < 10 → 4294967295 < value * 10 + d → found value at ≡ digitsFrom src left at value
+  unfolding digitsFrom
+  digits-big i h = go left
+    where
+      go : (left : ℕ) → found value at ≡ digitsFrom src left at value
+      go zero = refl
+      go (suc left) = rw (← isDigit, lt-ltb d 10 i, lt-leb (value * 10 + d) 4294967295 h)
+
+  pub digits-more : (r : Found) → r ≡ digitsFrom src (left - 1) (at + 1) (value * 10 + d) → (left ≡ 0 → ⊥) → d < 10 → value * 10 + d ≤ 4294967295 → r ≡ digitsFrom src left at value
+  unfolding digitsFrom
+  digits-more r e n i h = go left n e
+    where
+      go : (left : ℕ) → (left ≡ 0 → ⊥) → r ≡ digitsFrom src (left - 1) (at + 1) (value * 10 + d) → r ≡ digitsFrom src left at value
+      go zero n e = absurd (n refl)
+      go (suc left) n e = let f : suc left - 1 ≡ left = omega arith in rw (← isDigit, lt-ltb d 10 i, le-leb (value * 10 + d) 4294967295 h) (rw f at e)
+
+module _ (src : List ℕ) (at d : ℕ) (isDigit : d ≡ digitAt src at) where
+  pub number-none : d ≡ 10 → found 0 (length src) ≡ numberAt src at
+  unfolding numberAt
+  number-none h = rw (← isDigit, eq-eqb d 10 h)
+
+  pub number-zero : (d ≡ 10 → ⊥) → d ≡ 0 → found 0 (at + 1) ≡ numberAt src at
+  unfolding numberAt
+  number-zero h e = rw (← isDigit, ne-eqb d 10 h, eq-eqb d 0 e)
+
+  pub number-digits : (r : Found) → (d ≡ 10 → ⊥) → (d ≡ 0 → ⊥) → r ≡ digitsFrom src 9 (at + 1) d → r ≡ numberAt src at
+  unfolding numberAt
+  number-digits r h n e = rw (← isDigit, ne-eqb d 10 h, ne-eqb d 0 n) e
+
+-- ---- line 1
+module _ (src : List ℕ) (n s k : Found) (isN : n ≡ numberAt src 0) (isS : s ≡ fieldAt src (n .next)) (isK : k ≡ fieldAt src (s .next)) where
+  pub contents-in : (b : Bool) (next : ℕ) → b ≡ inBounds (n .value) (s .value) (k .value) → b ≡ true → next ≡ lineEnd src (k .next) → _≡_ {A = Contents} (record { n = n .value; s = s .value; k = k .value; next = next }) (contentsOf src)
+  unfolding contentsOf
+  contents-in b next e t f = rw (← isN, ← isS, ← isK, ← e, t, f)
+
+  pub contents-out : (b : Bool) → b ≡ inBounds (n .value) (s .value) (k .value) → b ≡ false → _≡_ {A = Contents} (record { n = n .value; s = s .value; k = k .value; next = 0 }) (contentsOf src)
+  unfolding contentsOf
+  contents-out b e t = rw (← isN, ← isS, ← isK, ← e, t)
+
+-- ---- the bodies: what is still to be read gives the whole, q
+pub bodies-start : (src : List ℕ) (top : Contents) (at : ℕ) (rows : List Line) (k : ℕ) → bodiesFrom src top (k - 0) 0 at rows ≡ bodiesFrom src top k 0 at rows
+bodies-start src top at rows k = let f : k - 0 ≡ k = omega arith in rw f
+
+module _ (q : Script) (src : List ℕ) (top : Contents) (i at : ℕ) (rows : List Line) where
+  pub bodies-again : (k : ℕ) (b : Body) → bodiesFrom src top (k - i) i at rows ≡ q → b ≡ bodyAt src at → (b .next ≡ 0 → ⊥) → i < k → bodiesFrom src top (k - (i + 1)) (i + 1) (b .next) (set rows i (b .line)) ≡ q
+  unfolding bodiesFrom
+  bodies-again k b p e n h =
+      let f : k - i ≡ suc (k - (i + 1)) = omega arith in
+      let m : eqb (bodyAt src at .next) 0 ≡ false = rw (← e) (ne-eqb (b .next) 0 n) in
+      rw e (rw (f, m) at p)
+
+  pub bodies-wrong : (k : ℕ) (b : Body) (r : Script) → bodiesFrom src top (k - i) i at rows ≡ q → r ≡ badAt (i + 2) → b ≡ bodyAt src at → b .next ≡ 0 → i < k → r ≡ q
+  unfolding bodiesFrom
+  bodies-wrong k b r p g e n h =
+      let f : k - i ≡ suc (k - (i + 1)) = omega arith in
+      let m : eqb (bodyAt src at .next) 0 ≡ true = rw (← e) (eq-eqb (b .next) 0 n) in
+      g ∙ (rw (f, m) at p)
+
+  pub bodies-extra : (k : ℕ) (r : Script) → bodiesFrom src top (k - i) i at rows ≡ q → r ≡ badAt (i + 2) → k ≤ i → (at ≡ length src → ⊥) → r ≡ q
+  unfolding bodiesFrom
+  bodies-extra k r p g h n =
+      let f : k - i ≡ 0 = omega arith in
+      g ∙ (rw (f, ne-eqb at (length src) n) at p)
+
+  pub bodies-done : (k : ℕ) → bodiesFrom src top (k - i) i at rows ≡ q → k ≤ i → at ≡ length src → _≡_ {A = Script} (record { refusal = 0; wrong = 0; n = top .n; s = top .s; k = top .k; rows = rows }) q
+  unfolding bodiesFrom goodScript
+  bodies-done k p h e =
+      let f : k - i ≡ 0 = omega arith in
+      rw (f, eq-eqb at (length src) e) at p
+
+-- ---- the whole
+module _ (src : List ℕ) (r : Script) where
+  pub read-long : 16384 < length src → r ≡ badAt 0 → r ≡ readScript src
+  unfolding readScript
+  read-long h e = rw (lt-ltb 16384 (length src) h) e
+
+  pub read-wrong : (top : Contents) → length src ≤ 16384 → r ≡ badAt 1 → top ≡ contentsOf src → top .next ≡ 0 → r ≡ readScript src
+  unfolding readScript
+  read-wrong top h e f g = rw (le-ltb 16384 (length src) h, ← f, eq-eqb (top .next) 0 g) e
+
+  pub read-bodies : (top : Contents) → length src ≤ 16384 → r ≡ bodiesFrom src top (top .k) 0 (top .next) noLines → top ≡ contentsOf src → (top .next ≡ 0 → ⊥) → r ≡ readScript src
+  unfolding readScript
+  read-bodies top h e f g = rw (le-ltb 16384 (length src) h, ← f, ne-eqb (top .next) 0 g) e

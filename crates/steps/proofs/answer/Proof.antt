@@ -1,0 +1,28 @@
+-- `steps::answer` meets its promise.
+use Rattle.steps.proofs.Arms.{answer-wait, answer-held, answer-back, answer-on}
+use borrow.Author.Needs.{needs}
+use Rattle.steps.proofs.answer.Statement.{statement}
+use Rattle.steps.proofs.answer.Tie as tie
+
+seat-word-requires : tie.Need-seat-word-requires
+seat-word-requires c κs = search needs
+
+seat-word-requires-2 : tie.Need-seat-word-requires-2
+seat-word-requires-2 c κs = search needs
+
+returns : tie.Need-returns
+returns c = search answer-wait
+
+returns-2 : tie.Need-returns-2
+returns-2 c = search answer-held
+
+returns-3 : tie.Need-returns-3
+returns-3 c = search answer-back
+
+returns-4 : tie.Need-returns-4
+returns-4 c = search answer-on
+
+pub answer-spec : {M : Type 1} → statement M
+answer-spec =
+    tie.close
+    (tie.spec seat-word-requires seat-word-requires-2 returns returns-2 returns-3 returns-4)

@@ -1,0 +1,30 @@
+-- `steps::is_past` meets its promise.
+use Rattle.steps.proofs.Arms.{past-is}
+use borrow.Author.Needs.{needs}
+use Rattle.steps.proofs.is_past.Statement.{statement}
+use Rattle.steps.proofs.is_past.Tie as tie
+
+seat-word-requires : tie.Need-seat-word-requires
+seat-word-requires c κs = search needs
+
+seat-word-requires-2 : tie.Need-seat-word-requires-2
+seat-word-requires-2 c κs = search needs
+
+node-word-requires : tie.Need-node-word-requires
+node-word-requires c κs = search needs
+
+node-word-requires-2 : tie.Need-node-word-requires-2
+node-word-requires-2 c κs = search needs
+
+returns : tie.Need-returns
+returns c = search past-is
+
+pub is-past-spec : {M : Type 1} → statement M
+is-past-spec =
+    tie.close
+    (tie.spec
+    seat-word-requires
+    seat-word-requires-2
+    node-word-requires
+    node-word-requires-2
+    returns)

@@ -1,0 +1,39 @@
+-- `steps::leave` meets its promise.
+use Rattle.rules.specs.Steps.{leave}
+use borrow.Author.Needs.{needs}
+use Rattle.steps.proofs.leave.Statement.{statement}
+use Rattle.steps.proofs.leave.Tie as tie
+
+seat-word-requires : tie.Need-seat-word-requires
+seat-word-requires c κs = search needs
+
+put-node-requires : tie.Need-put-node-requires
+put-node-requires c κs = search needs
+
+move-to-requires : tie.Need-move-to-requires
+move-to-requires c κs = search needs
+
+put-seat-requires : tie.Need-put-seat-requires
+put-seat-requires c κs = search needs
+
+same-length : tie.Need-same-length
+same-length c = search needs
+
+same-length-2 : tie.Need-same-length-2
+same-length-2 c = search needs
+
+returns : tie.Need-returns
+unfolding leave
+returns c = cc
+
+pub leave-spec : {M : Type 1} → statement M
+leave-spec =
+    tie.close
+    (tie.spec
+    seat-word-requires
+    put-node-requires
+    move-to-requires
+    put-seat-requires
+    same-length
+    same-length-2
+    returns)

@@ -1,0 +1,20 @@
+-- `steps::step_waiting_to_enter` meets its promise.
+use Rattle.steps.proofs.Arms.{enter-is}
+use borrow.Author.Needs.{needs}
+use Rattle.steps.proofs.step_waiting_to_enter.Statement.{statement}
+use Rattle.steps.proofs.step_waiting_to_enter.Tie as tie
+
+wake-requires : tie.Need-wake-requires
+wake-requires c κs = search needs
+
+answer-requires : tie.Need-answer-requires
+answer-requires c κs = search needs
+
+same-length : tie.Need-same-length
+same-length c = search needs
+
+returns : tie.Need-returns
+returns c = search enter-is
+
+pub step-waiting-to-enter-spec : {M : Type 1} → statement M
+step-waiting-to-enter-spec = tie.close (tie.spec wake-requires answer-requires same-length returns)

@@ -1,0 +1,35 @@
+-- `steps::withdraw` meets its promise.
+use Rattle.rules.specs.Steps.{withdraw}
+use borrow.Author.Needs.{needs}
+use Rattle.steps.proofs.withdraw.Statement.{statement}
+use Rattle.steps.proofs.withdraw.Tie as tie
+
+seat-word-requires : tie.Need-seat-word-requires
+seat-word-requires c κs = search needs
+
+put-node-requires : tie.Need-put-node-requires
+put-node-requires c κs = search needs
+
+move-to-requires : tie.Need-move-to-requires
+move-to-requires c κs = search needs
+
+same-length : tie.Need-same-length
+same-length c = search needs
+
+same-length-2 : tie.Need-same-length-2
+same-length-2 c = search needs
+
+returns : tie.Need-returns
+unfolding withdraw
+returns c = cc
+
+pub withdraw-spec : {M : Type 1} → statement M
+withdraw-spec =
+    tie.close
+    (tie.spec
+    seat-word-requires
+    put-node-requires
+    move-to-requires
+    same-length
+    same-length-2
+    returns)

@@ -1,0 +1,329 @@
+// The step rules, one small function for each: what a step does in phases 1 to 5, the answer from the seat's new phase, and
+// release. Each is total, and its promise is the rule's definition over both tables.
+ghost use mathlib.Core.Path.{_≡_};
+ghost use mathlib.Core.List.{[]};
+ghost use Rattle.rules.specs.Tables.{tables};
+ghost use Rattle.rules.specs.Answers.{done, answerOf, answered};
+ghost use Rattle.rules.specs.Means.{means};
+ghost use Rattle.rules.specs.Steps as rule;
+ghost use Rattle.steps.specs.Parts as part;
+use rules::Reply;
+
+// ---- the seat alone
+
+fn move_to(seats: &mut [u32], s: u32, phase: u32, prev: u32, cur: u32)
+    ensures { λ r. ⌜ now (seats .exit) ≡ rule.moveTo (tables [] (now (seats .entry))) s phase prev cur .seats ⌝ }
+{
+    words::put_seat(seats, s, words::PHASE, phase);
+    words::put_seat(seats, s, words::PREV, prev);
+    words::put_seat(seats, s, words::CUR, cur);
+}
+
+fn hold(seats: &mut [u32], s: u32)
+    ensures { λ r. ⌜ now (seats .exit) ≡ rule.moveTo (tables [] (now (seats .entry))) s 5 0 0 .seats ⌝ }
+{
+    move_to(seats, s, 5, 0, 0);
+}
+
+fn pass(nodes: &[u32], seats: &mut [u32], s: u32)
+    ensures { λ r. ⌜ tables (now (nodes .entry)) (now (seats .exit)) ≡ rule.pass (tables (now (nodes .entry)) (now (seats .entry))) s ⌝ }
+{
+    let cur = words::seat_word(seats, s, words::CUR);
+    let next = words::link(nodes, cur);
+    words::put_seat(seats, s, words::PREV, cur);
+    words::put_seat(seats, s, words::CUR, next);
+}
+
+// ---- unlink
+
+// prev is 0 or unmarked, and its link is cur
+fn is_joined(nodes: &[u32], seats: &[u32], s: u32) -> bool
+    ensures { λ r. ⌜ r ≡ rule.joined (tables (now (nodes .entry)) (now (seats .entry))) s ⌝ }
+{
+    let prev = words::seat_word(seats, s, words::PREV);
+    let cur = words::seat_word(seats, s, words::CUR);
+    let mark = words::node_word(nodes, prev, words::MARK);
+    let link = words::link(nodes, prev);
+    !(mark == 1) & (link == cur)
+}
+
+fn skip(nodes: &[u32], seats: &mut [u32], s: u32)
+    ensures { λ r. ⌜ tables (now (nodes .entry)) (now (seats .exit)) ≡ part.skip (tables (now (nodes .entry)) (now (seats .entry))) s ⌝ }
+{
+    let cur = words::seat_word(seats, s, words::CUR);
+    let next = words::link(nodes, cur);
+    words::put_seat(seats, s, words::CUR, next);
+}
+
+fn skip_and_link(nodes: &mut [u32], seats: &mut [u32], s: u32)
+    ensures { λ r. ⌜ tables (now (nodes .exit)) (now (seats .exit)) ≡ part.skipAndLink (tables (now (nodes .entry)) (now (seats .entry))) s ⌝ }
+{
+    let prev = words::seat_word(seats, s, words::PREV);
+    let cur = words::seat_word(seats, s, words::CUR);
+    let next = words::link(nodes, cur);
+    words::put_link(nodes, prev, next);
+    words::put_seat(seats, s, words::CUR, next);
+}
+
+fn unlink(nodes: &mut [u32], seats: &mut [u32], s: u32)
+    ensures { λ r. ⌜ tables (now (nodes .exit)) (now (seats .exit)) ≡ rule.unlink (tables (now (nodes .entry)) (now (seats .entry))) s ⌝ }
+{
+    if is_joined(nodes, seats, s) {
+        skip_and_link(nodes, seats, s);
+        return;
+    }
+    skip(nodes, seats, s);
+}
+
+// ---- insert
+
+fn link_in(nodes: &mut [u32], seats: &[u32], s: u32)
+    ensures { λ r. ⌜ tables (now (nodes .exit)) (now (seats .entry)) ≡ rule.linkIn (tables (now (nodes .entry)) (now (seats .entry))) s ⌝ }
+{
+    let own = words::seat_word(seats, s, words::OWN);
+    let prev = words::seat_word(seats, s, words::PREV);
+    let cur = words::seat_word(seats, s, words::CUR);
+    words::put_link(nodes, own, cur);
+    words::put_link(nodes, prev, own);
+}
+
+fn start_validating(nodes: &[u32], seats: &mut [u32], s: u32)
+    ensures { λ r. ⌜ tables (now (nodes .entry)) (now (seats .exit)) ≡ rule.startValidating (tables (now (nodes .entry)) (now (seats .entry))) s ⌝ }
+{
+    let own = words::seat_word(seats, s, words::OWN);
+    if words::node_word(nodes, own, words::KIND) == 1 {
+        let next = words::link(nodes, own);
+        move_to(seats, s, 3, own, next);
+        return;
+    }
+    let head = words::link(nodes, 0);
+    move_to(seats, s, 3, 0, head);
+}
+
+fn look_again(nodes: &[u32], seats: &mut [u32], s: u32)
+    ensures { λ r. ⌜ tables (now (nodes .entry)) (now (seats .exit)) ≡ rule.lookAgain (tables (now (nodes .entry)) (now (seats .entry))) s ⌝ }
+{
+    let prev = words::seat_word(seats, s, words::PREV);
+    if words::node_word(nodes, prev, words::MARK) == 1 {
+        let head = words::link(nodes, 0);
+        words::put_seat(seats, s, words::PREV, 0);
+        words::put_seat(seats, s, words::CUR, head);
+        return;
+    }
+    let link = words::link(nodes, prev);
+    words::put_seat(seats, s, words::CUR, link);
+}
+
+fn insert(nodes: &mut [u32], seats: &mut [u32], s: u32)
+    ensures { λ r. ⌜ tables (now (nodes .exit)) (now (seats .exit)) ≡ rule.insert (tables (now (nodes .entry)) (now (seats .entry))) s ⌝ }
+{
+    if is_joined(nodes, seats, s) {
+        link_in(nodes, seats, s);
+        start_validating(nodes, seats, s);
+        return;
+    }
+    look_again(nodes, seats, s);
+}
+
+// ---- phase 1
+
+fn walk_by_comparison(nodes: &mut [u32], seats: &mut [u32], s: u32)
+    ensures { λ r. ⌜ tables (now (nodes .exit)) (now (seats .exit)) ≡ part.walkByComparison (tables (now (nodes .entry)) (now (seats .entry))) s ⌝ }
+{
+    let own = words::seat_word(seats, s, words::OWN);
+    let cur = words::seat_word(seats, s, words::CUR);
+    let way = comparison::compare_nodes(nodes, cur, own);
+    if way == 0 {
+        words::put_seat(seats, s, words::PHASE, 2);
+        return;
+    }
+    if way < 0 {
+        insert(nodes, seats, s);
+        return;
+    }
+    pass(nodes, seats, s);
+}
+
+fn walk(nodes: &mut [u32], seats: &mut [u32], s: u32)
+    ensures { λ r. ⌜ tables (now (nodes .exit)) (now (seats .exit)) ≡ rule.walking (tables (now (nodes .entry)) (now (seats .entry))) s ⌝ }
+{
+    let cur = words::seat_word(seats, s, words::CUR);
+    if cur == 0 {
+        insert(nodes, seats, s);
+        return;
+    }
+    if words::node_word(nodes, cur, words::MARK) == 1 {
+        unlink(nodes, seats, s);
+        return;
+    }
+    walk_by_comparison(nodes, seats, s);
+}
+
+// ---- phases 2 and 4
+
+// cur marked: on to a phase; else nothing
+fn wake(nodes: &[u32], seats: &mut [u32], s: u32, to: u32)
+    ensures { λ r. ⌜ tables (now (nodes .entry)) (now (seats .exit)) ≡ part.wakeTo to (tables (now (nodes .entry)) (now (seats .entry))) s ⌝ }
+{
+    let cur = words::seat_word(seats, s, words::CUR);
+    if words::node_word(nodes, cur, words::MARK) == 1 {
+        words::put_seat(seats, s, words::PHASE, to);
+    }
+}
+
+// ---- phase 3, a reader
+
+// cur 0, or cur.start ≥ own.end
+fn is_past(nodes: &[u32], seats: &[u32], s: u32) -> bool
+    ensures { λ r. ⌜ r ≡ part.isPast (tables (now (nodes .entry)) (now (seats .entry))) s ⌝ }
+{
+    let own = words::seat_word(seats, s, words::OWN);
+    let cur = words::seat_word(seats, s, words::CUR);
+    let end = words::node_word(nodes, own, words::END);
+    let start = words::node_word(nodes, cur, words::START);
+    (cur == 0) | (end <= start)
+}
+
+fn read_on(nodes: &mut [u32], seats: &mut [u32], s: u32)
+    ensures { λ r. ⌜ tables (now (nodes .exit)) (now (seats .exit)) ≡ part.readOn (tables (now (nodes .entry)) (now (seats .entry))) s ⌝ }
+{
+    let cur = words::seat_word(seats, s, words::CUR);
+    if words::node_word(nodes, cur, words::MARK) == 1 {
+        unlink(nodes, seats, s);
+        return;
+    }
+    if words::node_word(nodes, cur, words::KIND) == 1 {
+        pass(nodes, seats, s);
+        return;
+    }
+    words::put_seat(seats, s, words::PHASE, 4);
+}
+
+fn validate_reader(nodes: &mut [u32], seats: &mut [u32], s: u32)
+    ensures { λ r. ⌜ tables (now (nodes .exit)) (now (seats .exit)) ≡ rule.readerValidating (tables (now (nodes .entry)) (now (seats .entry))) s ⌝ }
+{
+    if is_past(nodes, seats, s) {
+        hold(seats, s);
+        return;
+    }
+    read_on(nodes, seats, s);
+}
+
+// ---- phase 3, a writer
+
+fn withdraw(nodes: &mut [u32], seats: &mut [u32], s: u32)
+    ensures { λ r. ⌜ tables (now (nodes .exit)) (now (seats .exit)) ≡ rule.withdraw (tables (now (nodes .entry)) (now (seats .entry))) s ⌝ }
+{
+    let own = words::seat_word(seats, s, words::OWN);
+    words::put_node(nodes, own, words::MARK, 1);
+    move_to(seats, s, 6, 0, 0);
+}
+
+// cur.end ≤ own.start
+fn ends_before(nodes: &[u32], seats: &[u32], s: u32) -> bool
+    ensures { λ r. ⌜ r ≡ part.endsBefore (tables (now (nodes .entry)) (now (seats .entry))) s ⌝ }
+{
+    let own = words::seat_word(seats, s, words::OWN);
+    let cur = words::seat_word(seats, s, words::CUR);
+    let end = words::node_word(nodes, cur, words::END);
+    let start = words::node_word(nodes, own, words::START);
+    end <= start
+}
+
+fn write_on(nodes: &mut [u32], seats: &mut [u32], s: u32)
+    ensures { λ r. ⌜ tables (now (nodes .exit)) (now (seats .exit)) ≡ part.writeOn (tables (now (nodes .entry)) (now (seats .entry))) s ⌝ }
+{
+    let cur = words::seat_word(seats, s, words::CUR);
+    if words::node_word(nodes, cur, words::MARK) == 1 {
+        unlink(nodes, seats, s);
+        return;
+    }
+    if ends_before(nodes, seats, s) {
+        pass(nodes, seats, s);
+        return;
+    }
+    withdraw(nodes, seats, s);
+}
+
+fn validate_writer(nodes: &mut [u32], seats: &mut [u32], s: u32)
+    ensures { λ r. ⌜ tables (now (nodes .exit)) (now (seats .exit)) ≡ rule.writerValidating (tables (now (nodes .entry)) (now (seats .entry))) s ⌝ }
+{
+    let own = words::seat_word(seats, s, words::OWN);
+    let cur = words::seat_word(seats, s, words::CUR);
+    if cur == own {
+        hold(seats, s);
+        return;
+    }
+    if cur == 0 {
+        withdraw(nodes, seats, s);
+        return;
+    }
+    write_on(nodes, seats, s);
+}
+
+fn validate(nodes: &mut [u32], seats: &mut [u32], s: u32)
+    ensures { λ r. ⌜ tables (now (nodes .exit)) (now (seats .exit)) ≡ rule.validating (tables (now (nodes .entry)) (now (seats .entry))) s ⌝ }
+{
+    let own = words::seat_word(seats, s, words::OWN);
+    if words::node_word(nodes, own, words::KIND) == 1 {
+        validate_reader(nodes, seats, s);
+        return;
+    }
+    validate_writer(nodes, seats, s);
+}
+
+// ---- the answer from the seat's new phase
+
+pub fn answer(seats: &[u32], s: u32) -> Reply
+    ensures { λ r. ⌜ means r ≡ answerOf (tables [] (now (seats .entry))) s ⌝ }
+{
+    let phase = words::seat_word(seats, s, words::PHASE);
+    let cur = words::seat_word(seats, s, words::CUR);
+    match phase {
+        2 | 4 => Reply::Wait(cur),
+        5 => Reply::Held,
+        6 => Reply::Back,
+        _ => Reply::On,
+    }
+}
+
+// ---- the arms of a step
+
+pub fn step_walking(nodes: &mut [u32], seats: &mut [u32], s: u32) -> Reply
+    ensures { λ r. ⌜ done (means r) (tables (now (nodes .exit)) (now (seats .exit))) ≡ answered (rule.walking (tables (now (nodes .entry)) (now (seats .entry))) s) s ⌝ }
+{
+    walk(nodes, seats, s);
+    answer(seats, s)
+}
+
+pub fn step_waiting_to_enter(nodes: &[u32], seats: &mut [u32], s: u32) -> Reply
+    ensures { λ r. ⌜ done (means r) (tables (now (nodes .entry)) (now (seats .exit))) ≡ answered (rule.waitingToEnter (tables (now (nodes .entry)) (now (seats .entry))) s) s ⌝ }
+{
+    wake(nodes, seats, s, 1);
+    answer(seats, s)
+}
+
+pub fn step_validating(nodes: &mut [u32], seats: &mut [u32], s: u32) -> Reply
+    ensures { λ r. ⌜ done (means r) (tables (now (nodes .exit)) (now (seats .exit))) ≡ answered (rule.validating (tables (now (nodes .entry)) (now (seats .entry))) s) s ⌝ }
+{
+    validate(nodes, seats, s);
+    answer(seats, s)
+}
+
+pub fn step_reader_waiting(nodes: &[u32], seats: &mut [u32], s: u32) -> Reply
+    ensures { λ r. ⌜ done (means r) (tables (now (nodes .entry)) (now (seats .exit))) ≡ answered (rule.readerWaiting (tables (now (nodes .entry)) (now (seats .entry))) s) s ⌝ }
+{
+    wake(nodes, seats, s, 3);
+    answer(seats, s)
+}
+
+// ---- release
+
+pub fn leave(nodes: &mut [u32], seats: &mut [u32], s: u32)
+    ensures { λ r. ⌜ tables (now (nodes .exit)) (now (seats .exit)) ≡ rule.leave (tables (now (nodes .entry)) (now (seats .entry))) s ⌝ }
+{
+    let own = words::seat_word(seats, s, words::OWN);
+    words::put_node(nodes, own, words::MARK, 1);
+    move_to(seats, s, 0, 0, 0);
+    words::put_seat(seats, s, words::OWN, 0);
+}

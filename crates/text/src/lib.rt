@@ -1,0 +1,128 @@
+// Text into a lent buffer, and the lines that the program prints. A byte that finds no room is left out, so every function is total.
+ghost use mathlib.Core.Path.{_≡_};
+ghost use mathlib.Core.List.{[], _∷_, _++_};
+ghost use Rattle.rules.specs.Play.{ascii, decimal, answerText, rowText};
+ghost use Rattle.text.specs.Page.{page, puts};
+ghost use Rattle.text.specs.Replies.{codeOf, numberOf, answerBy, answerLine, row};
+use rules::Reply;
+
+pub fn put_byte(out: &mut [u8], at: usize, b: u8) -> usize
+    ensures { λ r. ⌜ page (now (out .exit)) r ≡ puts (page (now (out .entry)) at) (b ∷ []) ⌝ }
+{
+    if at < out.len() {
+        out[at] = b;
+        return at + 1;
+    }
+    at
+}
+
+pub fn put_text(out: &mut [u8], at: usize, text: &[u8]) -> usize
+    ensures { λ r. ⌜ page (now (out .exit)) r ≡ puts (page (now (out .entry)) at) (now (text .entry)) ⌝ }
+{
+    let mut next = at;
+    let mut i: usize = 0;
+    while i < text.len() {
+        next = put_byte(out, next, text[i]);
+        i += 1;
+    }
+    next
+}
+
+pub fn put_number(out: &mut [u8], at: usize, n: u64) -> usize
+    ensures { λ r. ⌜ page (now (out .exit)) r ≡ puts (page (now (out .entry)) at) (decimal n) ⌝ }
+{
+    let digit = 48 + (n % 10) as u8;
+    if n < 10 {
+        return put_byte(out, at, digit);
+    }
+    let next = put_number(out, at, n / 10);
+    put_byte(out, next, digit)
+}
+
+// A word and a number.
+pub fn put_named(out: &mut [u8], at: usize, word: &[u8], n: u64) -> usize
+    ensures { λ r. ⌜ page (now (out .exit)) r ≡ puts (page (now (out .entry)) at) (now (word .entry) ++ decimal n) ⌝ }
+{
+    let next = put_text(out, at, word);
+    put_number(out, next, n)
+}
+
+// A space and a number.
+pub fn put_next(out: &mut [u8], at: usize, n: u32) -> usize
+    ensures { λ r. ⌜ page (now (out .exit)) r ≡ puts (page (now (out .entry)) at) (ascii " " ++ decimal n) ⌝ }
+{
+    let next = put_byte(out, at, b' ');
+    put_number(out, next, n as u64)
+}
+
+// A line of a word and a number: `bad L`, `covered n`.
+pub fn put_line(out: &mut [u8], at: usize, word: &[u8], n: u64) -> usize
+    ensures { λ r. ⌜ page (now (out .exit)) r ≡ puts (page (now (out .entry)) at) (now (word .entry) ++ decimal n ++ ascii "\n") ⌝ }
+{
+    let next = put_named(out, at, word, n);
+    put_byte(out, next, b'\n')
+}
+
+// `hold seat start end kind`
+pub fn put_row(out: &mut [u8], at: usize, seat: u32, first: u32, end: u32, kind: u32) -> usize
+    ensures { λ r. ⌜ page (now (out .exit)) r ≡ puts (page (now (out .entry)) at) (rowText (row seat first end kind)) ⌝ }
+{
+    let a = put_named(out, at, b"hold ", seat as u64);
+    let b = put_next(out, a, first);
+    let c = put_next(out, b, end);
+    let d = put_next(out, c, kind);
+    put_byte(out, d, b'\n')
+}
+
+// A reply as a code and a number, which the printers take in its place.
+pub fn code_of(reply: Reply) -> u32
+    ensures { λ r. ⌜ r ≡ codeOf reply ⌝ }
+{
+    match reply {
+        Reply::Node(_) => 0,
+        Reply::Out => 1,
+        Reply::On => 2,
+        Reply::Wait(_) => 3,
+        Reply::Held => 4,
+        Reply::Back => 5,
+        Reply::Refused(_) => 6,
+    }
+}
+
+pub fn number_of(reply: Reply) -> u32
+    ensures { λ r. ⌜ r ≡ numberOf reply ⌝ }
+{
+    match reply {
+        Reply::Node(n) => n,
+        Reply::Out => 0,
+        Reply::On => 0,
+        Reply::Wait(n) => n,
+        Reply::Held => 0,
+        Reply::Back => 0,
+        Reply::Refused(number) => number,
+    }
+}
+
+fn put_answer(out: &mut [u8], at: usize, code: u32, n: u32) -> usize
+    ensures { λ r. ⌜ page (now (out .exit)) r ≡ puts (page (now (out .entry)) at) (answerText (answerBy code n)) ⌝ }
+{
+    match code {
+        0 => put_named(out, at, b"node ", n as u64),
+        1 => put_text(out, at, b"out"),
+        2 => put_text(out, at, b"on"),
+        3 => put_named(out, at, b"wait ", n as u64),
+        4 => put_text(out, at, b"held"),
+        5 => put_text(out, at, b"back"),
+        _ => put_named(out, at, b"no ", n as u64),
+    }
+}
+
+// A call's line: its number and its answer.
+pub fn put_turn(out: &mut [u8], at: usize, number: u32, code: u32, n: u32) -> usize
+    ensures { λ r. ⌜ page (now (out .exit)) r ≡ puts (page (now (out .entry)) at) (answerLine number (answerBy code n)) ⌝ }
+{
+    let a = put_number(out, at, number as u64);
+    let b = put_byte(out, a, b' ');
+    let c = put_answer(out, b, code, n);
+    put_byte(out, c, b'\n')
+}

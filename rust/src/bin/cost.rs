@@ -1,0 +1,202 @@
+//! cost MACHINE OPERATION N S COUNT: makes one call COUNT times, each from the same tables, under a counter of instructions.
+//! The cost of a call is what twice COUNT takes more than COUNT, over COUNT, less the same for `reset`, which makes no call.
+//! `cost` alone lists the operations. MACHINE is second, or proved with the feature of that name.
+
+use second::driver::{make, Call, Case, Library};
+use second::machine::{self, Answer, HEAD, MARK, NODE_WORDS, START};
+use second::random::Random;
+use std::process::exit;
+
+#[cfg(feature = "proved")]
+const MACHINES: &[(&str, Library)] =
+    &[("second", second::library_of!(second::library)), ("proved", second::library_of!(second::proved))];
+
+#[cfg(not(feature = "proved"))]
+const MACHINES: &[(&str, Library)] = &[("second", second::library_of!(second::library))];
+
+const READS: u32 = 1;
+const WRITES: u32 = 2;
+
+/// Tables on their way to the call that is measured: all seats but two hold, one behind the other.
+struct Bench {
+    nodes: Vec<u32>,
+    seats: Vec<u32>,
+    /// the seat that the call is made for, and one beside it
+    last: u32,
+    beside: u32,
+}
+
+fn holders(node_count: u32, seat_count: u32, kind: u32) -> Bench {
+    let (nodes, seats) = machine::fresh(node_count, seat_count);
+    let mut bench = Bench { nodes, seats, last: seat_count - 1, beside: seat_count - 2 };
+    for seat in 0..bench.beside {
+        bench.begin(seat, 10 * (seat + 1), 10 * (seat + 1) + 5, kind);
+        bench.step_until_held(seat);
+    }
+    bench
+}
+
+impl Bench {
+    fn begin(&mut self, seat: u32, start: u32, end: u32, kind: u32) {
+        machine::begin(&mut self.nodes, &mut self.seats, seat, start, end, kind).expect("a node is free");
+    }
+
+    fn step(&mut self, seat: u32) -> Answer {
+        machine::step(&mut self.nodes, &mut self.seats, seat).expect("the seat is under way")
+    }
+
+    fn step_until_held(&mut self, seat: u32) {
+        while self.step(seat) != Answer::Held {}
+    }
+
+    fn release(mut self, seat: u32) -> Bench {
+        machine::release(&mut self.nodes, &mut self.seats, seat).expect("the seat holds");
+        self
+    }
+
+    /// The seat has begun before all holders, over all of them or behind them, and has made some steps.
+    fn before(self, seat: u32, kind: u32, steps: u32) -> Bench {
+        self.begun(seat, 0, 5, kind, steps)
+    }
+
+    fn over(self, seat: u32, kind: u32, steps: u32) -> Bench {
+        self.begun(seat, 0, u32::MAX, kind, steps)
+    }
+
+    fn behind(self, seat: u32, kind: u32, steps: u32) -> Bench {
+        let first = 10 * (self.last + 1);
+        self.begun(seat, first, first + 5, kind, steps)
+    }
+
+    fn begun(mut self, seat: u32, start: u32, end: u32, kind: u32, steps: u32) -> Bench {
+        self.begin(seat, start, end, kind);
+        for _ in 0..steps {
+            self.step(seat);
+        }
+        self
+    }
+
+    /// Every node that was never used is listed behind the holders, marked or not.
+    fn full(mut self, mark: u32) -> Bench {
+        let mut last_listed = machine::listed(&self.nodes).last().unwrap_or(0);
+        let unused = machine::listed(&self.nodes).count() as u32 + 1;
+        for node in unused..=((self.nodes.len() - 1) / NODE_WORDS) as u32 {
+            self.nodes[machine::link(last_listed)] = node;
+            self.nodes[machine::place(node, START)..=machine::place(node, MARK)]
+                .copy_from_slice(&[10_000, 10_005, WRITES, 0, mark]);
+            last_listed = node;
+        }
+        self
+    }
+
+    fn call(self, call: Call) -> Case {
+        Case { nodes: self.nodes, seats: self.seats, call }
+    }
+
+    fn steps(self) -> Case {
+        let seat = self.last;
+        self.call(Call::Step { seat })
+    }
+
+    fn begins(self) -> Case {
+        let seat = self.last;
+        self.call(Call::Begin { seat, start: 0, end: 5, kind: WRITES })
+    }
+}
+
+/// A writer behind all readers, which has made all its steps but the one that links, and a reader over all that has linked.
+fn race(nodes: u32, seats: u32) -> Bench {
+    let bench = holders(nodes, seats, READS);
+    let (last, beside) = (bench.last, bench.beside);
+    let mut bench = bench.behind(last, WRITES, beside).over(beside, READS, 1);
+    bench.step(last);
+    bench
+}
+
+/// A reader over all that stands before the one writer, which holds behind all readers.
+fn reader_before_writer(nodes: u32, seats: u32) -> Bench {
+    let bench = holders(nodes, seats, READS);
+    let (last, beside) = (bench.last, bench.beside);
+    let mut bench = bench.behind(beside, WRITES, 0);
+    bench.step_until_held(beside);
+    bench.over(last, READS, 1 + beside)
+}
+
+/// All seats have begun, every fourth reads over all the others' frames, and a thousand steps follow in no order.
+fn long_run(node_count: u32, seat_count: u32) -> Case {
+    let (nodes, seats) = machine::fresh(node_count, seat_count);
+    let mut bench = Bench { nodes, seats, last: seat_count - 1, beside: seat_count - 2 };
+    for seat in 0..seat_count {
+        let (start, end, kind) =
+            if seat % 4 == 3 { (10 * seat, 2000, READS) } else { (10 * seat, 10 * seat + 15, WRITES) };
+        bench.begin(seat, start, end, kind);
+    }
+    let mut random = Random::new(1);
+    let entries = (0..1000).map(|_| random.below(seat_count)).collect();
+    bench.call(Call::Run { entries, budget: 1000 })
+}
+
+type Operation = (&'static str, fn(u32, u32) -> Case);
+
+const OPERATIONS: &[Operation] = &[
+    ("clear", |nodes, seats| holders(nodes, seats, WRITES).call(Call::Clear)),
+    ("begin", |nodes, seats| holders(nodes, seats, WRITES).begins()),
+    ("begin, marked nodes are taken out", |nodes, seats| holders(nodes, seats, WRITES).full(1).begins()),
+    ("begin, refused 8", |nodes, seats| holders(nodes, seats, WRITES).full(0).begins()),
+    ("step 1, pass", |nodes, seats| holders(nodes, seats, WRITES).behind(seats - 1, WRITES, 0).steps()),
+    ("step 1, insert", |nodes, seats| holders(nodes, seats, WRITES).before(seats - 1, WRITES, 0).steps()),
+    ("step 1, unlink", |nodes, seats| holders(nodes, seats, WRITES).release(0).before(seats - 1, WRITES, 0).steps()),
+    ("step 1, clash", |nodes, seats| holders(nodes, seats, WRITES).over(seats - 1, WRITES, 0).steps()),
+    ("step 2, waits on", |nodes, seats| holders(nodes, seats, WRITES).over(seats - 1, WRITES, 1).steps()),
+    ("step 3, reader passes", |nodes, seats| holders(nodes, seats, READS).over(seats - 1, READS, 1).steps()),
+    ("step 3, reader holds", |nodes, seats| holders(nodes, seats, READS).before(seats - 1, READS, 1).steps()),
+    ("step 3, reader meets a writer", |nodes, seats| reader_before_writer(nodes, seats).steps()),
+    ("step 3, writer passes", |nodes, seats| {
+        holders(nodes, seats, WRITES).behind(seats - 1, WRITES, seats - 1).steps()
+    }),
+    ("step 3, writer holds", |nodes, seats| holders(nodes, seats, WRITES).before(seats - 1, WRITES, 1).steps()),
+    ("step 3, writer withdraws", |nodes, seats| race(nodes, seats).steps()),
+    ("step 4, waits on", |nodes, seats| {
+        let mut bench = reader_before_writer(nodes, seats);
+        bench.step(seats - 1);
+        bench.steps()
+    }),
+    ("step 5", |nodes, seats| holders(nodes, seats, WRITES).call(Call::Step { seat: 0 })),
+    ("step 6, fetch", |nodes, seats| {
+        let mut bench = race(nodes, seats);
+        bench.step(seats - 1);
+        bench.steps()
+    }),
+    ("release", |nodes, seats| holders(nodes, seats, WRITES).call(Call::Release { seat: 0 })),
+    ("run of 1,000 entries", long_run),
+    ("board", |nodes, seats| holders(nodes, seats, WRITES).call(Call::Board { rows: vec![0; 256] })),
+    ("free count", |nodes, seats| holders(nodes, seats, WRITES).call(Call::FreeCount)),
+];
+
+fn number(argument: &str) -> u32 {
+    argument.parse().expect("N, S and COUNT are numbers")
+}
+
+fn main() {
+    let arguments: Vec<String> = std::env::args().skip(1).collect();
+    if arguments.len() != 5 {
+        println!("reset");
+        OPERATIONS.iter().for_each(|(name, _)| println!("{name}"));
+        exit(if arguments.is_empty() { 0 } else { 2 });
+    }
+    let library = MACHINES.iter().find(|(name, _)| *name == arguments[0]).expect("the name of a machine").1;
+    let operation = OPERATIONS.iter().find(|(name, _)| *name == arguments[1]);
+    let prepare = operation.map_or(OPERATIONS[0].1, |(_, prepare)| *prepare);
+    let case = prepare(number(&arguments[2]), number(&arguments[3]));
+    let (mut nodes, mut seats, mut rows) = (case.nodes.clone(), case.seats.clone(), vec![0; 256]);
+    let mut answer = 0;
+    let mut covered = 0;
+    for _ in 0..number(&arguments[4]) {
+        nodes.copy_from_slice(&case.nodes);
+        seats.copy_from_slice(&case.seats);
+        if operation.is_some() {
+            answer = make(&library, &case.call, &mut nodes, &mut seats, &mut rows, &mut covered);
+        }
+    }
+    println!("{}: answer {} {}, head {}, covered {covered}", arguments[1], answer >> 32, answer as u32, nodes[HEAD]);
+}

@@ -1,0 +1,31 @@
+//! generate SEED COUNT [DIRECTORY | --tally]: writes the scripts 0 to COUNT − 1 of a seed into a directory, or counts what
+//! they reach. With neither, prints the script COUNT of the seed.
+
+use second::generate::script;
+use second::tally::Tally;
+use std::io::Write;
+
+fn number(argument: Option<&String>) -> u64 {
+    argument.and_then(|digits| digits.parse().ok()).expect("generate SEED COUNT [DIRECTORY | --tally]")
+}
+
+fn main() -> std::io::Result<()> {
+    let arguments: Vec<String> = std::env::args().skip(1).collect();
+    let (seed, count) = (number(arguments.first()), number(arguments.get(1)));
+    match arguments.get(2).map(String::as_str) {
+        None => std::io::stdout().write_all(&script(seed, count).1)?,
+        Some("--tally") => {
+            let mut tally = Tally::default();
+            for (flaw, bytes) in (0..count).map(|number| script(seed, number)) {
+                tally.count_script(flaw, &bytes);
+            }
+            print!("{}", tally.text());
+        }
+        Some(directory) => {
+            for number in 0..count {
+                std::fs::write(format!("{directory}/{seed}-{number}.script"), script(seed, number).1)?;
+            }
+        }
+    }
+    Ok(())
+}

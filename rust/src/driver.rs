@@ -1,0 +1,229 @@
+//! Calls two machines on copies of the same tables and compares the answer and every word afterwards, also of the board.
+//! Both machines are behind the functions that `library.rs` names. Nothing is assumed of the tables.
+
+use crate::generate;
+use crate::machine;
+use crate::random::Random;
+use crate::script::{read_script, BEGIN, STEP};
+use crate::tables::{any_words, damaged, sound_words, Tables, DAMAGES};
+
+/// The functions of one machine.
+#[derive(Clone, Copy)]
+#[allow(clippy::type_complexity)]
+pub struct Library {
+    pub clear: fn(&mut [u32], &mut [u32]) -> u64,
+    pub begin: fn(&mut [u32], &mut [u32], u32, u32, u32, u32) -> u64,
+    pub step: fn(&mut [u32], &mut [u32], u32) -> u64,
+    pub release: fn(&mut [u32], &mut [u32], u32) -> u64,
+    pub run: fn(&mut [u32], &mut [u32], &[u32], u32) -> u64,
+    pub board: fn(&[u32], &[u32], &mut [u32], &mut u64) -> u64,
+    pub free_count: fn(&[u32], &[u32]) -> u64,
+}
+
+/// The functions of a module as a `Library`.
+#[macro_export]
+macro_rules! library_of {
+    ($module:path) => {{
+        use $module as side;
+        $crate::driver::Library {
+            clear: side::clear,
+            begin: side::begin,
+            step: side::step,
+            release: side::release,
+            run: side::run,
+            board: side::board,
+            free_count: side::free_count,
+        }
+    }};
+}
+
+#[derive(Clone, Debug, PartialEq)]
+pub enum Call {
+    Clear,
+    Begin { seat: u32, start: u32, end: u32, kind: u32 },
+    Step { seat: u32 },
+    Release { seat: u32 },
+    Run { entries: Vec<u32>, budget: u32 },
+    Board { rows: Vec<u32> },
+    FreeCount,
+}
+
+#[derive(Clone, Debug)]
+pub struct Case {
+    pub nodes: Vec<u32>,
+    pub seats: Vec<u32>,
+    pub call: Call,
+}
+
+/// What a call gives back and leaves behind. The slices lie in longer ones, whose other words must stay as well.
+#[derive(PartialEq)]
+pub struct Outcome {
+    pub answer: u64,
+    pub covered: u64,
+    pub nodes: Guarded,
+    pub seats: Guarded,
+    pub rows: Guarded,
+}
+
+/// Words to lend, between words that are not lent.
+#[derive(PartialEq)]
+pub struct Guarded(Vec<u32>);
+
+const GUARD: [u32; 2] = [0xdead_0001, 0xdead_0002];
+
+impl Guarded {
+    fn new(words: &[u32]) -> Guarded {
+        Guarded([&GUARD, words, &GUARD].concat())
+    }
+
+    fn range(&self) -> std::ops::Range<usize> {
+        GUARD.len()..self.0.len() - GUARD.len()
+    }
+
+    fn lend(&mut self) -> &mut [u32] {
+        let range = self.range();
+        &mut self.0[range]
+    }
+
+    pub fn words(&self) -> &[u32] {
+        &self.0[self.range()]
+    }
+}
+
+/// Makes the call; the board's rows are given apart.
+pub fn make(
+    library: &Library,
+    call: &Call,
+    nodes: &mut [u32],
+    seats: &mut [u32],
+    rows: &mut [u32],
+    covered: &mut u64,
+) -> u64 {
+    match call {
+        Call::Clear => (library.clear)(nodes, seats),
+        &Call::Begin { seat, start, end, kind } => (library.begin)(nodes, seats, seat, start, end, kind),
+        &Call::Step { seat } => (library.step)(nodes, seats, seat),
+        &Call::Release { seat } => (library.release)(nodes, seats, seat),
+        Call::Run { entries, budget } => (library.run)(nodes, seats, entries, *budget),
+        Call::Board { .. } => (library.board)(nodes, seats, rows, covered),
+        Call::FreeCount => (library.free_count)(nodes, seats),
+    }
+}
+
+pub fn outcome(library: &Library, case: &Case) -> Outcome {
+    let mut covered = 0xdead_0003;
+    let mut nodes = Guarded::new(&case.nodes);
+    let mut seats = Guarded::new(&case.seats);
+    let mut rows = Guarded::new(if let Call::Board { rows } = &case.call { rows } else { &[] });
+    let answer = make(library, &case.call, nodes.lend(), seats.lend(), rows.lend(), &mut covered);
+    Outcome { answer, covered, nodes, seats, rows }
+}
+
+/// Two machines, and how many calls they have agreed on.
+pub struct Driver {
+    pub ours: Library,
+    pub theirs: Library,
+    pub agreed: u64,
+}
+
+impl Driver {
+    pub fn differs(&self, case: &Case) -> bool {
+        outcome(&self.ours, case) != outcome(&self.theirs, case)
+    }
+
+    /// The tables after the call, on which both machines agree, or the case on which they do not.
+    fn compare(&mut self, case: Case) -> Result<Tables, Case> {
+        let ours = outcome(&self.ours, &case);
+        if ours != outcome(&self.theirs, &case) {
+            return Err(case);
+        }
+        self.agreed += 1;
+        Ok((ours.nodes.words().to_vec(), ours.seats.words().to_vec()))
+    }
+
+    /// The rows of a generated script as calls, with run, board, free count and rarely clear in between.
+    pub fn history(&mut self, random: &mut Random) -> Result<(), Case> {
+        let script = read_script(&generate::good(random)).expect("a good script");
+        let (mut nodes, mut seats) = machine::fresh(script.nodes, script.seats);
+        for &row in &script.rows[..script.count as usize] {
+            let call = match (random.below(1000), row) {
+                (0, _) => Call::Clear,
+                (1..=50, _) => some_run(random, script.seats),
+                (51..=150, _) => some_board(random),
+                (151..=250, _) => Call::FreeCount,
+                (_, [BEGIN, seat, start, end, kind]) => Call::Begin { seat, start, end, kind },
+                (_, [STEP, seat, ..]) => Call::Step { seat },
+                (_, [_, seat, ..]) => Call::Release { seat },
+            };
+            (nodes, seats) = self.compare(Case { nodes, seats, call })?;
+        }
+        Ok(())
+    }
+
+    /// Each call once on the tables, and a run of several steps.
+    fn every_call(&mut self, random: &mut Random, tables: Tables) -> Result<(), Case> {
+        let (nodes, seats) = tables;
+        let seat_count = (seats.len() / machine::SEAT_WORDS) as u32;
+        let calls = [
+            Call::Clear,
+            some_begin(random, seat_count),
+            Call::Step { seat: some_seat(random, seat_count) },
+            Call::Step { seat: some_seat(random, seat_count) },
+            Call::Release { seat: some_seat(random, seat_count) },
+            some_run(random, seat_count),
+            some_board(random),
+            Call::FreeCount,
+        ];
+        for call in calls {
+            self.compare(Case { nodes: nodes.clone(), seats: seats.clone(), call })?;
+        }
+        Ok(())
+    }
+
+    pub fn any_words(&mut self, random: &mut Random) -> Result<(), Case> {
+        let tables = any_words(random);
+        self.every_call(random, tables)
+    }
+
+    pub fn sound_words(&mut self, random: &mut Random) -> Result<(), Case> {
+        let tables = sound_words(random);
+        self.every_call(random, tables)
+    }
+
+    pub fn damages(&mut self, random: &mut Random) -> Result<(), Case> {
+        for damage in DAMAGES {
+            let tables = damaged(random, damage);
+            self.every_call(random, tables)?;
+        }
+        Ok(())
+    }
+}
+
+fn some_seat(random: &mut Random, seat_count: u32) -> u32 {
+    if random.percent(95) {
+        random.below(seat_count)
+    } else {
+        random.pick(&[seat_count, 64, u32::MAX])
+    }
+}
+
+fn some_begin(random: &mut Random, seat_count: u32) -> Call {
+    let seat = some_seat(random, seat_count);
+    if random.percent(80) {
+        let start = random.below(9);
+        Call::Begin { seat, start, end: start + random.between(1, 5), kind: random.between(1, 2) }
+    } else {
+        Call::Begin { seat, start: random.edge(), end: random.edge(), kind: random.pick(&[0, 1, 2, 3, u32::MAX]) }
+    }
+}
+
+fn some_run(random: &mut Random, seat_count: u32) -> Call {
+    let length = random.pick(&[0, 1, 2, 5, 30]);
+    let entries: Vec<u32> = (0..length).map(|_| some_seat(random, seat_count)).collect();
+    Call::Run { entries, budget: random.pick(&[0, 1, 2, 29, 30, 31, u32::MAX]) }
+}
+
+fn some_board(random: &mut Random) -> Call {
+    let length = random.pick(&[0, 3, 4, 5, 8, 31, 255, 256, 300]);
+    Call::Board { rows: (0..length).map(|_| random.word()).collect() }
+}

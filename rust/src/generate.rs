@@ -1,0 +1,342 @@
+//! Scripts for comparing machines: good ones that lead many seats into each other's way, and bad ones made from these.
+//! A number gives the same script everywhere. The generator looks at the seats of the second machine as it goes.
+
+use crate::machine;
+use crate::random::Random;
+use crate::script::{call, BEGIN, MOST_BYTES, MOST_ROWS, RELEASE, STEP};
+
+/// What a good script is made of: tables, who takes part, and how often something is done, in per cent.
+struct Mix {
+    nodes: u32,
+    seats: u32,
+    /// the seats that take part
+    active: u32,
+    /// claims lie within this many frames from the first one
+    first: u32,
+    frames: u32,
+    /// no writer is longer, and no reader but the long ones
+    longest: u32,
+    reads: u32,
+    /// readers as long as may be: they reach over other readers to writers that they did not meet on their way
+    long_reads: u32,
+    /// claims come with falling starts
+    falling: bool,
+    releases: u32,
+    /// the same seat again
+    stays: u32,
+    nonsense: u32,
+    rows: usize,
+}
+
+/// N and S.
+const TABLES: [(u32, u32); 18] = [
+    (1, 1),
+    (1, 3),
+    (2, 2),
+    (2, 4),
+    (3, 3),
+    (4, 4),
+    (4, 8),
+    (5, 3),
+    (6, 5),
+    (8, 4),
+    (8, 8),
+    (12, 8),
+    (16, 8),
+    (40, 16),
+    (63, 64),
+    (65, 64),
+    (256, 64),
+    (256, 64),
+];
+
+/// Long readers, short readers and short writers on enough nodes: what leads to withdrawals and to readers that wait.
+fn race(random: &mut Random) -> Mix {
+    let (nodes, seats) = random.pick(&[(8, 6), (10, 8), (12, 6), (16, 8), (40, 16)]);
+    Mix {
+        nodes,
+        seats,
+        active: seats,
+        first: random.pick(&[0, u32::MAX - 60]),
+        frames: random.pick(&[12, 24, 40, 60]),
+        longest: random.pick(&[1, 2, 4]),
+        reads: random.pick(&[50, 65, 80]),
+        long_reads: random.pick(&[25, 50]),
+        falling: false,
+        releases: random.pick(&[20, 40, 70]),
+        stays: random.pick(&[0, 20]),
+        nonsense: random.pick(&[0, 2]),
+        rows: MOST_ROWS,
+    }
+}
+
+/// Many holders at once, on a list that grows long: claims come with falling starts, so that each is listed at once.
+fn crowd(random: &mut Random) -> Mix {
+    let frames = random.pick(&[5000, u32::MAX]);
+    Mix {
+        nodes: random.pick(&[63, 64, 65, 256]),
+        seats: 64,
+        active: 64,
+        first: u32::MAX - frames,
+        frames,
+        longest: random.pick(&[1, 3, 50]),
+        reads: random.pick(&[0, 50, 100]),
+        long_reads: random.pick(&[0, 5]),
+        falling: true,
+        releases: random.pick(&[3, 20]),
+        stays: random.pick(&[50, 90]),
+        nonsense: random.pick(&[0, 2]),
+        rows: MOST_ROWS,
+    }
+}
+
+fn mix(random: &mut Random) -> Mix {
+    match random.below(10) {
+        0..=3 => return race(random),
+        4 => return crowd(random),
+        _ => {}
+    }
+    let (nodes, seats) = random.pick(&TABLES);
+    let frames = random.pick(&[2, 4, 10, 20, 40, 200, u32::MAX]);
+    Mix {
+        nodes,
+        seats,
+        active: random.pick(&[seats, seats.min(4), seats.min(8)]),
+        first: random.pick(&[0, 0, (u32::MAX - frames).min(7), u32::MAX - frames]),
+        frames,
+        longest: random.pick(&[1, 3, frames / 8 + 1]).min(frames),
+        reads: random.pick(&[0, 30, 50, 70, 100]),
+        long_reads: random.pick(&[0, 20, 60]),
+        falling: false,
+        releases: random.pick(&[5, 30, 60, 100]),
+        stays: random.pick(&[0, 0, 30, 80]),
+        nonsense: random.pick(&[0, 0, 3, 20]),
+        rows: random.pick(&[0, 1, 5, 40, 150, 400, MOST_ROWS, MOST_ROWS, MOST_ROWS]),
+    }
+}
+
+fn begin_row(random: &mut Random, mix: &Mix, seat: u32, row_number: u32) -> [u32; 5] {
+    let kind = if random.percent(mix.reads) { 1 } else { 2 };
+    let long = kind == 1 && random.percent(mix.long_reads);
+    let length = random.between(1, if long { mix.frames } else { mix.longest });
+    let room = mix.frames - length;
+    let start = if mix.falling {
+        mix.first + room - (u64::from(room) * u64::from(row_number) / MOST_ROWS as u64) as u32
+    } else {
+        mix.first + random.between(0, room)
+    };
+    [BEGIN, seat, start, start + length, kind]
+}
+
+/// A call that is well formed, and most likely refused.
+fn nonsense_row(random: &mut Random, mix: &Mix) -> [u32; 5] {
+    let seat = if random.percent(60) { random.below(mix.seats) } else { random.pick(&[mix.seats, 64, u32::MAX]) };
+    match random.below(4) {
+        0 => [STEP, seat, 0, 0, 0],
+        1 => [RELEASE, seat, 0, 0, 0],
+        2 => [BEGIN, seat, random.edge(), random.edge(), random.pick(&[0, 1, 2, 3, u32::MAX])],
+        _ => [BEGIN, seat, random.below(9), random.below(9), random.below(4)],
+    }
+}
+
+/// What the seat can do next: begin if it is idle, now and then release if it holds, else a step.
+fn sensible_row(random: &mut Random, mix: &Mix, seats: &[u32], seat: u32, row_number: u32) -> [u32; 5] {
+    match seats[machine::SEAT_WORDS * seat as usize + machine::PHASE] {
+        machine::IDLE => begin_row(random, mix, seat, row_number),
+        machine::HOLDING if random.percent(mix.releases) => [RELEASE, seat, 0, 0, 0],
+        _ => [STEP, seat, 0, 0, 0],
+    }
+}
+
+/// Whether the seat waits or holds, most of the time: such steps are rarely worth a row.
+fn stands(random: &mut Random, seats: &[u32], seat: u32) -> bool {
+    let phase = seats[machine::SEAT_WORDS * seat as usize + machine::PHASE];
+    [machine::WAITING_TO_ENTER, machine::READER_WAITING, machine::HOLDING].contains(&phase) && random.percent(80)
+}
+
+pub fn row_text(row: [u32; 5]) -> String {
+    let [code, seat, start, end, kind] = row;
+    match code {
+        BEGIN => format!("b {seat} {start} {end} {kind}\n"),
+        STEP => format!("s {seat}\n"),
+        _ => format!("r {seat}\n"),
+    }
+}
+
+/// The whole script, with its contents line.
+fn script_text(nodes: u32, seats: u32, rows: &[String]) -> Vec<u8> {
+    format!("{nodes} {seats} {}\n{}", rows.len(), rows.concat()).into_bytes()
+}
+
+/// The longest contents line there is.
+const CONTENTS_BYTES: usize = "256 64 1000\n".len();
+
+/// A good script.
+pub fn good(random: &mut Random) -> Vec<u8> {
+    let mix = mix(random);
+    let (mut nodes, mut seats) = machine::fresh(mix.nodes, mix.seats);
+    let mut rows = Vec::new();
+    let mut bytes = CONTENTS_BYTES;
+    let mut seat = 0;
+    while rows.len() < mix.rows {
+        if !random.percent(mix.stays) || stands(random, &seats, seat) {
+            seat = random.below(mix.active);
+        }
+        if stands(random, &seats, seat) {
+            continue;
+        }
+        let row = if random.percent(mix.nonsense) {
+            nonsense_row(random, &mix)
+        } else {
+            sensible_row(random, &mix, &seats, seat, rows.len() as u32)
+        };
+        let text = row_text(row);
+        bytes += text.len();
+        if bytes > MOST_BYTES {
+            break;
+        }
+        // refused or not, the script goes on
+        let _ = call(&mut nodes, &mut seats, row);
+        rows.push(text);
+    }
+    script_text(mix.nodes, mix.seats, &rows)
+}
+
+/// A script of this many bytes, about 16,384, with nothing wrong in it but perhaps its length.
+fn of_length(random: &mut Random, bytes: usize) -> Vec<u8> {
+    let mut left = bytes - "3 2 999\n".len();
+    let mut rows = Vec::new();
+    while left > 0 {
+        let text = if left > 60 {
+            row_text([BEGIN, random.below(2), random.word(), random.word(), random.between(1, 2)])
+        } else {
+            // at most 13 bytes in one row, and never a rest too short for a row
+            let length = if left <= 13 { left } else { random.between(4, 13.min(left as u32 - 4)) as usize };
+            format!("s {}\n", &"4294967295"[..length - "s \n".len()])
+        };
+        left -= text.len();
+        rows.push(text);
+    }
+    script_text(3, 2, &rows)
+}
+
+/// Some place of the script where the byte before it (LF before the first) and the byte there are as wanted, or any place.
+fn place(random: &mut Random, script: &[u8], wanted: fn(u8, u8) -> bool) -> usize {
+    let before = |at: usize| if at == 0 { b'\n' } else { script[at - 1] };
+    let places: Vec<usize> = (0..script.len()).filter(|&at| wanted(before(at), script[at])).collect();
+    if places.is_empty() {
+        random.below(script.len() as u32) as usize
+    } else {
+        random.pick(&places)
+    }
+}
+
+fn space(_: u8, byte: u8) -> bool {
+    byte == b' '
+}
+
+fn line_end(_: u8, byte: u8) -> bool {
+    byte == b'\n'
+}
+
+fn line_start(before: u8, _: u8) -> bool {
+    before == b'\n'
+}
+
+fn letter(_: u8, byte: u8) -> bool {
+    byte.is_ascii_alphabetic()
+}
+
+fn number(before: u8, byte: u8) -> bool {
+    byte.is_ascii_digit() && !before.is_ascii_digit()
+}
+
+fn any_byte(_: u8, _: u8) -> bool {
+    true
+}
+
+/// Puts bytes in at such a place, or in the stead of the one there.
+fn put_in(random: &mut Random, script: &mut Vec<u8>, wanted: fn(u8, u8) -> bool, bytes: &[u8]) {
+    let at = place(random, script, wanted);
+    script.splice(at..at, bytes.iter().copied());
+}
+
+fn put_for(random: &mut Random, script: &mut Vec<u8>, wanted: fn(u8, u8) -> bool, bytes: &[u8]) {
+    let at = place(random, script, wanted);
+    script.splice(at..=at, bytes.iter().copied());
+}
+
+/// The number in a field of the contents line (N, S or K) becomes another.
+fn put_contents(script: &mut Vec<u8>, field: usize, change: fn(u32) -> u32) {
+    let length = script.iter().position(|&byte| byte == b'\n').expect("a good script has a first line");
+    let line = String::from_utf8(script[..length].to_vec()).expect("a good script is ASCII");
+    let mut numbers: Vec<u32> = line.split(' ').map(|digits| digits.parse().expect("it has numbers there")).collect();
+    numbers[field] = change(numbers[field]);
+    script.splice(..length, format!("{} {} {}", numbers[0], numbers[1], numbers[2]).into_bytes());
+}
+
+type Flaw = (&'static str, fn(&mut Random, &mut Vec<u8>));
+
+/// What can be wrong with a script, each put into a good one. Some leave it good by chance.
+pub const FLAWS: &[Flaw] = &[
+    ("a byte too long", |random, script| *script = of_length(random, MOST_BYTES + 1)),
+    ("far too long", |random, script| *script = of_length(random, MOST_BYTES + 3000)),
+    ("empty", |_, script| script.clear()),
+    ("a line end alone", |_, script| *script = b"\n".to_vec()),
+    ("cut off before the last line end", |_, script| script.truncate(script.len() - 1)),
+    ("cut off anywhere", |random, script| script.truncate(random.below(script.len() as u32) as usize)),
+    ("an empty line", |random, script| put_in(random, script, line_start, b"\n")),
+    ("a line end more", |_, script| script.push(b'\n')),
+    ("a byte after the end", |random, script| script.push(random.word() as u8)),
+    ("a line after the end", |_, script| script.extend(b"s 0\n")),
+    ("CR before a line end", |random, script| put_in(random, script, line_end, b"\r")),
+    ("CR for a line end", |random, script| put_for(random, script, line_end, b"\r")),
+    ("a tab for a space", |random, script| put_for(random, script, space, b"\t")),
+    ("two spaces for one", |random, script| put_for(random, script, space, b"  ")),
+    ("no space", |random, script| put_for(random, script, space, b"")),
+    ("a space before a line end", |random, script| put_in(random, script, line_end, b" ")),
+    ("a space at the start of a line", |random, script| put_in(random, script, line_start, b" ")),
+    ("a leading zero", |random, script| put_in(random, script, number, b"0")),
+    ("a sign", |random, script| put_in(random, script, number, b"+")),
+    ("a number one too large", |random, script| put_for(random, script, number, b"4294967296")),
+    ("a number past 64 bits", |random, script| put_in(random, script, number, b"18446744073709551616")),
+    ("a field more", |random, script| put_in(random, script, line_end, b" 1")),
+    ("a letter alone", |random, script| put_in(random, script, line_start, b"s\n")),
+    ("an unknown letter", |random, script| put_for(random, script, letter, b"v")),
+    ("a capital letter", |random, script| put_for(random, script, letter, b"S")),
+    ("a letter twice", |random, script| put_for(random, script, letter, b"ss")),
+    ("K one too large", |_, script| put_contents(script, 2, |count| count + 1)),
+    ("K one too small", |_, script| put_contents(script, 2, |count| count.saturating_sub(1))),
+    ("K out of bounds", |_, script| put_contents(script, 2, |_| 1001)),
+    ("N 0", |_, script| put_contents(script, 0, |_| 0)),
+    ("N out of bounds", |_, script| put_contents(script, 0, |_| 257)),
+    ("S 0", |_, script| put_contents(script, 1, |_| 0)),
+    ("S out of bounds", |_, script| put_contents(script, 1, |_| 65)),
+    ("NUL", |random, script| put_for(random, script, any_byte, b"\0")),
+    ("a byte above 127", |random, script| {
+        let byte = 128 | random.word() as u8;
+        put_for(random, script, any_byte, &[byte])
+    }),
+    ("any bytes", |random, script| {
+        for _ in 0..random.between(1, 4) {
+            let byte = random.word() as u8;
+            put_for(random, script, any_byte, &[byte]);
+        }
+    }),
+];
+
+/// A script by seed and number, and what is wrong with it: of ten, six are good, one is as long as a script may be, three
+/// have a flaw, and the flaws take turns.
+pub fn script(seed: u64, number: u64) -> (&'static str, Vec<u8>) {
+    let mut random = Random::new(Random::new(seed).bits().wrapping_add(number));
+    match number % 10 {
+        0..=5 => ("good", good(&mut random)),
+        6 => ("as long as may be", of_length(&mut random, MOST_BYTES)),
+        turn => {
+            let (flaw, put_flaw) = FLAWS[(number / 10 * 3 + turn - 7) as usize % FLAWS.len()];
+            let mut script = good(&mut random);
+            put_flaw(&mut random, &mut script);
+            (flaw, script)
+        }
+    }
+}

@@ -1,0 +1,16 @@
+//! A second machine for the claim tables beside the proved one, and what is needed to compare the two.
+
+pub mod driver;
+pub mod generate;
+pub mod library;
+pub mod machine;
+#[cfg(feature = "proved")]
+pub mod proved;
+pub mod random;
+pub mod script;
+pub mod shrink;
+pub mod tables;
+pub mod tally;
+
+#[cfg(test)]
+mod tests;

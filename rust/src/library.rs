@@ -1,0 +1,62 @@
+//! The calls of the library as plain functions with one word back, the form in which machines are compared and linked.
+//! Answers: the kind in the high 32 bits (0 refused, 1 node, 2 out, 3 on, 4 wait, 5 held, 6 back), the number, or 0, below.
+//! A machine that stands in for this one offers the same functions under the same names; `proved.rs` does.
+
+use crate::machine::{self, Answer};
+
+fn answer_word(answer: Result<Answer, u32>) -> u64 {
+    let (kind, number) = match answer {
+        Err(refusal) => (0, refusal),
+        Ok(Answer::Node(node)) => (1, node),
+        Ok(Answer::Out) => (2, 0),
+        Ok(Answer::On) => (3, 0),
+        Ok(Answer::Wait(node)) => (4, node),
+        Ok(Answer::Held) => (5, 0),
+        Ok(Answer::Back) => (6, 0),
+    };
+    kind << 32 | u64::from(number)
+}
+
+/// An accepted count n as 2³² + n, a refusal k as k.
+fn count_word(count: Result<u32, u32>) -> u64 {
+    match count {
+        Ok(count) => 1 << 32 | u64::from(count),
+        Err(refusal) => u64::from(refusal),
+    }
+}
+
+/// 0, or the refusal.
+pub fn clear(nodes: &mut [u32], seats: &mut [u32]) -> u64 {
+    u64::from(machine::clear(nodes, seats).err().unwrap_or(0))
+}
+
+pub fn begin(nodes: &mut [u32], seats: &mut [u32], seat: u32, start: u32, end: u32, kind: u32) -> u64 {
+    answer_word(machine::begin(nodes, seats, seat, start, end, kind))
+}
+
+pub fn step(nodes: &mut [u32], seats: &mut [u32], seat: u32) -> u64 {
+    answer_word(machine::step(nodes, seats, seat))
+}
+
+pub fn release(nodes: &mut [u32], seats: &mut [u32], seat: u32) -> u64 {
+    answer_word(machine::release(nodes, seats, seat))
+}
+
+/// The refusal in the high 32 bits, the steps below.
+pub fn run(nodes: &mut [u32], seats: &mut [u32], entries: &[u32], budget: u32) -> u64 {
+    let (steps, refusal) = machine::run(nodes, seats, entries, budget);
+    u64::from(refusal) << 32 | u64::from(steps)
+}
+
+/// Rows of four words each, as many as there are whole ones; `covered` is written if the call is accepted.
+pub fn board(nodes: &[u32], seats: &[u32], rows: &mut [u32], covered: &mut u64) -> u64 {
+    let shown = machine::board(nodes, seats, rows);
+    if let Ok((_, frames)) = shown {
+        *covered = frames;
+    }
+    count_word(shown.map(|(count, _)| count))
+}
+
+pub fn free_count(nodes: &[u32], seats: &[u32]) -> u64 {
+    count_word(machine::free_count(nodes, seats))
+}

@@ -1,0 +1,508 @@
+//! A second machine for the claim tables, written from document 01 alone: every call, script reading and playing.
+//! It assumes nothing of what it is lent: tables of any length and any words are answered, if need be by refusal 1.
+//! Behind the test of sound shape every name of a node is in bounds, and the functions that follow rely on that.
+
+/// "Nodes: one head word, then N nodes of five words: start, end, kind, next, mark. N is 1 to 256."
+pub const HEAD: usize = 0;
+pub const HEAD_WORDS: usize = 1;
+pub const START: usize = 0;
+pub const END: usize = 1;
+pub const KIND: usize = 2;
+pub const NEXT: usize = 3;
+pub const MARK: usize = 4;
+pub const NODE_WORDS: usize = 5;
+pub const MOST_NODES: usize = 256;
+
+/// "Seats: S seats of four words: phase, own, prev, cur. S is 1 to 64, numbered from 0."
+pub const PHASE: usize = 0;
+pub const OWN: usize = 1;
+pub const PREV: usize = 2;
+pub const CUR: usize = 3;
+pub const SEAT_WORDS: usize = 4;
+pub const MOST_SEATS: usize = 64;
+
+type Seat = [u32; SEAT_WORDS];
+
+pub const IDLE: u32 = 0;
+pub const WALKING: u32 = 1;
+pub const WAITING_TO_ENTER: u32 = 2;
+pub const VALIDATING: u32 = 3;
+pub const READER_WAITING: u32 = 4;
+pub const HOLDING: u32 = 5;
+pub const WITHDRAWN: u32 = 6;
+
+/// "Kind 1 reads, 2 writes."
+const READS: u32 = 1;
+const WRITES: u32 = 2;
+
+/// "A claim covers frames start up to but not including end."
+#[derive(Clone, Copy)]
+struct Claim {
+    start: u32,
+    end: u32,
+    kind: u32,
+}
+
+/// "What a call gives back": the answers of begin, step and release where the call is not refused.
+#[derive(Clone, Copy, Debug, PartialEq, Eq)]
+pub enum Answer {
+    Node(u32),
+    Out,
+    On,
+    Wait(u32),
+    Held,
+    Back,
+}
+
+/// A refusal is its number. The calls ask in rising number, before they change anything.
+fn refuse(number: u32, when: bool) -> Result<(), u32> {
+    if when {
+        Err(number)
+    } else {
+        Ok(())
+    }
+}
+
+fn node_count(nodes: &[u32]) -> usize {
+    (nodes.len() - HEAD_WORDS) / NODE_WORDS
+}
+
+fn seat_count(seats: &[u32]) -> usize {
+    seats.len() / SEAT_WORDS
+}
+
+/// "Nodes are numbered 1 to N": 0 is no node and has no place.
+pub fn place(node: u32, field: usize) -> usize {
+    HEAD_WORDS + NODE_WORDS * (node as usize - 1) + field
+}
+
+fn word(nodes: &[u32], node: u32, field: usize) -> u32 {
+    nodes[place(node, field)]
+}
+
+fn next(nodes: &[u32], node: u32) -> u32 {
+    word(nodes, node, NEXT)
+}
+
+/// "Mark 1 means released or withdrawn."
+pub fn marked(nodes: &[u32], node: u32) -> bool {
+    word(nodes, node, MARK) == 1
+}
+
+fn claim_of(nodes: &[u32], node: u32) -> Claim {
+    Claim { start: word(nodes, node, START), end: word(nodes, node, END), kind: word(nodes, node, KIND) }
+}
+
+/// The words of a seat. Refusal 2: "seat number not below S".
+fn load_seat(seats: &[u32], number: u32) -> Result<Seat, u32> {
+    let seat = seats.chunks_exact(SEAT_WORDS).nth(number as usize).ok_or(2_u32)?;
+    Ok([seat[PHASE], seat[OWN], seat[PREV], seat[CUR]])
+}
+
+fn store_seat(seats: &mut [u32], number: u32, seat: Seat) {
+    seats[SEAT_WORDS * number as usize..][..SEAT_WORDS].copy_from_slice(&seat);
+}
+
+/// "'The link of prev' is head if prev is 0, else prev's next": the place of that word.
+pub fn link(prev: u32) -> usize {
+    if prev == 0 {
+        HEAD
+    } else {
+        place(prev, NEXT)
+    }
+}
+
+// Sound shape
+
+/// "Lengths fit."
+fn lengths_fit(nodes: &[u32], seats: &[u32]) -> bool {
+    nodes.len() % NODE_WORDS == HEAD_WORDS
+        && seats.len() % SEAT_WORDS == 0
+        && (1..=MOST_NODES).contains(&node_count(nodes))
+        && (1..=MOST_SEATS).contains(&seat_count(seats))
+}
+
+/// "Each nonzero head, next, own, prev and cur names a node of kind 1 or 2": a kind above 2 fails at its own node.
+fn names_a_claim(nodes: &[u32], count: usize, name: u32) -> bool {
+    name == 0 || (name as usize <= count && word(nodes, name, KIND) != 0)
+}
+
+/// "Each node is all zeros (kind 0), or has kind 1 or 2, start < end, next at most N, mark 0 or 1."
+fn node_is_sound(nodes: &[u32], count: usize, node: &[u32]) -> bool {
+    match node[KIND] {
+        0 => node[START] | node[END] | node[NEXT] | node[MARK] == 0,
+        READS | WRITES => node[START] < node[END] && node[MARK] <= 1 && names_a_claim(nodes, count, node[NEXT]),
+        _ => false,
+    }
+}
+
+/// "Phase is 0 to 6; an idle seat (0) has zeros in all four words, any other has own nonzero; in phases 5 and 6 prev and
+/// cur are 0; in 2 and 4 cur is nonzero."
+fn seat_is_sound(nodes: &[u32], count: usize, seat: &[u32]) -> bool {
+    let words_fit = match seat[PHASE] {
+        IDLE => return seat[OWN] | seat[PREV] | seat[CUR] == 0,
+        WALKING | VALIDATING => true,
+        WAITING_TO_ENTER | READER_WAITING => seat[CUR] != 0,
+        HOLDING | WITHDRAWN => seat[PREV] | seat[CUR] == 0,
+        _ => false,
+    };
+    words_fit && seat[OWN] != 0 && seat[OWN..].iter().all(|&name| names_a_claim(nodes, count, name))
+}
+
+/// The nodes met by following next from a node, itself included; in a circle they never end.
+fn following(nodes: &[u32], first: u32) -> impl Iterator<Item = u32> + '_ {
+    let node = |name: u32| if name == 0 { None } else { Some(name) };
+    std::iter::successors(node(first), move |&met| node(next(nodes, met)))
+}
+
+/// "The listed node numbers, marked ones too."
+pub fn listed(nodes: &[u32]) -> impl Iterator<Item = u32> + '_ {
+    following(nodes, nodes[HEAD])
+}
+
+/// "From the head, 0 is met after at most N nodes."
+fn list_ends(nodes: &[u32]) -> bool {
+    listed(nodes).nth(node_count(nodes)).is_none()
+}
+
+/// "Any other table is damaged."
+fn sound(nodes: &[u32], seats: &[u32]) -> bool {
+    if !lengths_fit(nodes, seats) {
+        return false;
+    }
+    let count = node_count(nodes);
+    names_a_claim(nodes, count, nodes[HEAD])
+        && nodes[HEAD_WORDS..].chunks_exact(NODE_WORDS).all(|node| node_is_sound(nodes, count, node))
+        && seats.chunks_exact(SEAT_WORDS).all(|seat| seat_is_sound(nodes, count, seat))
+        && list_ends(nodes)
+}
+
+/// Tables of N nodes and S seats as clear leaves them: "that table is fresh".
+pub fn fresh(nodes: u32, seats: u32) -> (Vec<u32>, Vec<u32>) {
+    (vec![0; HEAD_WORDS + NODE_WORDS * nodes as usize], vec![0; SEAT_WORDS * seats as usize])
+}
+
+// Fetch
+
+/// A set of nodes, a bit for each of the numbers 1 to 256.
+struct NodeSet([u64; MOST_NODES / 64]);
+
+impl NodeSet {
+    fn all(count: usize) -> NodeSet {
+        let ones = |width: usize| if width < 64 { (1 << width) - 1 } else { u64::MAX };
+        NodeSet([0, 64, 128, 192].map(|before| ones(count.saturating_sub(before))))
+    }
+
+    fn has(&self, node: u32) -> bool {
+        self.0[(node as usize - 1) / 64] >> ((node - 1) % 64) & 1 == 1
+    }
+
+    /// Without what is met by following next from a node, itself included. What follows a node that is out is out too.
+    fn without_those_from(&mut self, first: u32, next: &impl Fn(u32) -> u32) {
+        let mut node = first;
+        while node != 0 && self.has(node) {
+            self.0[(node as usize - 1) / 64] &= !(1 << ((node - 1) % 64));
+            node = next(node);
+        }
+    }
+
+    fn lowest(&self) -> Option<u32> {
+        let at = self.0.iter().position(|&bits| bits != 0)?;
+        Some(64 * at as u32 + self.0[at].trailing_zeros() + 1)
+    }
+
+    fn count(&self) -> u32 {
+        self.0.iter().map(|bits| bits.count_ones()).sum()
+    }
+}
+
+/// "A node is free if it is not on the list and cannot be reached by following next from any other seat's own, prev or cur
+/// (those nodes included). The asking seat's own words do not count." The list is what is met from `head` by `next`.
+fn free(nodes: &[u32], seats: &[u32], asking: Option<u32>, head: u32, next: impl Fn(u32) -> u32) -> NodeSet {
+    let mut free = NodeSet::all(node_count(nodes));
+    free.without_those_from(head, &next);
+    for (number, seat) in (0..).zip(seats.chunks_exact(SEAT_WORDS)) {
+        if asking != Some(number) {
+            free.without_those_from(seat[OWN], &next);
+            free.without_those_from(seat[PREV], &next);
+            free.without_those_from(seat[CUR], &next);
+        }
+    }
+    free
+}
+
+/// From a listed node on, itself included, "the next unmarked one" or the end of the list.
+fn first_unmarked(nodes: &[u32], node: u32) -> u32 {
+    following(nodes, node).find(|&met| !marked(nodes, met)).unwrap_or(0)
+}
+
+/// The nodes free once the marked ones are taken out of the list, while nothing is stored: "head and the unmarked listed
+/// nodes then link to the next unmarked one; marked nodes keep their next".
+fn free_once_taken_out(nodes: &[u32], seats: &[u32], asking: u32) -> NodeSet {
+    let mut unlisted = NodeSet::all(node_count(nodes));
+    unlisted.without_those_from(nodes[HEAD], &|node| next(nodes, node));
+    let next_then = |node| {
+        let next = next(nodes, node);
+        if unlisted.has(node) || marked(nodes, node) {
+            next
+        } else {
+            first_unmarked(nodes, next)
+        }
+    };
+    free(nodes, seats, Some(asking), first_unmarked(nodes, nodes[HEAD]), next_then)
+}
+
+/// "The marked nodes on the list are first taken out."
+fn take_out(nodes: &mut [u32]) {
+    let mut prev = 0;
+    loop {
+        let unmarked = first_unmarked(nodes, nodes[link(prev)]);
+        nodes[link(prev)] = unmarked;
+        if unmarked == 0 {
+            return;
+        }
+        prev = unmarked;
+    }
+}
+
+/// "The lowest free node is taken. If none is free, the marked nodes on the list are first taken out and the rule is tried
+/// again; if none is free then, the answer is refusal 8 and nothing has changed."
+fn take_free_node(nodes: &mut [u32], seats: &[u32], asking: u32) -> Result<u32, u32> {
+    let free_now = free(nodes, seats, Some(asking), nodes[HEAD], |node| next(nodes, node));
+    if let Some(node) = free_now.lowest() {
+        return Ok(node);
+    }
+    let node = free_once_taken_out(nodes, seats, asking).lowest().ok_or(8_u32)?;
+    take_out(nodes);
+    Ok(node)
+}
+
+/// "The node gets the claim, next 0, mark 0; the seat gets phase 1, own, prev 0, cur = head."
+fn fetch(nodes: &mut [u32], seats: &[u32], asking: u32, claim: Claim) -> Result<Seat, u32> {
+    let node = take_free_node(nodes, seats, asking)?;
+    nodes[place(node, START)] = claim.start;
+    nodes[place(node, END)] = claim.end;
+    nodes[place(node, KIND)] = claim.kind;
+    nodes[place(node, NEXT)] = 0;
+    nodes[place(node, MARK)] = 0;
+    Ok([WALKING, node, 0, nodes[HEAD]])
+}
+
+// The step rules
+
+/// "The comparison gives a signed number for a listed node c and one's own claim o, by the first rule that holds."
+fn compare(c: Claim, o: Claim) -> i32 {
+    let both_read = c.kind == READS && o.kind == READS;
+    if c.end <= o.start || both_read && c.start <= o.start {
+        1
+    } else if o.end <= c.start || both_read && o.start <= c.start {
+        -1
+    } else {
+        0
+    }
+}
+
+/// "+1: prev becomes cur, cur its next."
+fn pass(nodes: &[u32], seat: &mut Seat) {
+    seat[PREV] = seat[CUR];
+    seat[CUR] = next(nodes, seat[CUR]);
+}
+
+/// "If prev is 0 or unmarked, and its link is cur": asked by both unlink and insert.
+fn links_to_cur(nodes: &[u32], seat: &Seat) -> bool {
+    (seat[PREV] == 0 || !marked(nodes, seat[PREV])) && nodes[link(seat[PREV])] == seat[CUR]
+}
+
+/// "... that link becomes cur's next; then, either way, the seat's cur becomes cur's next."
+fn unlink(nodes: &mut [u32], seat: &mut Seat) {
+    if links_to_cur(nodes, seat) {
+        nodes[link(seat[PREV])] = next(nodes, seat[CUR]);
+    }
+    seat[CUR] = next(nodes, seat[CUR]);
+}
+
+/// "... own's next becomes cur, the link becomes own, phase 3, and validation starts: a reader at prev = own, cur = own's
+/// next; a writer at prev 0, cur = head (as it now is). Otherwise no node changes: with prev marked, prev becomes 0 and cur
+/// head; else cur becomes the link of prev." So cur becomes the link of the new prev in every case.
+fn insert(nodes: &mut [u32], seat: &mut Seat) {
+    if links_to_cur(nodes, seat) {
+        nodes[place(seat[OWN], NEXT)] = seat[CUR];
+        nodes[link(seat[PREV])] = seat[OWN];
+        seat[PHASE] = VALIDATING;
+        seat[PREV] = if word(nodes, seat[OWN], KIND) == READS { seat[OWN] } else { 0 };
+    } else if seat[PREV] != 0 && marked(nodes, seat[PREV]) {
+        seat[PREV] = 0;
+    }
+    seat[CUR] = nodes[link(seat[PREV])];
+}
+
+/// "Hold: phase 5, prev and cur 0."
+fn hold(seat: &mut Seat) {
+    *seat = [HOLDING, seat[OWN], 0, 0];
+}
+
+/// "Withdraw: own is marked, phase 6, prev and cur 0, own kept."
+fn withdraw(nodes: &mut [u32], seat: &mut Seat) {
+    nodes[place(seat[OWN], MARK)] = 1;
+    *seat = [WITHDRAWN, seat[OWN], 0, 0];
+}
+
+/// "Cur 0: insert. cur marked: unlink. Else compare cur with own: +1: prev becomes cur, cur its next; 0: phase 2; −1: insert."
+fn step_walking(nodes: &mut [u32], seat: &mut Seat) {
+    if seat[CUR] == 0 {
+        return insert(nodes, seat);
+    }
+    if marked(nodes, seat[CUR]) {
+        return unlink(nodes, seat);
+    }
+    match compare(claim_of(nodes, seat[CUR]), claim_of(nodes, seat[OWN])) {
+        1 => pass(nodes, seat),
+        0 => seat[PHASE] = WAITING_TO_ENTER,
+        _ => insert(nodes, seat),
+    }
+}
+
+/// "Cur marked: phase 1 [from 2, and 3 from 4]; else nothing."
+fn step_waiting(nodes: &[u32], seat: &mut Seat, phase: u32) {
+    if marked(nodes, seat[CUR]) {
+        seat[PHASE] = phase;
+    }
+}
+
+/// "Cur 0 or cur.start ≥ own.end: hold. cur marked: unlink. cur reads: pass as for +1. Else phase 4."
+fn step_validating_reader(nodes: &mut [u32], seat: &mut Seat) {
+    if seat[CUR] == 0 || word(nodes, seat[CUR], START) >= word(nodes, seat[OWN], END) {
+        hold(seat);
+    } else if marked(nodes, seat[CUR]) {
+        unlink(nodes, seat);
+    } else if word(nodes, seat[CUR], KIND) == READS {
+        pass(nodes, seat);
+    } else {
+        seat[PHASE] = READER_WAITING;
+    }
+}
+
+/// "Cur is own: hold. cur 0: withdraw. cur marked: unlink. cur.end ≤ own.start: pass. Else withdraw."
+fn step_validating_writer(nodes: &mut [u32], seat: &mut Seat) {
+    if seat[CUR] == seat[OWN] {
+        hold(seat);
+    } else if seat[CUR] == 0 {
+        withdraw(nodes, seat);
+    } else if marked(nodes, seat[CUR]) {
+        unlink(nodes, seat);
+    } else if word(nodes, seat[CUR], END) <= word(nodes, seat[OWN], START) {
+        pass(nodes, seat);
+    } else {
+        withdraw(nodes, seat);
+    }
+}
+
+/// "The phase decides the step." The seat before and after; refusals 2, 6 and 8. The tables are known to be sound.
+fn step_sound(nodes: &mut [u32], seats: &mut [u32], number: u32) -> Result<(Seat, Seat), u32> {
+    let before = load_seat(seats, number)?;
+    let mut seat = before;
+    match seat[PHASE] {
+        IDLE => return Err(6),
+        WALKING => step_walking(nodes, &mut seat),
+        WAITING_TO_ENTER => step_waiting(nodes, &mut seat, WALKING),
+        VALIDATING if word(nodes, seat[OWN], KIND) == READS => step_validating_reader(nodes, &mut seat),
+        VALIDATING => step_validating_writer(nodes, &mut seat),
+        READER_WAITING => step_waiting(nodes, &mut seat, VALIDATING),
+        WITHDRAWN => seat = fetch(nodes, seats, number, claim_of(nodes, seat[OWN]))?,
+        _ => {}
+    }
+    store_seat(seats, number, seat);
+    Ok((before, seat))
+}
+
+// The calls
+
+/// "Clear writes 0 everywhere."
+pub fn clear(nodes: &mut [u32], seats: &mut [u32]) -> Result<(), u32> {
+    refuse(1, !lengths_fit(nodes, seats))?;
+    nodes.fill(0);
+    seats.fill(0);
+    Ok(())
+}
+
+/// "Begin: `node n`."
+pub fn begin(nodes: &mut [u32], seats: &mut [u32], seat: u32, start: u32, end: u32, kind: u32) -> Result<Answer, u32> {
+    refuse(1, !sound(nodes, seats))?;
+    let before = load_seat(seats, seat)?;
+    refuse(3, start >= end)?;
+    refuse(4, kind != READS && kind != WRITES)?;
+    refuse(5, before[PHASE] != IDLE)?;
+    let fetched = fetch(nodes, seats, seat, Claim { start, end, kind })?;
+    store_seat(seats, seat, fetched);
+    Ok(Answer::Node(fetched[OWN]))
+}
+
+/// "Step, from the seat's new phase: 2 or 4 `wait n` with n = cur; 5 `held`; 6 `back`; else `on`."
+pub fn step(nodes: &mut [u32], seats: &mut [u32], seat: u32) -> Result<Answer, u32> {
+    refuse(1, !sound(nodes, seats))?;
+    let (_, after) = step_sound(nodes, seats, seat)?;
+    Ok(match after[PHASE] {
+        WAITING_TO_ENTER | READER_WAITING => Answer::Wait(after[CUR]),
+        HOLDING => Answer::Held,
+        WITHDRAWN => Answer::Back,
+        _ => Answer::On,
+    })
+}
+
+/// "Release: own is marked and the seat idle."
+pub fn release(nodes: &mut [u32], seats: &mut [u32], seat: u32) -> Result<Answer, u32> {
+    refuse(1, !sound(nodes, seats))?;
+    let before = load_seat(seats, seat)?;
+    refuse(7, before[PHASE] != HOLDING)?;
+    nodes[place(before[OWN], MARK)] = 1;
+    store_seat(seats, seat, [IDLE, 0, 0, 0]);
+    Ok(Answer::Out)
+}
+
+/// "It steps them in order and stops at the end, when the budget is used, or at the first refused entry. It returns the
+/// steps accepted and the refusal met or 0." Of all steps only an insert that links can damage a sound table, and then by
+/// a list that never ends: shape need not be tested again at each entry.
+pub fn run(nodes: &mut [u32], seats: &mut [u32], entries: &[u32], budget: u32) -> (u32, u32) {
+    let mut damaged = !sound(nodes, seats);
+    if damaged {
+        return (0, 1);
+    }
+    let mut steps = 0;
+    for &entry in entries {
+        if steps == budget {
+            break;
+        }
+        match refuse(1, damaged).and_then(|()| step_sound(nodes, seats, entry)) {
+            Ok((before, after)) => {
+                damaged = before[PHASE] == WALKING && after[PHASE] == VALIDATING && !list_ends(nodes);
+                steps += 1;
+            }
+            Err(refusal) => return (steps, refusal),
+        }
+    }
+    (steps, 0)
+}
+
+pub const ROW_WORDS: usize = 4;
+
+/// "Rows, each with seat, first frame, end frame and kind: one for each seat in phase 5, by rising seat number. Later rows
+/// stay. It returns the row count and covered frames, the sum of end − start over the rows."
+pub fn board(nodes: &[u32], seats: &[u32], rows: &mut [u32]) -> Result<(u32, u64), u32> {
+    refuse(1, !sound(nodes, seats))?;
+    let holders = || (0..).zip(seats.chunks_exact(SEAT_WORDS)).filter(|(_, seat)| seat[PHASE] == HOLDING);
+    let count = holders().count();
+    refuse(9, rows.len() / ROW_WORDS < count)?;
+    let mut covered = 0;
+    for ((number, seat), row) in holders().zip(rows.chunks_exact_mut(ROW_WORDS)) {
+        let Claim { start, end, kind } = claim_of(nodes, seat[OWN]);
+        row.copy_from_slice(&[number, start, end, kind]);
+        covered += u64::from(end - start);
+    }
+    Ok((count as u32, covered))
+}
+
+/// "How many nodes are free, by the rule above with every seat counted and nothing taken out."
+pub fn free_count(nodes: &[u32], seats: &[u32]) -> Result<u32, u32> {
+    refuse(1, !sound(nodes, seats))?;
+    Ok(free(nodes, seats, None, nodes[HEAD], |node| next(nodes, node)).count())
+}

@@ -1,0 +1,168 @@
+//! A smaller case on which two machines still differ: fewer nodes, seats, entries and rows, and smaller words.
+//! Nothing is assumed of the tables; what does not fit the layout is shortened word by word.
+
+use crate::driver::{outcome, Call, Case, Library};
+use crate::machine::{CUR, HEAD, HEAD_WORDS, NEXT, NODE_WORDS, OWN, ROW_WORDS, SEAT_WORDS};
+
+fn without(words: &[u32], from: usize, count: usize) -> Vec<u32> {
+    [&words[..from], &words[from + count..]].concat()
+}
+
+/// The table without one of its nodes. Names of later nodes fall by one, its own become 0.
+fn without_node(case: &Case, index: usize) -> Case {
+    let node = index as u32 + 1;
+    let renamed = |name: u32| name - u32::from(name > node) - if name == node { name } else { 0 };
+    let mut smaller = case.clone();
+    smaller.nodes = without(&case.nodes, HEAD_WORDS + NODE_WORDS * index, NODE_WORDS);
+    smaller.nodes[HEAD] = renamed(smaller.nodes[HEAD]);
+    for words in smaller.nodes[HEAD_WORDS..].chunks_exact_mut(NODE_WORDS) {
+        words[NEXT] = renamed(words[NEXT]);
+    }
+    for words in smaller.seats.chunks_exact_mut(SEAT_WORDS) {
+        for name in &mut words[OWN..=CUR] {
+            *name = renamed(*name);
+        }
+    }
+    smaller
+}
+
+/// The table without one of its seats. Numbers of later seats fall by one.
+fn without_seat(case: &Case, index: usize) -> Case {
+    let renumber = |seat: &mut u32| *seat -= u32::from(*seat > index as u32);
+    let mut smaller = case.clone();
+    smaller.seats = without(&case.seats, SEAT_WORDS * index, SEAT_WORDS);
+    match &mut smaller.call {
+        Call::Begin { seat, .. } | Call::Step { seat } | Call::Release { seat } => renumber(seat),
+        Call::Run { entries, .. } => entries.iter_mut().for_each(renumber),
+        Call::Clear | Call::Board { .. } | Call::FreeCount => {}
+    }
+    smaller
+}
+
+/// The lists of words of a case that may lose their last word.
+fn lists(case: &mut Case) -> Vec<&mut Vec<u32>> {
+    let mut lists = vec![&mut case.nodes, &mut case.seats];
+    match &mut case.call {
+        Call::Run { entries: list, .. } | Call::Board { rows: list } => lists.push(list),
+        _ => {}
+    }
+    lists
+}
+
+/// Every word of a case, those of its call too.
+fn words(case: &mut Case) -> Vec<&mut u32> {
+    let mut words: Vec<&mut u32> = case.nodes.iter_mut().chain(&mut case.seats).collect();
+    match &mut case.call {
+        Call::Begin { seat, start, end, kind } => words.extend([seat, start, end, kind]),
+        Call::Step { seat } | Call::Release { seat } => words.push(seat),
+        Call::Run { entries, budget } => words.extend(entries.iter_mut().chain([budget])),
+        Call::Board { rows } => words.extend(rows),
+        Call::Clear | Call::FreeCount => {}
+    }
+    words
+}
+
+/// The smallest case found so far on which the machines differ.
+struct Search<Differs> {
+    smallest: Case,
+    differs: Differs,
+}
+
+impl<Differs: Fn(&Case) -> bool> Search<Differs> {
+    fn take(&mut self, smaller: Case) -> bool {
+        let taken = (self.differs)(&smaller);
+        if taken {
+            self.smallest = smaller;
+        }
+        taken
+    }
+
+    /// The case with one of its lists (nodes, seats, and entries or rows) without its last word.
+    fn shorten(&mut self, list: usize) -> bool {
+        let mut smaller = self.smallest.clone();
+        let shorter = lists(&mut smaller).get_mut(list).map_or(false, |list| list.pop().is_some());
+        shorter && self.take(smaller)
+    }
+
+    fn leave_entry_out(&mut self, index: usize) -> bool {
+        let mut smaller = self.smallest.clone();
+        if let Call::Run { entries, .. } = &mut smaller.call {
+            entries.remove(index);
+        }
+        self.take(smaller)
+    }
+
+    /// One of the words lowered: to 0, else by half of it, else by a quarter, and so on.
+    fn lower(&mut self, at: usize) -> bool {
+        let word = *words(&mut self.smallest)[at];
+        let falls = (0..32).map(|halvings| word >> halvings).take_while(|&fall| fall > 0);
+        for fall in falls {
+            let mut smaller = self.smallest.clone();
+            *words(&mut smaller)[at] -= fall;
+            if self.take(smaller) {
+                return true;
+            }
+        }
+        false
+    }
+
+    /// Tries everything once, and says whether anything got smaller.
+    fn pass(&mut self) -> bool {
+        let mut taken = false;
+        for index in (0..self.smallest.nodes.len().saturating_sub(HEAD_WORDS) / NODE_WORDS).rev() {
+            taken |= self.take(without_node(&self.smallest, index));
+        }
+        for index in (0..self.smallest.seats.len() / SEAT_WORDS).rev() {
+            taken |= self.take(without_seat(&self.smallest, index));
+        }
+        let entries = if let Call::Run { entries, .. } = &self.smallest.call { entries.len() } else { 0 };
+        for index in (0..entries).rev() {
+            taken |= self.leave_entry_out(index);
+        }
+        for list in 0..3 {
+            while self.shorten(list) {
+                taken = true;
+            }
+        }
+        for at in 0..words(&mut self.smallest).len() {
+            taken |= self.lower(at);
+        }
+        taken
+    }
+}
+
+/// The smallest case found on which the machines differ, from one on which they do.
+pub fn shrink(case: Case, differs: impl Fn(&Case) -> bool) -> Case {
+    let mut search = Search { smallest: case, differs };
+    while search.pass() {}
+    search.smallest
+}
+
+fn table_text(words: &[u32], first: usize, width: usize) -> String {
+    let (head, rest) = words.split_at(first.min(words.len()));
+    let parts = std::iter::once(head).chain(rest.chunks(width)).filter(|part| !part.is_empty());
+    let texts: Vec<String> =
+        parts.map(|part| part.iter().map(u32::to_string).collect::<Vec<String>>().join(" ")).collect();
+    texts.join(" | ")
+}
+
+/// The case, what each machine answered, and the tables each left behind.
+pub fn difference_text(case: &Case, ours: &Library, theirs: &Library) -> String {
+    let mut text = format!(
+        "nodes   {}\nseats   {}\ncall    {:?}\n",
+        table_text(&case.nodes, HEAD_WORDS, NODE_WORDS),
+        table_text(&case.seats, 0, SEAT_WORDS),
+        case.call
+    );
+    for (name, library) in [("second", ours), ("other", theirs)] {
+        let after = outcome(library, case);
+        let (nodes, seats) = (after.nodes.words(), after.seats.words());
+        text += &format!("{name}: answer {} {}\n", after.answer >> 32, after.answer as u32);
+        text += &format!("  nodes {}\n", table_text(nodes, HEAD_WORDS, NODE_WORDS));
+        text += &format!("  seats {}\n", table_text(seats, 0, SEAT_WORDS));
+        if let Call::Board { .. } = case.call {
+            text += &format!("  rows  {}\n  covered {}\n", table_text(after.rows.words(), 0, ROW_WORDS), after.covered);
+        }
+    }
+    text
+}

@@ -1,0 +1,196 @@
+//! Tables to compare machines on that no history need have reached: any words, sound words, and sound words with one clause
+//! of sound shape broken.
+
+use crate::machine::*;
+use crate::random::Random;
+
+pub type Tables = (Vec<u32>, Vec<u32>);
+
+fn some_node(random: &mut Random, named: &[u32]) -> u32 {
+    if named.is_empty() || random.percent(25) {
+        0
+    } else {
+        random.pick(named)
+    }
+}
+
+/// Mostly few nodes and seats, so that they meet; now and then as many as may be.
+fn sizes(random: &mut Random) -> (u32, u32) {
+    match random.below(20) {
+        0 => (256, 64),
+        1 => (random.between(60, 70), random.between(1, 64)),
+        2..=9 => (random.between(1, 3), random.between(1, 2)),
+        _ => (random.between(1, 8), random.between(1, 4)),
+    }
+}
+
+/// A table of any length and any words, mostly small ones so that some are sound.
+pub fn any_words(random: &mut Random) -> Tables {
+    let (node_count, seat_count) = sizes(random);
+    let (mut nodes, mut seats) = fresh(node_count, seat_count);
+    if random.percent(30) {
+        nodes.resize(random.below(40) as usize, 0);
+    }
+    if random.percent(30) {
+        seats.resize(random.below(20) as usize, 0);
+    }
+    let largest = random.pick(&[1, 2, 7, 300]);
+    let zeros = random.pick(&[20, 60, 95]);
+    for word in nodes.iter_mut().chain(&mut seats) {
+        if random.percent(5) {
+            *word = random.edge();
+        } else if !random.percent(zeros) {
+            *word = random.between(0, largest);
+        }
+    }
+    (nodes, seats)
+}
+
+fn put_claim(random: &mut Random, node: &mut [u32], named: &[u32]) {
+    let start = if random.percent(10) { random.edge().min(u32::MAX - 1) } else { random.below(9) };
+    let longest = random.pick(&[1, 4, u32::MAX - start]).min(u32::MAX - start);
+    node[START] = start;
+    node[END] = start + random.between(1, longest);
+    node[KIND] = random.between(1, 2);
+    node[NEXT] = some_node(random, named);
+    node[MARK] = u32::from(random.percent(40));
+}
+
+fn put_seat(random: &mut Random, phase: u32, seat: &mut [u32], nodes: &[u32], named: &[u32]) {
+    if phase == IDLE || named.is_empty() {
+        return;
+    }
+    let own = random.pick(named);
+    let prev = if random.percent(10) { own } else { some_node(random, named) };
+    let mut cur = match random.below(10) {
+        0..=5 => nodes[link(prev)],
+        6 => own,
+        _ => some_node(random, named),
+    };
+    if cur == 0 && (phase == WAITING_TO_ENTER || phase == READER_WAITING) {
+        cur = random.pick(named);
+    }
+    let stands = phase == HOLDING || phase == WITHDRAWN;
+    seat.copy_from_slice(&if stands { [phase, own, 0, 0] } else { [phase, own, prev, cur] });
+}
+
+/// Sound words at random, with a claim in the named nodes, some of which are listed, and the seats in these phases.
+fn sound_with(random: &mut Random, node_count: u32, named: &[u32], list_length: usize, phases: &[u32]) -> Tables {
+    let (mut nodes, mut seats) = fresh(node_count, phases.len() as u32);
+    for &node in named {
+        put_claim(random, &mut nodes[place(node, START)..][..NODE_WORDS], named);
+    }
+    let mut unlisted = named.to_vec();
+    let mut last = 0;
+    for _ in 0..list_length {
+        let node = unlisted.swap_remove(random.below(unlisted.len() as u32) as usize);
+        nodes[link(last)] = node;
+        last = node;
+    }
+    nodes[link(last)] = 0;
+    for (&phase, seat) in phases.iter().zip(seats.chunks_exact_mut(SEAT_WORDS)) {
+        put_seat(random, phase, seat, &nodes, named);
+    }
+    (nodes, seats)
+}
+
+/// Sound words at random: own nodes on the list or shared, circles off the list, prev or cur at own. Most such tables were
+/// never reached.
+pub fn sound_words(random: &mut Random) -> Tables {
+    let (node_count, seat_count) = sizes(random);
+    let zeros = random.pick(&[0, 20, 50]);
+    let named: Vec<u32> = (1..=node_count).filter(|_| !random.percent(zeros)).collect();
+    let list_length = if random.percent(20) { named.len() } else { random.between(0, named.len() as u32) as usize };
+    let phases: Vec<u32> = (0..seat_count).map(|_| random.below(7)).collect();
+    sound_with(random, node_count, &named, list_length, &phases)
+}
+
+/// Sound words that have everything a damage asks for: the last node is zeros and the others have claims, two are listed and
+/// two are not, and there is a seat in each phase.
+fn ample(random: &mut Random) -> Tables {
+    let named = [1, 2, 3, 4];
+    let mut phases = [0, 1, 2, 3, 4, 5, 6];
+    phases.rotate_left(random.below(7) as usize);
+    sound_with(random, 5, &named, 2, &phases)
+}
+
+fn seat_in(seats: &mut [u32], phase: u32) -> &mut [u32] {
+    seats.chunks_exact_mut(SEAT_WORDS).find(|seat| seat[PHASE] == phase).expect("there is a seat in each phase")
+}
+
+/// A word of some node that has a claim, and one of the node that is zeros.
+fn claim_word<'a>(random: &mut Random, nodes: &'a mut [u32], field: usize) -> &'a mut u32 {
+    &mut nodes[place(random.between(1, 4), field)]
+}
+
+fn zero_word(nodes: &mut [u32], field: usize) -> &mut u32 {
+    &mut nodes[place(ZERO_NODE, field)]
+}
+
+const ZERO_NODE: u32 = 5;
+
+type Damage = (&'static str, fn(&mut Random, &mut Vec<u32>, &mut Vec<u32>));
+
+/// Each clause of sound shape, broken alone.
+pub const DAMAGES: &[Damage] = &[
+    ("no words for nodes", |_, nodes, _| nodes.clear()),
+    ("no node", |_, nodes, _| nodes.truncate(HEAD_WORDS)),
+    ("a word too few for the nodes", |_, nodes, _| nodes.truncate(nodes.len() - 1)),
+    ("a word too many for the nodes", |_, nodes, _| nodes.push(0)),
+    ("257 nodes", |_, nodes, _| nodes.resize(HEAD_WORDS + NODE_WORDS * 257, 0)),
+    ("no seat", |_, _, seats| seats.clear()),
+    ("a word too few for the seats", |_, _, seats| seats.truncate(seats.len() - 1)),
+    ("a word too many for the seats", |_, _, seats| seats.push(0)),
+    ("65 seats", |_, _, seats| seats.resize(SEAT_WORDS * 65, 0)),
+    ("kind 0 with a start", |_, nodes, _| *zero_word(nodes, START) = 1),
+    ("kind 0 with an end", |_, nodes, _| *zero_word(nodes, END) = 1),
+    ("kind 0 with a next", |_, nodes, _| *zero_word(nodes, NEXT) = 1),
+    ("kind 0 with a mark", |_, nodes, _| *zero_word(nodes, MARK) = 1),
+    ("kind 3", |random, nodes, _| *claim_word(random, nodes, KIND) = 3),
+    ("kind 4294967295", |random, nodes, _| *claim_word(random, nodes, KIND) = u32::MAX),
+    ("start at the end", |random, nodes, _| {
+        let node = random.between(1, 4);
+        nodes[place(node, START)] = nodes[place(node, END)];
+    }),
+    ("end 0", |random, nodes, _| *claim_word(random, nodes, END) = 0),
+    ("mark 2", |random, nodes, _| *claim_word(random, nodes, MARK) = 2),
+    ("mark 4294967295", |random, nodes, _| *claim_word(random, nodes, MARK) = u32::MAX),
+    ("next past N", |random, nodes, _| *claim_word(random, nodes, NEXT) = 6),
+    ("next 4294967295", |random, nodes, _| *claim_word(random, nodes, NEXT) = u32::MAX),
+    ("next at a node of zeros", |random, nodes, _| *claim_word(random, nodes, NEXT) = ZERO_NODE),
+    ("head past N", |_, nodes, _| nodes[HEAD] = 6),
+    ("head at a node of zeros", |_, nodes, _| nodes[HEAD] = ZERO_NODE),
+    ("phase 7", |random, _, seats| seat_in(seats, random.between(1, 6))[PHASE] = 7),
+    ("phase 4294967295", |random, _, seats| seat_in(seats, random.between(1, 6))[PHASE] = u32::MAX),
+    ("own past N", |random, _, seats| seat_in(seats, random.between(1, 6))[OWN] = 6),
+    ("own at a node of zeros", |random, _, seats| seat_in(seats, random.between(1, 6))[OWN] = ZERO_NODE),
+    ("own 0 while under way", |random, _, seats| seat_in(seats, random.between(1, 6))[OWN] = 0),
+    ("prev past N", |random, _, seats| seat_in(seats, random.between(1, 4))[PREV] = 6),
+    ("prev at a node of zeros", |random, _, seats| seat_in(seats, random.between(1, 4))[PREV] = ZERO_NODE),
+    ("cur past N", |random, _, seats| seat_in(seats, random.between(1, 4))[CUR] = 6),
+    ("cur at a node of zeros", |random, _, seats| seat_in(seats, random.between(1, 4))[CUR] = ZERO_NODE),
+    ("idle with own", |_, _, seats| seat_in(seats, IDLE)[OWN] = 1),
+    ("idle with prev", |_, _, seats| seat_in(seats, IDLE)[PREV] = 1),
+    ("idle with cur", |_, _, seats| seat_in(seats, IDLE)[CUR] = 1),
+    ("waiting to enter with cur 0", |_, _, seats| seat_in(seats, WAITING_TO_ENTER)[CUR] = 0),
+    ("reader waiting with cur 0", |_, _, seats| seat_in(seats, READER_WAITING)[CUR] = 0),
+    ("holding with prev", |_, _, seats| seat_in(seats, HOLDING)[PREV] = 1),
+    ("holding with cur", |_, _, seats| seat_in(seats, HOLDING)[CUR] = 1),
+    ("withdrawn with prev", |_, _, seats| seat_in(seats, WITHDRAWN)[PREV] = 1),
+    ("withdrawn with cur", |_, _, seats| seat_in(seats, WITHDRAWN)[CUR] = 1),
+    ("the first listed node links to itself", |_, nodes, _| {
+        let first = nodes[HEAD];
+        nodes[link(first)] = first;
+    }),
+    ("the second listed node links to the first", |_, nodes, _| {
+        let second = nodes[link(nodes[HEAD])];
+        nodes[link(second)] = nodes[HEAD];
+    }),
+];
+
+/// Sound tables with one damage.
+pub fn damaged(random: &mut Random, damage: &Damage) -> Tables {
+    let (mut nodes, mut seats) = ample(random);
+    damage.1(random, &mut nodes, &mut seats);
+    (nodes, seats)
+}

@@ -1,0 +1,90 @@
+//! Each bad line by itself, and what the generated scripts reach.
+
+use crate::generate::{script, FLAWS};
+use crate::script::read_script;
+use crate::tally::Tally;
+
+#[test]
+fn bad_scripts_name_the_first_wrong_line() {
+    let line = |script: &[u8]| read_script(script).err();
+    assert_eq!(line(b""), Some(1));
+    assert_eq!(line(b"1 1 0"), Some(1));
+    assert_eq!(line(b"1 1 0\n"), None);
+    assert_eq!(line(b"1 1 0\n\n"), Some(2));
+    assert_eq!(line(b"1 1 0\nx"), Some(2));
+    assert_eq!(line(b"256 64 0\n"), None);
+    for contents in ["0 1 0", "257 1 0", "1 0 0", "1 65 0", "1 1 1001", "1 1", "1 1 0 0", "01 1 0", "1  1 0", " 1 1 0"]
+    {
+        assert_eq!(line(format!("{contents}\n").as_bytes()), Some(1), "{contents}");
+    }
+    for contents in ["1 1 0 ", "1\t1 0", "1 1 0\r", "+1 1 0", "-1 1 0", "1 1 \u{e9}", "1 1 0\0", "4294967297 1 0", ""] {
+        assert_eq!(line(format!("{contents}\n").as_bytes()), Some(1), "{contents}");
+    }
+    assert_eq!(line(b"1 1 1\nb 4294967295 0 4294967295 9\n"), None);
+    for body in [
+        "",
+        "s",
+        "s ",
+        "s 00",
+        "s 4294967296",
+        "s 99999999999",
+        "S 0",
+        "x 0",
+        "b 0 1 2",
+        "b 0 1 2 2 0",
+        "r 0 0",
+        "ss 0",
+    ] {
+        assert_eq!(line(format!("1 1 2\ns 0\n{body}\n").as_bytes()), Some(3), "{body}");
+    }
+    assert_eq!(line(b"1 1 2\ns 0\n"), Some(3));
+    assert_eq!(line(b"1 1 2\ns 0\ns 0"), Some(3));
+    assert_eq!(line(b"1 1 2\nx\ns 0"), Some(2));
+    assert_eq!(line(b"1 1 1\ns 0\ns 0\n"), Some(3));
+    assert_eq!(line(&[b'1'; 16385]), Some(0));
+    assert_eq!(line(&[b'1'; 16384]), Some(1));
+}
+
+#[test]
+fn the_generated_scripts_reach_every_rule() {
+    let mut tally = Tally::default();
+    for (flaw, bytes) in (0..400).map(|number| script(1, number)) {
+        tally.count_script(flaw, &bytes);
+    }
+    let steps = [
+        "step: begins to wait in phase 2",
+        "step: waits on in phase 2",
+        "step: wait in phase 2 is over",
+        "step: reader begins to wait in phase 4",
+        "step: reader waits on in phase 4",
+        "step: reader's wait in phase 4 is over",
+        "step: insert that links",
+        "step: insert that finds another link",
+        "step: restart behind a marked prev",
+        "step: pass while walking",
+        "step: pass while validating",
+        "step: unlink while walking",
+        "step: unlink while validating",
+        "step: hold",
+        "step: of a holder",
+        "step: withdrawal",
+        "step: fetch after withdrawal, the same node",
+        "step: fetch after withdrawal, another node",
+        "fetch that takes marked nodes out",
+        "script with a list longer than 30",
+    ];
+    let refusals =
+        ["2 of begin", "3 of begin", "4 of begin", "5 of begin", "8 of begin", "2 of step", "6 of step", "8 of step"];
+    for name in steps {
+        assert!(tally.of(name) >= 10, "{name}");
+    }
+    for refusal in refusals.iter().chain(&["2 of release", "7 of release"]) {
+        assert!(tally.of(&format!("refusal {refusal}")) >= 10, "{refusal}");
+    }
+    for (flaw, _) in FLAWS {
+        assert!(tally.of(&format!("script: {flaw}")) >= 3, "{flaw}");
+    }
+    for line in ["bad 0", "bad 1", "bad 2", "bad, a later line"] {
+        assert!(tally.of(line) >= 3, "{line}");
+    }
+}

@@ -1,0 +1,189 @@
+//! The machine on tables that no history need have reached, against slow renderings of the same sentences of document 01.
+
+use crate::driver::{outcome, Call, Case};
+use crate::library_of;
+use crate::machine::*;
+use crate::random::Random;
+use crate::tables::{any_words, damaged, sound_words, DAMAGES};
+
+/// Sound shape, clause by clause.
+fn is_sound(nodes: &[u32], seats: &[u32]) -> bool {
+    let count = nodes.len() / 5;
+    if nodes.len() != 1 + 5 * count || !(1..=256).contains(&count) {
+        return false;
+    }
+    if seats.len() % 4 != 0 || !(1..=64).contains(&(seats.len() / 4)) {
+        return false;
+    }
+    let node = |number: usize| -> &[u32] { &nodes[1 + 5 * (number - 1)..][..5] };
+    let names = |name: u32| name == 0 || (name as usize <= count && [1, 2].contains(&node(name as usize)[2]));
+    let nodes_fit = (1..=count).map(node).all(|words| {
+        words == [0; 5] || ([1, 2].contains(&words[2]) && words[0] < words[1] && names(words[3]) && words[4] <= 1)
+    });
+    let seats_fit = seats.chunks(4).all(|seat| match seat {
+        [0, own, prev, cur] => [*own, *prev, *cur] == [0; 3],
+        [phase, own, prev, cur] => {
+            *phase <= 6
+                && *own != 0
+                && [*own, *prev, *cur].into_iter().all(names)
+                && (![5, 6].contains(phase) || [*prev, *cur] == [0, 0])
+                && (![2, 4].contains(phase) || *cur != 0)
+        }
+        _ => false,
+    });
+    if !nodes_fit || !seats_fit || !names(nodes[0]) {
+        return false;
+    }
+    let mut met = nodes[0];
+    for _ in 0..count {
+        met = if met == 0 { 0 } else { node(met as usize)[3] };
+    }
+    met == 0
+}
+
+/// Whether a node is met by following next from another, itself included.
+fn reaches(nodes: &[u32], from: u32, wanted: u32) -> bool {
+    let mut met = from;
+    for _ in 0..=nodes.len() {
+        if met == 0 || met == wanted {
+            break;
+        }
+        met = nodes[5 * met as usize - 1];
+    }
+    met == wanted
+}
+
+/// The free nodes by the rule, node by node.
+fn free_nodes(nodes: &[u32], seats: &[u32], asking: Option<usize>) -> Vec<u32> {
+    let others = seats.chunks(4).enumerate().filter(|(number, _)| Some(*number) != asking);
+    let mut sources: Vec<u32> = others.flat_map(|(_, seat)| seat[1..].to_vec()).collect();
+    sources.push(nodes[0]);
+    (1..=nodes.len() as u32 / 5).filter(|&node| !sources.iter().any(|&from| reaches(nodes, from, node))).collect()
+}
+
+/// The table with the marked nodes taken out of the list.
+fn taken_out(nodes: &[u32]) -> Vec<u32> {
+    let mut after = nodes.to_vec();
+    let mut link = 0;
+    for node in listed(nodes).filter(|&node| nodes[5 * node as usize] == 0) {
+        after[link] = node;
+        link = 5 * node as usize - 1;
+    }
+    after[link] = 0;
+    after
+}
+
+/// Begin on sound tables with arguments that are not refused, or nothing for refusal 8.
+fn begun(nodes: &[u32], seats: &[u32], seat: usize, claim: [u32; 3]) -> Option<(Vec<u32>, Vec<u32>)> {
+    let mut after = nodes.to_vec();
+    let mut free = free_nodes(&after, seats, Some(seat));
+    if free.is_empty() {
+        after = taken_out(nodes);
+        free = free_nodes(&after, seats, Some(seat));
+    }
+    let node = *free.first()?;
+    after[5 * node as usize - 4..][..3].copy_from_slice(&claim);
+    after[5 * node as usize - 1..][..2].copy_from_slice(&[0, 0]);
+    let mut seats = seats.to_vec();
+    seats[4 * seat..][..4].copy_from_slice(&[1, node, 0, after[0]]);
+    Some((after, seats))
+}
+
+#[test]
+fn sound_shape_is_what_its_clauses_say() {
+    let mut random = Random::new(1);
+    let mut sound_ones = 0;
+    for _ in 0..40_000 {
+        let (nodes, seats) = any_words(&mut random);
+        sound_ones += u32::from(is_sound(&nodes, &seats));
+        assert_eq!(free_count(&nodes, &seats).is_ok(), is_sound(&nodes, &seats), "{nodes:?} {seats:?}");
+    }
+    assert!(sound_ones > 400, "{sound_ones}");
+    for _ in 0..2_000 {
+        let (nodes, seats) = sound_words(&mut random);
+        assert!(is_sound(&nodes, &seats) && free_count(&nodes, &seats).is_ok(), "{nodes:?} {seats:?}");
+    }
+}
+
+#[test]
+fn each_damage_alone_is_refused_and_nothing_changes() {
+    let library = library_of!(crate::library);
+    let mut random = Random::new(2);
+    for damage in DAMAGES.iter().cycle().take(20 * DAMAGES.len()) {
+        let (nodes, seats) = damaged(&mut random, damage);
+        assert!(!is_sound(&nodes, &seats), "{}", damage.0);
+        let calls = [
+            Call::Begin { seat: 0, start: 0, end: 1, kind: 1 },
+            Call::Step { seat: 0 },
+            Call::Release { seat: 0 },
+            Call::Board { rows: vec![7; 256] },
+            Call::FreeCount,
+        ];
+        for call in calls {
+            let after = outcome(&library, &Case { nodes: nodes.clone(), seats: seats.clone(), call });
+            assert_eq!(
+                (after.answer, after.nodes.words(), after.seats.words()),
+                (1, &nodes[..], &seats[..]),
+                "{}",
+                damage.0
+            );
+            assert!(after.rows.words().iter().all(|&word| word == 7));
+        }
+        assert_eq!(run(&mut nodes.clone(), &mut seats.clone(), &[0], 9), (0, 1), "{}", damage.0);
+    }
+}
+
+#[test]
+fn fetch_and_free_count_are_what_the_rule_says() {
+    let mut random = Random::new(3);
+    let mut taken_out_first = 0;
+    let mut refused = 0;
+    for _ in 0..4_000 {
+        let (nodes, seats) = sound_words(&mut random);
+        assert_eq!(
+            free_count(&nodes, &seats),
+            Ok(free_nodes(&nodes, &seats, None).len() as u32),
+            "{nodes:?} {seats:?}"
+        );
+        let idle = seats.chunks(4).position(|seat| seat[0] == 0);
+        if let Some(seat) = idle {
+            let (mut after_nodes, mut after_seats) = (nodes.clone(), seats.clone());
+            let answer = begin(&mut after_nodes, &mut after_seats, seat as u32, 3, 5, 2);
+            match begun(&nodes, &seats, seat, [3, 5, 2]) {
+                Some(after) => {
+                    assert_eq!(answer, Ok(Answer::Node(after.1[4 * seat + 1])));
+                    assert_eq!((after_nodes, after_seats), after, "{nodes:?} {seats:?}");
+                    taken_out_first += u32::from(free_nodes(&nodes, &seats, Some(seat)).is_empty());
+                }
+                None => {
+                    assert_eq!(answer, Err(8));
+                    assert_eq!((&after_nodes, &after_seats), (&nodes, &seats));
+                    refused += 1;
+                }
+            }
+        }
+    }
+    assert!(taken_out_first > 100 && refused > 100, "{taken_out_first} {refused}");
+}
+
+#[test]
+fn run_is_step_after_step() {
+    let mut random = Random::new(4);
+    let mut damaged_on_the_way = 0;
+    for _ in 0..20_000 {
+        let (nodes, seats) = sound_words(&mut random);
+        let seat_count = seats.len() as u32 / 4;
+        let entries: Vec<u32> = (0..20).map(|_| random.below(seat_count + seat_count / 4)).collect();
+        let (mut step_nodes, mut step_seats) = (nodes.clone(), seats.clone());
+        let answers = entries.iter().map(|&seat| step(&mut step_nodes, &mut step_seats, seat));
+        let stepped: Vec<Result<Answer, u32>> = answers.take_while(|answer| answer.is_ok()).collect();
+        let refused_entry = entries.get(stepped.len());
+        let refusal = refused_entry.map_or(0, |&seat| step(&mut step_nodes, &mut step_seats, seat).unwrap_err());
+        let (mut run_nodes, mut run_seats) = (nodes.clone(), seats.clone());
+        let ran = run(&mut run_nodes, &mut run_seats, &entries, u32::MAX);
+        assert_eq!(ran, (stepped.len() as u32, refusal), "{nodes:?} {seats:?} {entries:?}");
+        assert_eq!((run_nodes, run_seats), (step_nodes, step_seats), "{nodes:?} {seats:?} {entries:?}");
+        damaged_on_the_way += u32::from(refusal == 1);
+    }
+    assert!(damaged_on_the_way > 100, "{damaged_on_the_way}");
+}
