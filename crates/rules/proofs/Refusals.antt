@@ -6,11 +6,11 @@ use mathlib.Core.List.{List, [], _∷_}
 use mathlib.Core.Logic.{_≢_}
 use native.Mathlib.Omega.{arith}
 use Rattle.rules.specs.Notation.{_is_}
-use Rattle.rules.specs.Tables.{Tables, phase}
+use Rattle.rules.specs.Tables.{Tables}
 use Rattle.rules.specs.Shape.{sound}
 use Rattle.rules.specs.Comparison.{Claim}
 use Rattle.rules.specs.Fetch.{Fetched}
-use Rattle.rules.specs.Answers.{Answer, node, out, on, wait, held, back, refused, Done, answerOf}
+use Rattle.rules.specs.Answers.{Answer, node, out, on, wait, held, back, refused, Done}
 use Rattle.rules.specs.Steps.{refetched}
 use Rattle.rules.specs.Calls.{begun, step}
 use Rattle.rules.specs.Run.{refusalOf, runSteps, run}
@@ -18,17 +18,10 @@ use Rattle.rules.specs.Play.{Call, beginCall, stepCall, releaseCall, cal
 use Rattle.rules.specs.Reached.{Reached, called}
 use Rattle.rules.specs.declared.Ran.{Ran}
 use Rattle.rules.proofs.Logic.{branch, clash}
+use Rattle.rules.proofs.Refused.{answer-accepts}
 use Rattle.rules.proofs.Reasons.{Stepping, in-1, in-2, in-3, in-4, in-6, at-rest}
 use Rattle.rules.proofs.SoundReached.{reached-sound}
 use Rattle.rules.proofs.Accepting.{Refuses, Beginning, begin-refused, begin-accepted, beginning, Stepped, step-refused, step-accepted, stepped, Releasing, release-refused, release-accepted, releasing}
-
-pub answer-accepted : (t : Tables) (s : ℕ) → refusalOf (answerOf t s) ≡ 0
-unfolding answerOf
-answer-accepted t s =
-    branch (λ a. refusalOf a ≡ 0) (phase t s is 2) (λ e. refl) (λ e₂.
-    branch (λ a. refusalOf a ≡ 0) (phase t s is 4) (λ e. refl) (λ e₄.
-    branch (λ a. refusalOf a ≡ 0) (phase t s is 5) (λ e. refl) (λ e₅.
-    branch (λ a. refusalOf a ≡ 0) (phase t s is 6) (λ e. refl) (λ e₆. refl))))
 
 -- the refusals of an accepted begin and an accepted step: none, or 8
 pub data NoneOr8 (a : Answer) : Type 0 where
@@ -42,15 +35,15 @@ begun-none-or-8 t f = branch (λ (d : Done Answer). NoneOr8 (d .answer)) (f .nod
 refetched-none-or-8 : (t : Tables) (s : ℕ) (f : Fetched) → NoneOr8 (refetched t s f .answer)
 unfolding refetched
 refetched-none-or-8 t s f =
-    branch (λ (d : Done Answer). NoneOr8 (d .answer)) (f .node is 0) (λ e. refusal-8 refl) (λ e. no-refusal (answer-accepted (f .after) s))
+    branch (λ (d : Done Answer). NoneOr8 (d .answer)) (f .node is 0) (λ e. refusal-8 refl) (λ e. no-refusal (answer-accepts (f .after) s))
 
 pub stepping-none-or-8 : {t : Tables} {s : ℕ} {d : Done Answer} → Stepping t s d → NoneOr8 (d .answer)
-stepping-none-or-8 {s = s} (in-1 {u = u} e w) = no-refusal (answer-accepted u s)
-stepping-none-or-8 {s = s} (in-2 {u = u} e w) = no-refusal (answer-accepted u s)
-stepping-none-or-8 {s = s} (in-3 {u = u} e w) = no-refusal (answer-accepted u s)
-stepping-none-or-8 {s = s} (in-4 {u = u} e w) = no-refusal (answer-accepted u s)
+stepping-none-or-8 {s = s} (in-1 {u = u} e w) = no-refusal (answer-accepts u s)
+stepping-none-or-8 {s = s} (in-2 {u = u} e w) = no-refusal (answer-accepts u s)
+stepping-none-or-8 {s = s} (in-3 {u = u} e w) = no-refusal (answer-accepts u s)
+stepping-none-or-8 {s = s} (in-4 {u = u} e w) = no-refusal (answer-accepts u s)
 stepping-none-or-8 {t} {s} (in-6 {f = f} e w) = refetched-none-or-8 t s f
-stepping-none-or-8 {t} {s} (at-rest a b c d e) = no-refusal (answer-accepted t s)
+stepping-none-or-8 {t} {s} (at-rest a b c d e) = no-refusal (answer-accepts t s)
 
 none-or-8-not-1 : {a : Answer} → NoneOr8 a → a ≢ refused 1
 none-or-8-not-1 (no-refusal e) q = let z = ap refusalOf q in omega arith
