@@ -104,7 +104,8 @@ unlinked {t = t} s s-in g c (goes-past e) =
     }
 
 -- ---- a seat that turns to wait at an unmarked cur is at rest
-pub rests-in : {N S : ℕ} {t : Tables} → Good N S t → (s : ℕ) → s < S → (P : ℕ) → (P ≡ 2) ⊎ (P ≡ 4) → mark t (cur t s) ≢ 1 → AtRest s (setPhase t s P)
+pub rests-in : {N S : ℕ} {t : Tables} → Good N S t → (s : ℕ) → s < S → (P : ℕ) → (P ≡ 2) ⊎ (P ≡ 4) → mark t (cur t s) ≢ 1
+    → AtRest s (setPhase t s P)
 rests-in {t = t} g s s-in P p m =
     let w = phase-stored t s (room g s s-in) P in
     rests-waiting (rw (w .at-s phaseAt (omega arith)) p) (rw (w .at-s curAt (omega arith)) m)

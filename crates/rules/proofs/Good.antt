@@ -47,8 +47,8 @@ moves {t = t} {seats = seats} g w f =
     record { nodes-long = g .nodes-long; seats-long = w .long ∙ g .seats-long; inv = f (reseated t (tables (t .nodes) seats) w) }
 
 -- ---- a link that led to a marked node passes over it
-pub passes-over : {N S : ℕ} {t : Tables} → Good N S t → (p out : ℕ) → p ≤ N → Known (link t) (seatsOf t) p → out ≢ 0 → mark t out ≡ 1 → link t p ≡ out
-    → Good N S (setLink t p (next t out))
+pub passes-over : {N S : ℕ} {t : Tables} → Good N S t → (p out : ℕ) → p ≤ N → Known (link t) (seatsOf t) p
+    → out ≢ 0 → mark t out ≡ 1 → link t p ≡ out → Good N S (setLink t p (next t out))
 passes-over {N} {t = t} g p out p-in known out-pos gone joins =
     let l = t .nodes in
     let v = next t out in
@@ -139,7 +139,8 @@ module _ {N S : ℕ} {t : Tables} (g : Good N S t) (s : ℕ) where
         nodes-long = put-node-length ns o markAt 1 ∙ g .nodes-long;
         seats-long = w .long ∙ g .seats-long;
         inv = subst (λ n. Invariant N n (seatsOf u))
-            (only-marks t (setMark t o 1) (λ a f b d. node-put-field ns o a markAt f 1 (omega arith) b (λ e. d (sym e))) (λ a. link-put-field ns o a markAt 1 (omega arith) (omega arith)))
+            (only-marks t (setMark t o 1) (λ a f b d. node-put-field ns o a markAt f 1 (omega arith) b (λ e. d (sym e)))
+            (λ a. link-put-field ns o a markAt 1 (omega arith) (omega arith)))
             (leave-keeps (g .inv) (mark (setMark t o 1)) s (words phaseAt) (words ownAt) l lv r (node-put-same ns o markAt 1 (omega arith) h (node-room g o own-in))
             (λ a d. node-put-node ns o a markAt markAt 1 (omega arith) (omega arith) (λ e. d (sym e))));
       }
