@@ -23,6 +23,10 @@ use Rattle.rules.proofs.Good.{Good, room, node-room, prev-in}
 use Rattle.rules.proofs.StepKeeps.{walking-keeps, waiting-keeps, reader-waiting-keeps, validating-keeps}
 use Rattle.rules.proofs.SoundReached.{Bounds, good-sound}
 
+-- the step of seat s and of no other
+abbrev pub alone : ℕ → Tables → Tables
+alone s t = step t s .after
+
 -- the claim need not be stepped on: it holds, it waits at an unmarked claim, or no node is free for it
 pub data AtRest (s : ℕ) (t : Tables) : Type 0 where
   rests-holding : phase t s ≡ 5 → AtRest s t
@@ -100,7 +104,8 @@ unlinked {t = t} s s-in g c (goes-past e) =
     }
 
 -- ---- a seat that turns to wait at an unmarked cur is at rest
-pub rests-in : {N S : ℕ} {t : Tables} → Good N S t → (s : ℕ) → s < S → (P : ℕ) → (P ≡ 2) ⊎ (P ≡ 4) → mark t (cur t s) ≢ 1 → AtRest s (setPhase t s P)
+pub rests-in : {N S : ℕ} {t : Tables} → Good N S t → (s : ℕ) → s < S → (P : ℕ) → (P ≡ 2) ⊎ (P ≡ 4) → mark t (cur t s) ≢ 1
+    → AtRest s (setPhase t s P)
 rests-in {t = t} g s s-in P p m =
     let w = phase-stored t s (room g s s-in) P in
     rests-waiting (rw (w .at-s phaseAt (omega arith)) p) (rw (w .at-s curAt (omega arith)) m)

@@ -14,15 +14,15 @@ use Rattle.rules.specs.Answers.{refused}
 use Rattle.rules.specs.Calls.{begin, step, release}
 use Rattle.rules.specs.Run.{run}
 use Rattle.rules.specs.Play.{Call, call, afterAll}
-use Rattle.rules.specs.Reached.{Reached}
-use Rattle.rules.specs.Demands.{Covers, claimOfSeat, Holds, Stands, Rising, seatOf, OtherSeatsKept, NodesKept, FetchKept, Nobody, stepsOf, IsItsSteps}
+use Rattle.rules.specs.Reached.{Reached, called}
+use Rattle.rules.specs.Demands.{Covers, claimOfSeat, Holds, Stands, Rising, seatOf, OtherSeatsKept, NodesKept, FetchKept, NoNode, stepsOf, IsItsSteps}
 use Rattle.rules.proofs.CallKeeps.{good}
 use Rattle.rules.proofs.Exclusion.{both-read}
 use Rattle.rules.proofs.ListOrder.{rising}
 use Rattle.rules.proofs.NothingDropped.{stands-still}
 use Rattle.rules.proofs.RunSteps.{run-is-its-steps, calls-reached}
 use Rattle.rules.proofs.SoundReached.{reached-sound}
-use Rattle.rules.proofs.Refusals.{sound-never-damaged}
+use Rattle.rules.proofs.Refusals.{sound-never-damaged, run-not-1}
 use Rattle.rules.proofs.SeatFrames.{other-seats-kept}
 use Rattle.rules.proofs.NodeFrames.{step-1-kept, step-2-kept, step-3-kept, step-4-kept, step-5-kept, step-6-kept, begin-kept, release-kept}
 use Rattle.rules.proofs.ClaimFrames as frames
@@ -35,6 +35,10 @@ apart r i j frame d hi hj ci cj = both-read (good r .inv) i j frame d hi hj (ci 
 -- ---- the list is ordered by first frame
 pub ordered : {N S : ℕ} {t : Tables} → Reached N S t → Rising (start t) (listOf t)
 ordered r = rising (good r)
+
+-- and stays so over every call
+pub stays-ordered : {N S : ℕ} {t : Tables} → Reached N S t → (c : Call) → Rising (start (call t c .after)) (listOf (call t c .after))
+stays-ordered r c = ordered (called r c)
 
 -- ---- a claim that stands on the list stands there after any one call, or is marked
 pub nothing-dropped : {N S : ℕ} {t : Tables} → Reached N S t → (c : Call) (a : ℕ) → Stands t a
@@ -55,6 +59,9 @@ always-sound r = reached-sound r
 pub never-damaged : {N S : ℕ} {t : Tables} → Reached N S t → (c : Call) → call t c .answer ≢ refused 1
 never-damaged {t = t} r = sound-never-damaged t (reached-sound r)
 
+pub run-never-damaged : {N S : ℕ} {t : Tables} → Reached N S t → (schedule : List ℕ) (budget : ℕ) → run t schedule budget .answer .refusal ≢ 1
+run-never-damaged = run-not-1
+
 -- ---- what a call may touch, in any tables
 -- of the seats its own alone
 pub touches-one-seat : (t : Tables) (c : Call) → OtherSeatsKept (seatOf c) t (call t c .after)
@@ -65,21 +72,21 @@ pub begin-touches : (t : Tables) (s : ℕ) (c : Claim) → FetchKept s t (begin 
 begin-touches = begin-kept
 
 -- release, the mark of own
-pub release-touches : (t : Tables) (s : ℕ) → NodesKept Nobody (λ a. a ≡ own t s) Nobody t (release t s .after)
+pub release-touches : (t : Tables) (s : ℕ) → NodesKept NoNode (λ a. a ≡ own t s) NoNode t (release t s .after)
 release-touches = release-kept
 
 -- a step, by its phase: the links of own and prev, where the claim is linked in or a marked node is unlinked
-pub walking-touches : (t : Tables) (s : ℕ) → phase t s ≡ 1 → NodesKept (λ a. (a ≡ own t s) ⊎ (a ≡ prev t s)) Nobody Nobody t (step t s .after)
+pub walking-touches : (t : Tables) (s : ℕ) → phase t s ≡ 1 → NodesKept (λ a. (a ≡ own t s) ⊎ (a ≡ prev t s)) NoNode NoNode t (step t s .after)
 walking-touches = step-1-kept
 
-pub waiting-touches : (t : Tables) (s : ℕ) → phase t s ≡ 2 → NodesKept Nobody Nobody Nobody t (step t s .after)
+pub waiting-touches : (t : Tables) (s : ℕ) → phase t s ≡ 2 → NodesKept NoNode NoNode NoNode t (step t s .after)
 waiting-touches = step-2-kept
 
 -- the link of prev, where a marked node is unlinked, and the mark of own, where the claim is withdrawn
-pub validating-touches : (t : Tables) (s : ℕ) → phase t s ≡ 3 → NodesKept (λ a. a ≡ prev t s) (λ a. a ≡ own t s) Nobody t (step t s .after)
+pub validating-touches : (t : Tables) (s : ℕ) → phase t s ≡ 3 → NodesKept (λ a. a ≡ prev t s) (λ a. a ≡ own t s) NoNode t (step t s .after)
 validating-touches = step-3-kept
 
-pub reader-waiting-touches : (t : Tables) (s : ℕ) → phase t s ≡ 4 → NodesKept Nobody Nobody Nobody t (step t s .after)
+pub reader-waiting-touches : (t : Tables) (s : ℕ) → phase t s ≡ 4 → NodesKept NoNode NoNode NoNode t (step t s .after)
 reader-waiting-touches = step-4-kept
 
 pub holding-touches : (t : Tables) (s : ℕ) → phase t s ≡ 5 → step t s .after ≡ t

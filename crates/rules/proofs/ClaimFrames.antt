@@ -43,7 +43,8 @@ no-claim t u = λ i. record {
   kind = (node-zero (u .nodes) kindAt ∙ sym (node-zero (t .nodes) kindAt)) i;
 }
 
-pub others-claims-kept : {N S : ℕ} {t : Tables} → Good N S t → (c : Call) (r : ℕ) → r ≢ seatOf c → claimOf (call t c .after) (own (call t c .after) r) ≡ claimOf t (own t r)
+pub others-claims-kept : {N S : ℕ} {t : Tables} → Good N S t → (c : Call) (r : ℕ) → r ≢ seatOf c
+    → claimOf (call t c .after) (own (call t c .after) r) ≡ claimOf t (own t r)
 others-claims-kept {t = t} g c r d =
     let u = call t c .after in
     let s = seatOf c in

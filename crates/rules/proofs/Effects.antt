@@ -62,7 +62,8 @@ pub record Noded (before after : List ℕ) (a : ℕ) (words : ℕ → ℕ) : Typ
 pub node-as-found : (nodes : List ℕ) (a : ℕ) → Noded nodes nodes a (nodeWord nodes a)
 node-as-found nodes a = record { at-a = λ f h. refl; others = λ b f d h. refl; links = λ b d. refl; long = refl }
 
-module _ {before after : List ℕ} {a : ℕ} {words : ℕ → ℕ} (pos : a ≢ 0) (room : beforeNodes + nodeWidth * a ≤ length before) (w : Noded before after a words) where
+module _ {before after : List ℕ} {a : ℕ} {words : ℕ → ℕ} (pos : a ≢ 0) (room : beforeNodes + nodeWidth * a ≤ length before)
+    (w : Noded before after a words) where
   -- the link of a node is its word like the others
   link-away : (f v b : ℕ) → f < nodeWidth → b ≢ a → linkWord (putNode after a f v) b ≡ linkWord after b
   link-away f v b h d =

@@ -30,7 +30,10 @@ pub claim-written : (t : Tables) (a : ℕ) (c : Claim) → a ≢ 0 → beforeNod
     → Noded (t .nodes) (writeClaim t a c .nodes) a (claimWords (nodeWord (t .nodes) a) c)
 unfolding writeClaim
 claim-written t a c z r =
-    put-word z r (put-next z r (put-word z r (put-word z r (put-word z r (node-as-found (t .nodes) a) startAt (c .start) (omega arith)) endAt (c .end) (omega arith)) kindAt (c .kind) (omega arith)) 0) markAt 0 (omega arith)
+    let w₁ = put-word z r (node-as-found (t .nodes) a) startAt (c .start) (omega arith) in
+    let w₂ = put-word z r w₁ endAt (c .end) (omega arith) in
+    let w₃ = put-word z r w₂ kindAt (c .kind) (omega arith) in
+    put-word z r (put-next z r w₃ 0) markAt 0 (omega arith)
 
 written : (t : Tables) (a : ℕ) (c : Claim) → a ≢ 0 → beforeNodes + nodeWidth * a ≤ length (t .nodes) → Proper c
     → Written (nodesOf t) (nodesOf (writeClaim t a c)) a

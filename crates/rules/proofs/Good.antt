@@ -1,7 +1,7 @@
 -- Good tables: lengths for N nodes and S seats, and the invariant. Each rule of a step that fetches nothing leaves good tables good, and
 -- so does release.
 use Prim.Native.Nat.{ℕ, _+_, _*_, _≤_, _<_}
-use mathlib.Core.Path.{_≡_, refl, sym, subst, _∙_}
+use mathlib.Core.Path.{_≡_, refl, sym, subst, subst₂, _∙_}
 use mathlib.Core.List.{List}
 use mathlib.Core.Logic.{_≢_, _⊎_, inl, inr}
 use native.Mathlib.Omega.{arith}
@@ -33,6 +33,11 @@ room g s h = let l = g .seats-long in omega arith
 pub node-room : {N S : ℕ} {t : Tables} → Good N S t → (a : ℕ) → a ≤ N → beforeNodes + nodeWidth * a ≤ length (t .nodes)
 node-room g a h = let l = g .nodes-long in omega arith
 
+-- words outside the view do not matter
+pub same-view : {N S : ℕ} {t u : Tables} → Good N S t → length (u .nodes) ≡ length (t .nodes) → length (u .seats) ≡ length (t .seats)
+    → nodesOf t ≡ nodesOf u → seatsOf t ≡ seatsOf u → Good N S u
+same-view {N} g l l′ e e′ = record { nodes-long = l ∙ g .nodes-long; seats-long = l′ ∙ g .seats-long; inv = subst₂ (Invariant N) e e′ (g .inv) }
+
 -- ---- a seat moves
 pub moves : {N S : ℕ} {t : Tables} {s : ℕ} {words : ℕ → ℕ} {seats : List ℕ} → Good N S t → Seated (t .seats) seats s words
     → (Reseated (seatsOf t) (seatsOf (tables (t .nodes) seats)) s (words phaseAt) (words ownAt) (words prevAt) (words curAt)
@@ -42,8 +47,8 @@ moves {t = t} {seats = seats} g w f =
     record { nodes-long = g .nodes-long; seats-long = w .long ∙ g .seats-long; inv = f (reseated t (tables (t .nodes) seats) w) }
 
 -- ---- a link that led to a marked node passes over it
-pub passes-over : {N S : ℕ} {t : Tables} → Good N S t → (p out : ℕ) → p ≤ N → Known (link t) (seatsOf t) p → out ≢ 0 → mark t out ≡ 1 → link t p ≡ out
-    → Good N S (setLink t p (next t out))
+pub passes-over : {N S : ℕ} {t : Tables} → Good N S t → (p out : ℕ) → p ≤ N → Known (link t) (seatsOf t) p
+    → out ≢ 0 → mark t out ≡ 1 → link t p ≡ out → Good N S (setLink t p (next t out))
 passes-over {N} {t = t} g p out p-in known out-pos gone joins =
     let l = t .nodes in
     let v = next t out in
@@ -134,7 +139,8 @@ module _ {N S : ℕ} {t : Tables} (g : Good N S t) (s : ℕ) where
         nodes-long = put-node-length ns o markAt 1 ∙ g .nodes-long;
         seats-long = w .long ∙ g .seats-long;
         inv = subst (λ n. Invariant N n (seatsOf u))
-            (only-marks t (setMark t o 1) (λ a f b d. node-put-field ns o a markAt f 1 (omega arith) b (λ e. d (sym e))) (λ a. link-put-field ns o a markAt 1 (omega arith) (omega arith)))
+            (only-marks t (setMark t o 1) (λ a f b d. node-put-field ns o a markAt f 1 (omega arith) b (λ e. d (sym e)))
+            (λ a. link-put-field ns o a markAt 1 (omega arith) (omega arith)))
             (leave-keeps (g .inv) (mark (setMark t o 1)) s (words phaseAt) (words ownAt) l lv r (node-put-same ns o markAt 1 (omega arith) h (node-room g o own-in))
             (λ a d. node-put-node ns o a markAt markAt 1 (omega arith) (omega arith) (λ e. d (sym e))));
       }

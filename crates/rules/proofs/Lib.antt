@@ -5,15 +5,19 @@ pub mod Words
 pub mod Shape
 pub mod Refused
 pub mod OneAnswer
+-- what the theory stands on: following links, the view of the tables, the invariant
 pub mod Deciding
+pub mod Lowest
+pub mod SameWords
 pub mod Following
 pub mod Pigeonhole
+pub mod Listed
 pub mod Compared
 pub mod View
-pub mod Invariant
 pub mod Phases
+pub mod Invariant
 pub mod Known
-pub mod Exclusion
+-- each change keeps the invariant
 pub mod SeatShapes
 pub mod SeatMoves
 pub mod SeatRules
@@ -21,28 +25,29 @@ pub mod Unlink
 pub mod Insert
 pub mod Leave
 pub mod Take
-pub mod SameWords
+-- the rules and the calls by their reasons and effects, and that they keep it
 pub mod Effects
 pub mod RuleEffects
 pub mod Reasons
+pub mod Accepting
 pub mod Good
 pub mod StepKeeps
-pub mod Lowest
-pub mod Listed
 pub mod TakeOut
 pub mod Hops
 pub mod FetchKeeps
-pub mod Accepting
 pub mod RunSteps
 pub mod CallKeeps
+-- demand 2, stated in Apart
+pub mod Exclusion
+pub mod ListOrder
 pub mod SoundReached
+pub mod Refusals
 pub mod SeatFrames
 pub mod NodeFrames
-pub mod NothingDropped
-pub mod ListOrder
 pub mod ClaimFrames
-pub mod Refusals
+pub mod NothingDropped
 pub mod Apart
+-- demand 3, stated in Cause
 pub mod Within
 pub mod Alone
 pub mod ReaderAlone

@@ -7,7 +7,6 @@ use mathlib.Core.Logic.{inl}
 use native.Mathlib.Omega.{arith}
 use Rattle.rules.specs.Tables.{Tables, phaseAt, prevAt, curAt, link, head, phase, prev, cur}
 use Rattle.rules.specs.Steps.{joined, pass}
-use Rattle.rules.specs.Calls.{step}
 use Rattle.rules.proofs.Logic.{clash}
 use Rattle.rules.proofs.Deciding.{if-true}
 use Rattle.rules.proofs.Following.{Ends, ends-tail}
@@ -16,7 +15,7 @@ use Rattle.rules.proofs.Reasons.{Joined, is-joined, links-in, restarts,
 use Rattle.rules.proofs.Good.{Good, room}
 use Rattle.rules.proofs.SoundReached.{Bounds}
 use Rattle.rules.proofs.Within.{Within, now, later, along-chain}
-use Rattle.rules.proofs.Alone.{AtRest, rests-in, after-1, unlinked, is-not-joined}
+use Rattle.rules.proofs.Alone.{alone, AtRest, rests-in, after-1, unlinked, is-not-joined}
 use Rattle.rules.proofs.WalkAlone.{WalkAt}
 
 pub data LooseEnds (N S s : ℕ) (t : Tables) : Type 0 where
@@ -24,9 +23,6 @@ pub data LooseEnds (N S s : ℕ) (t : Tables) : Type 0 where
   joins : WalkAt N S s false t → LooseEnds N S s t
 
 module _ {N S : ℕ} (b : Bounds N S) (s : ℕ) (s-in : s < S) where
-  abbrev next-step : Tables → Tables
-  next-step t = step t s .after
-
   record LooseAt (t : Tables) : Type 0 where
     good : Good N S t
     in-1 : phase t s ≡ 1
@@ -36,8 +32,8 @@ module _ {N S : ℕ} (b : Bounds N S) (s : ℕ) (s-in : s < S) where
   joins-at g p j = joins (record { good = g; in-1 = p; joined = j; seen-all = λ q. absurd (clash false q refl) })
 
   one-step : (m k : ℕ) (t : Tables) → LooseAt t → joined t s ≡ false → Ends (link t) (cur t s) k
-      → ((u : Tables) → LooseAt u → (j : ℕ) → Ends (link u) (cur u s) j → j < k → Within next-step (LooseEnds N S s) m u)
-      → {u : Tables} → Walking t s u → Good N S u → Within next-step (LooseEnds N S s) m u
+      → ((u : Tables) → LooseAt u → (j : ℕ) → Ends (link u) (cur u s) j → j < k → Within (alone s) (LooseEnds N S s) m u)
+      → {u : Tables} → Walking t s u → Good N S u → Within (alone s) (LooseEnds N S s) m u
   unfolding pass
   one-step m k t r x e on (inserts f (links-in j st)) g = absurd (is-not-joined t s x j)
   one-step m k t r x e on (inserts f (restarts y z)) g =
@@ -63,10 +59,10 @@ module _ {N S : ℕ} (b : Bounds N S) (s : ℕ) (s-in : s < S) where
       (record { unmarked = rw prev-is mk; to-cur = rw (prev-is, w .at-s curAt (omega arith)) }))
 
   pub loose-ends : (m : ℕ) {t : Tables} → Good N S t → phase t s ≡ 1 → (k : ℕ) → Ends (link t) (cur t s) k → k ≤ m
-      → Within next-step (LooseEnds N S s) (suc m) t
+      → Within (alone s) (LooseEnds N S s) (suc m) t
   loose-ends m {t} g p =
       along-chain {P = LooseEnds N S s} {R = LooseAt} (λ t. cur t s)
       (λ m k t r e on. if-true (joined t s)
       (λ j. now (joins-at (r .good) (r .in-1) (is-joined t s j)))
-      (λ j. later {k = m} (after-1 b s s-in (r .good) (Within next-step (LooseEnds N S s) m) (r .in-1) (λ u w gu. one-step m k t r j e on w gu))))
+      (λ j. later {k = m} (after-1 b s s-in (r .good) (Within (alone s) (LooseEnds N S s) m) (r .in-1) (λ u w gu. one-step m k t r j e on w gu))))
       m t (record { good = g; in-1 = p })

@@ -15,7 +15,7 @@ use Rattle.rules.specs.Fetch.{Fetched, fetch, keptFrom, kept, linkThroug
 use Rattle.rules.specs.Answers.{Answer, Done}
 use Rattle.rules.specs.Steps.{linkIn, pass, hold, withdraw, leave, refetched}
 use Rattle.rules.specs.Calls.{begun, begin, step, release}
-use Rattle.rules.specs.Demands.{Stands, NodesKept, Nobody, FetchKept}
+use Rattle.rules.specs.Demands.{Stands, NodesKept, NoNode, FetchKept}
 use Rattle.rules.proofs.Logic.{branch, or-left, or-right}
 use Rattle.rules.proofs.Words.{node-put-field, node-put-node, node-put-link, link-put-field, link-put-other, put-node-length, put-link-length}
 use Rattle.rules.proofs.Listed.{met-first}
@@ -28,14 +28,14 @@ use Rattle.rules.proofs.Accepting.{Beginning, begin-refused, begin-acce
 
 -- ---- keeping, in general
 pub kept-same : {L M C : ℕ → Type 0} (t : Tables) → NodesKept L M C t t
-kept-same t = record { link-of = λ a d. refl; mark-of = λ a d. refl; claim-of = λ a d. refl; length = refl }
+kept-same t = record { link-of = λ a d. refl; mark-of = λ a d. refl; claim-of = λ a d. refl; same-length = refl }
 
 pub kept-then : {L M C : ℕ → Type 0} {t u v : Tables} → NodesKept L M C t u → NodesKept L M C u v → NodesKept L M C t v
 kept-then f g = record {
   link-of = λ a d. g .link-of a d ∙ f .link-of a d;
   mark-of = λ a d. g .mark-of a d ∙ f .mark-of a d;
   claim-of = λ a d. g .claim-of a d ∙ f .claim-of a d;
-  length = g .length ∙ f .length;
+  same-length = g .same-length ∙ f .same-length;
 }
 
 -- more may have changed
@@ -45,43 +45,44 @@ kept-but l m c f = record {
   link-of = λ a d. f .link-of a (λ x. d (l a x));
   mark-of = λ a d. f .mark-of a (λ x. d (m a x));
   claim-of = λ a d. f .claim-of a (λ x. d (c a x));
-  length = f .length;
+  same-length = f .same-length;
 }
 
 -- ---- stores
 abbrev Just : ℕ → ℕ → Type 0
 Just a b = b ≡ a
 
-same-claim : (t u : Tables) (a : ℕ) → ((f : ℕ) → f < nodeWidth → f ≢ nextAt → f ≢ markAt → nodeWord (u .nodes) a f ≡ nodeWord (t .nodes) a f) → claimOf u a ≡ claimOf t a
+same-claim : (t u : Tables) (a : ℕ)
+    → ((f : ℕ) → f < nodeWidth → f ≢ nextAt → f ≢ markAt → nodeWord (u .nodes) a f ≡ nodeWord (t .nodes) a f) → claimOf u a ≡ claimOf t a
 same-claim t u a e = λ i. record {
   start = e startAt (omega arith) (omega arith) (omega arith) i;
   end = e endAt (omega arith) (omega arith) (omega arith) i;
   kind = e kindAt (omega arith) (omega arith) (omega arith) i;
 }
 
-link-kept : (t : Tables) (a v : ℕ) → NodesKept (Just a) Nobody Nobody t (setLink t a v)
+link-kept : (t : Tables) (a v : ℕ) → NodesKept (Just a) NoNode NoNode t (setLink t a v)
 link-kept t a v = record {
   link-of = λ b d. link-put-other (t .nodes) a b v (λ e. d (sym e));
   mark-of = λ b d. node-put-link (t .nodes) a b markAt v (omega arith) (omega arith);
   claim-of = λ b d. same-claim t (setLink t a v) b (λ f h x y. node-put-link (t .nodes) a b f v h x);
-  length = put-link-length (t .nodes) a v;
+  same-length = put-link-length (t .nodes) a v;
 }
 
-mark-kept : (t : Tables) (a v : ℕ) → NodesKept Nobody (Just a) Nobody t (setMark t a v)
+mark-kept : (t : Tables) (a v : ℕ) → NodesKept NoNode (Just a) NoNode t (setMark t a v)
 mark-kept t a v = record {
   link-of = λ b d. link-put-field (t .nodes) a b markAt v (omega arith) (omega arith);
   mark-of = λ b d. node-put-node (t .nodes) a b markAt markAt v (omega arith) (omega arith) (λ e. d (sym e));
   claim-of = λ b d. same-claim t (setMark t a v) b (λ f h x y. node-put-field (t .nodes) a b markAt f v (omega arith) h (λ e. y (sym e)));
-  length = put-node-length (t .nodes) a markAt v;
+  same-length = put-node-length (t .nodes) a markAt v;
 }
 
 -- a word of a claim
-word-kept : (t : Tables) (f a v : ℕ) → f < nodeWidth → f ≢ nextAt → f ≢ markAt → NodesKept Nobody Nobody (Just a) t (setNode f t a v)
+word-kept : (t : Tables) (f a v : ℕ) → f < nodeWidth → f ≢ nextAt → f ≢ markAt → NodesKept NoNode NoNode (Just a) t (setNode f t a v)
 word-kept t f a v h x y = record {
   link-of = λ b d. link-put-field (t .nodes) a b f v h x;
   mark-of = λ b d. node-put-field (t .nodes) a b f markAt v h (omega arith) y;
   claim-of = λ b d. same-claim t (setNode f t a v) b (λ g k x y. node-put-node (t .nodes) a b f g v h k (λ e. d (sym e)));
-  length = put-node-length (t .nodes) a f v;
+  same-length = put-node-length (t .nodes) a f v;
 }
 
 -- ---- what the seats do changes no node
@@ -90,7 +91,7 @@ seats-aside {v = v} e f = record {
   link-of = λ a d. ap (λ l. linkWord l a) e ∙ f .link-of a d;
   mark-of = λ a d. ap (λ l. nodeWord l a markAt) e ∙ f .mark-of a d;
   claim-of = λ a d. ap (λ l. claim (nodeWord l a startAt) (nodeWord l a endAt) (nodeWord l a kindAt)) e ∙ f .claim-of a d;
-  length = ap length e ∙ f .length;
+  same-length = ap length e ∙ f .same-length;
 }
 
 pub only-seats : {L M C : ℕ → Type 0} {t u : Tables} → u .nodes ≡ t .nodes → NodesKept L M C t u
@@ -107,24 +108,24 @@ abbrev pub Own : Tables → ℕ → ℕ → Type 0
 Own t s a = a ≡ own t s
 
 module _ (t : Tables) (s : ℕ) where
-  unlinking : {u : Tables} → Unlinking t s u → NodesKept (Prev t s) Nobody Nobody t u
+  unlinking : {u : Tables} → Unlinking t s u → NodesKept (Prev t s) NoNode NoNode t u
   unlinking (takes-out j) = seats-aside refl (link-kept t (prev t s) (next t (cur t s)))
   unlinking (goes-past e) = only-seats refl
 
-  linking-in : NodesKept (OwnOrPrev t s) Nobody Nobody t (linkIn t s)
+  linking-in : NodesKept (OwnOrPrev t s) NoNode NoNode t (linkIn t s)
   unfolding linkIn
   linking-in =
       kept-then
       (kept-but (λ a x. inl x) (λ a x. x) (λ a x. x) (link-kept t (own t s) (cur t s)))
       (kept-but (λ a x. inr x) (λ a x. x) (λ a x. x) (link-kept (setLink t (own t s) (cur t s)) (prev t s) (own t s)))
 
-  inserting : {u : Tables} → Inserting t s u → NodesKept (OwnOrPrev t s) Nobody Nobody t u
+  inserting : {u : Tables} → Inserting t s u → NodesKept (OwnOrPrev t s) NoNode NoNode t u
   inserting (links-in j (as-reader k)) = seats-aside refl linking-in
   inserting (links-in j (as-writer k)) = seats-aside refl linking-in
   inserting (restarts j m) = only-seats refl
   inserting (rereads j m) = only-seats refl
 
-  walking : {u : Tables} → Walking t s u → NodesKept (OwnOrPrev t s) Nobody Nobody t u
+  walking : {u : Tables} → Walking t s u → NodesKept (OwnOrPrev t s) NoNode NoNode t u
   unfolding pass
   walking (inserts f w) = inserting w
   walking (unlinks c m w) = kept-but (λ a x. inr x) (λ a x. x) (λ a x. x) (unlinking w)
@@ -132,12 +133,12 @@ module _ (t : Tables) (s : ℕ) where
   walking (waits c m f f′) = only-seats refl
 
   -- ---- phases 2 and 4: none
-  waking : {P : ℕ} {u : Tables} → Waking t s P u → NodesKept Nobody Nobody Nobody t u
+  waking : {P : ℕ} {u : Tables} → Waking t s P u → NodesKept NoNode NoNode NoNode t u
   waking (wakes m) = only-seats refl
   waking (stays m) = only-seats refl
 
   -- ---- phase 3: the link of prev, the mark of own
-  validating : {u : Tables} → Validating t s u → NodesKept (Prev t s) (Own t s) Nobody t u
+  validating : {u : Tables} → Validating t s u → NodesKept (Prev t s) (Own t s) NoNode t u
   unfolding pass hold withdraw
   validating (validates-reader k (reader-holds f)) = only-seats refl
   validating (validates-reader k (reader-unlinks c m w)) = kept-but (λ a x. x) (λ a x. absurd x) (λ a x. x) (unlinking w)
@@ -149,7 +150,7 @@ module _ (t : Tables) (s : ℕ) where
   validating (validates-writer k (withdraws d f)) = seats-aside refl (kept-but (λ a x. absurd x) (λ a x. x) (λ a x. x) (mark-kept t (own t s) 1))
 
   -- ---- release: the mark of own
-  leaving : NodesKept Nobody (Own t s) Nobody t (leave t s)
+  leaving : NodesKept NoNode (Own t s) NoNode t (leave t s)
   unfolding leave
   leaving = seats-aside refl (mark-kept t (own t s) 1)
 
@@ -204,7 +205,7 @@ kept-stands t x (suc h) a w =
     ]))
     w
 
-through-kept : (ks : List ℕ) (t : Tables) (p : ℕ) → NodesKept (λ b. (b ≡ p) ⊎ Among b ks) Nobody Nobody t (linkThrough t p ks)
+through-kept : (ks : List ℕ) (t : Tables) (p : ℕ) → NodesKept (λ b. (b ≡ p) ⊎ Among b ks) NoNode NoNode t (linkThrough t p ks)
 unfolding linkThrough
 through-kept [] t p = kept-but (λ b x. inl x) (λ b x. x) (λ b x. x) (link-kept t p 0)
 through-kept (a ∷ ks) t p =
@@ -215,7 +216,7 @@ through-kept (a ∷ ks) t p =
 abbrev HeadOrStands : Tables → ℕ → Type 0
 HeadOrStands t b = (b ≡ 0) ⊎ Stands t b
 
-taking-out : (t : Tables) → NodesKept (HeadOrStands t) Nobody Nobody t (takenOut t)
+taking-out : (t : Tables) → NodesKept (HeadOrStands t) NoNode NoNode t (takenOut t)
 unfolding takenOut kept listed
 taking-out t =
     kept-but (λ b x. elim x [ inl e ↦ inl e | inr y ↦ inr (kept-stands t b (nodeCount t) (head t) y) ]) (λ b x. x) (λ b x. x)
@@ -248,17 +249,17 @@ fetched-kept r w d = rw (fetched-own r w d) (fetching w)
 
 -- ---- the calls
 module _ (t : Tables) (s : ℕ) where
-  pub step-1-kept : phase t s ≡ 1 → NodesKept (OwnOrPrev t s) Nobody Nobody t (step t s .after)
-  step-1-kept e = step-or-same t s (NodesKept (OwnOrPrev t s) Nobody Nobody t) (kept-same t) (λ x y z. rw (by-phase-1 t s e) (walking t s (walks t s)))
+  pub step-1-kept : phase t s ≡ 1 → NodesKept (OwnOrPrev t s) NoNode NoNode t (step t s .after)
+  step-1-kept e = step-or-same t s (NodesKept (OwnOrPrev t s) NoNode NoNode t) (kept-same t) (λ x y z. rw (by-phase-1 t s e) (walking t s (walks t s)))
 
-  pub step-2-kept : phase t s ≡ 2 → NodesKept Nobody Nobody Nobody t (step t s .after)
-  step-2-kept e = step-or-same t s (NodesKept Nobody Nobody Nobody t) (kept-same t) (λ x y z. rw (by-phase-2 t s e) (waking t s (wakes-to-walk t s)))
+  pub step-2-kept : phase t s ≡ 2 → NodesKept NoNode NoNode NoNode t (step t s .after)
+  step-2-kept e = step-or-same t s (NodesKept NoNode NoNode NoNode t) (kept-same t) (λ x y z. rw (by-phase-2 t s e) (waking t s (wakes-to-walk t s)))
 
-  pub step-3-kept : phase t s ≡ 3 → NodesKept (Prev t s) (Own t s) Nobody t (step t s .after)
-  step-3-kept e = step-or-same t s (NodesKept (Prev t s) (Own t s) Nobody t) (kept-same t) (λ x y z. rw (by-phase-3 t s e) (validating t s (validates t s)))
+  pub step-3-kept : phase t s ≡ 3 → NodesKept (Prev t s) (Own t s) NoNode t (step t s .after)
+  step-3-kept e = step-or-same t s (NodesKept (Prev t s) (Own t s) NoNode t) (kept-same t) (λ x y z. rw (by-phase-3 t s e) (validating t s (validates t s)))
 
-  pub step-4-kept : phase t s ≡ 4 → NodesKept Nobody Nobody Nobody t (step t s .after)
-  step-4-kept e = step-or-same t s (NodesKept Nobody Nobody Nobody t) (kept-same t) (λ x y z. rw (by-phase-4 t s e) (waking t s (wakes-to-validate t s)))
+  pub step-4-kept : phase t s ≡ 4 → NodesKept NoNode NoNode NoNode t (step t s .after)
+  step-4-kept e = step-or-same t s (NodesKept NoNode NoNode NoNode t) (kept-same t) (λ x y z. rw (by-phase-4 t s e) (waking t s (wakes-to-validate t s)))
 
   pub step-5-kept : phase t s ≡ 5 → step t s .after ≡ t
   step-5-kept e = step-or-same t s (λ u. u ≡ t) refl (λ x y z. rw (by-phase-5 t s e))
@@ -282,9 +283,9 @@ module _ (t : Tables) (s : ℕ) where
           branch (λ (d : Done Answer). FetchKept s t (d .after)) (f .node is 0)
           (λ q. kept-same t) (λ q. fetched-kept (sound-room t s e h) w (eqb-false (f .node) 0 q))
 
-  pub release-kept : NodesKept Nobody (Own t s) Nobody t (release t s .after)
+  pub release-kept : NodesKept NoNode (Own t s) NoNode t (release t s .after)
   release-kept = released (releasing t s)
     where
-      released : {d : Done Answer} → Releasing t s d → NodesKept Nobody (Own t s) Nobody t (d .after)
+      released : {d : Done Answer} → Releasing t s d → NodesKept NoNode (Own t s) NoNode t (d .after)
       released (release-refused k r) = kept-same t
       released (release-accepted e h p) = leaving t s

@@ -33,7 +33,8 @@ data Retained (s : ℕ) (t u : Tables) : Type 0 where
   still-linked : Linked (phase u s) → own u s ≡ own t s → Retained s t u
   now-marked : mark u (own t s) ≡ 1 → Retained s t u
 
-stored-linked : {t u : Tables} {s : ℕ} {words : ℕ → ℕ} → Seated (t .seats) (u .seats) s words → Linked (words phaseAt) → words ownAt ≡ own t s → Retained s t u
+stored-linked : {t u : Tables} {s : ℕ} {words : ℕ → ℕ} → Seated (t .seats) (u .seats) s words → Linked (words phaseAt)
+    → words ownAt ≡ own t s → Retained s t u
 stored-linked {t} {u} {s} w l e = still-linked (rw (w .at-s phaseAt (omega arith)) l) (w .at-s ownAt (omega arith) ∙ e)
 
 module _ {N S : ℕ} {t : Tables} (g : Good N S t) (s : ℕ) where

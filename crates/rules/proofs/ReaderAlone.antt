@@ -5,27 +5,23 @@ use mathlib.Core.Logic.{inr}
 use native.Mathlib.Omega.{arith}
 use Rattle.rules.specs.Tables.{Tables, kindAt, phaseAt, ownAt, curAt, kind, link, phase, own, cur}
 use Rattle.rules.specs.Steps.{pass}
-use Rattle.rules.specs.Calls.{step}
 use Rattle.rules.proofs.Following.{Ends, ends-tail}
 use Rattle.rules.proofs.RuleEffects.{pass-stored, hold-stored}
 use Rattle.rules.proofs.Reasons.{reader-holds, reader-unlinks, reader-passes, reader-waits, Validating, validates-reader, validates-writer}
 use Rattle.rules.proofs.Good.{Good, room}
 use Rattle.rules.proofs.SoundReached.{Bounds}
 use Rattle.rules.proofs.Within.{Within, now, later, along-chain}
-use Rattle.rules.proofs.Alone.{AtRest, rests-holding, rests-in, after-3, unlinked}
+use Rattle.rules.proofs.Alone.{alone, AtRest, rests-holding, rests-in, after-3, unlinked}
 
 module _ {N S : ℕ} (b : Bounds N S) (s : ℕ) (s-in : s < S) where
-  abbrev next-step : Tables → Tables
-  next-step t = step t s .after
-
   record ReaderAt (t : Tables) : Type 0 where
     good : Good N S t
     in-3 : phase t s ≡ 3
     reads : kind t (own t s) ≡ 1
 
   one-step : (m k : ℕ) (t : Tables) → ReaderAt t → Ends (link t) (cur t s) k
-      → ((u : Tables) → ReaderAt u → (j : ℕ) → Ends (link u) (cur u s) j → j < k → Within next-step (AtRest s) m u)
-      → {u : Tables} → Validating t s u → Good N S u → Within next-step (AtRest s) m u
+      → ((u : Tables) → ReaderAt u → (j : ℕ) → Ends (link u) (cur u s) j → j < k → Within (alone s) (AtRest s) m u)
+      → {u : Tables} → Validating t s u → Good N S u → Within (alone s) (AtRest s) m u
   unfolding pass
   one-step m k t r e on (validates-reader x (reader-holds f)) g =
       now (rests-holding (hold-stored t s (room (r .good) s s-in) .at-s phaseAt (omega arith)))
@@ -52,8 +48,8 @@ module _ {N S : ℕ} (b : Bounds N S) (s : ℕ) (s-in : s < S) where
   one-step m k t r e on (validates-writer x w) g = absurd (x (r .reads))
 
   pub reader-rests : (m : ℕ) {t : Tables} → Good N S t → phase t s ≡ 3 → kind t (own t s) ≡ 1
-      → (k : ℕ) → Ends (link t) (cur t s) k → k ≤ m → Within next-step (AtRest s) (suc m) t
+      → (k : ℕ) → Ends (link t) (cur t s) k → k ≤ m → Within (alone s) (AtRest s) (suc m) t
   reader-rests m {t} g p x =
       along-chain {P = AtRest s} {R = ReaderAt} (λ t. cur t s)
-      (λ m k t r e on. later {k = m} (after-3 b s s-in (r .good) (Within next-step (AtRest s) m) (r .in-3) (λ u w gu. one-step m k t r e on w gu)))
+      (λ m k t r e on. later {k = m} (after-3 b s s-in (r .good) (Within (alone s) (AtRest s) m) (r .in-3) (λ u w gu. one-step m k t r e on w gu)))
       m t (record { good = g; in-3 = p; reads = x })

@@ -5,7 +5,6 @@ use mathlib.Core.Bool.{true, false}
 use mathlib.Core.Logic.{_≢_, inl, inr}
 use native.Mathlib.Omega.{arith}
 use Rattle.rules.specs.Tables.{Tables, phaseAt, kind, mark, link, phase, own, cur}
-use Rattle.rules.specs.Calls.{step}
 use Rattle.rules.proofs.Logic.{clash}
 use Rattle.rules.proofs.Deciding.{if-same}
 use Rattle.rules.proofs.Following.{Ends}
@@ -16,7 +15,7 @@ use Rattle.rules.proofs.Reasons.{Waking, wakes, stays}
 use Rattle.rules.proofs.Good.{Good, room}
 use Rattle.rules.proofs.SoundReached.{Bounds}
 use Rattle.rules.proofs.Within.{Within, now, later, more-time, and-then, then-now}
-use Rattle.rules.proofs.Alone.{AtRest, rests-holding, rests-waiting, after-2, after-4}
+use Rattle.rules.proofs.Alone.{alone, AtRest, rests-holding, rests-waiting, after-2, after-4}
 use Rattle.rules.proofs.ReaderAlone.{reader-rests}
 use Rattle.rules.proofs.WriterAlone as writing
 use Rattle.rules.proofs.WriterAlone.{ClearWay, writer-ends}
@@ -27,11 +26,8 @@ use Rattle.rules.proofs.LooseWalkAlone.{loose-ends}
 use Rattle.rules.proofs.FetchAlone.{after-6}
 
 module _ {N S : ℕ} (b : Bounds N S) (s : ℕ) (s-in : s < S) where
-  abbrev next-step : Tables → Tables
-  next-step t = step t s .after
-
   abbrev Rests : ℕ → Tables → Type 0
-  Rests k t = Within next-step (AtRest s) k t
+  Rests k t = Within (alone s) (AtRest s) k t
 
   -- at most N nodes lie ahead of cur
   chain-ahead : {t : Tables} → Good N S t → (k : ℕ) × Ends (link t) (cur t s) k × (k ≤ N)
@@ -86,26 +82,23 @@ module _ {N S : ℕ} (b : Bounds N S) (s : ℕ) (s-in : s < S) where
       (and-then (4 * N + 5) (loose-ends b s s-in N g p (c .0) (c .1) (c .2))
       (λ u d. elim d [ loose.at-rest z ↦ now z | loose.joins w ↦ from-joined-walk w ]))
 
-  -- phases 2 and 4: at rest, or one step to 1 or 3
+  -- phases 2 and 4: at rest, or one step to phase P
+  from-marked : {t : Tables} (P k : ℕ) → Good N S t → ((u : Tables) → Good N S u → phase u s ≡ P → Rests k u) → mark t (cur t s) ≡ 1
+      → (u : Tables) → Waking t s P u → Good N S u → Rests k u
+  from-marked {t} P k g on m u (wakes x) g′ = on _ g′ (phase-stored t s (room g s s-in) P .at-s phaseAt (omega arith))
+  from-marked P k g on m u (stays x) g′ = absurd (x m)
+
   from-2 : {t : Tables} → Good N S t → phase t s ≡ 2 → Rests (5 * N + 7) t
   from-2 {t} g p =
       if-same (mark t (cur t s)) 1
-      (λ m. more-time {k = suc (5 * N + 6)} (omega arith) (later {k = 5 * N + 6} (after-2 b s s-in g (Rests (5 * N + 6)) p (woken m))))
+      (λ m. more-time {k = suc (5 * N + 6)} (omega arith) (later {k = 5 * N + 6} (after-2 b s s-in g (Rests (5 * N + 6)) p (from-marked 1 (5 * N + 6) g (λ u. from-1) m))))
       (λ m. now (rests-waiting (inl p) m))
-    where
-      woken : mark t (cur t s) ≡ 1 → (u : Tables) → Waking t s 1 u → Good N S u → Rests (5 * N + 6) u
-      woken m u (wakes x) g′ = from-1 g′ (phase-stored t s (room g s s-in) 1 .at-s phaseAt (omega arith))
-      woken m u (stays x) g′ = absurd (x m)
 
   from-4 : {t : Tables} → Good N S t → phase t s ≡ 4 → Rests (3 * N + 5) t
   from-4 {t} g p =
       if-same (mark t (cur t s)) 1
-      (λ m. more-time {k = suc (3 * N + 4)} (omega arith) (later {k = 3 * N + 4} (after-4 b s s-in g (Rests (3 * N + 4)) p (woken m))))
+      (λ m. more-time {k = suc (3 * N + 4)} (omega arith) (later {k = 3 * N + 4} (after-4 b s s-in g (Rests (3 * N + 4)) p (from-marked 3 (3 * N + 4) g (λ u. from-3) m))))
       (λ m. now (rests-waiting (inr p) m))
-    where
-      woken : mark t (cur t s) ≡ 1 → (u : Tables) → Waking t s 3 u → Good N S u → Rests (3 * N + 4) u
-      woken m u (wakes x) g′ = from-3 g′ (phase-stored t s (room g s s-in) 3 .at-s phaseAt (omega arith))
-      woken m u (stays x) g′ = absurd (x m)
 
   pub comes-to-rest : {t : Tables} → Good N S t → phase t s ≢ 0 → Rests (5 * N + 7) t
   comes-to-rest {t} g z =

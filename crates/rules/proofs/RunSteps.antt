@@ -19,7 +19,8 @@ none-taken : (t : Tables) (schedule : List ℕ) (number : ℕ) → IsItsSteps t 
 unfolding afterAll
 none-taken t schedule number = record { tables-after = refl; accepted = no-more }
 
-one-taken : (t : Tables) (s : ℕ) (rest : List ℕ) (r : Done Ran) → refusalOf (step t s .answer) ≡ 0 → IsItsSteps (step t s .after) rest r → IsItsSteps t (s ∷ rest) (oneMore r)
+one-taken : (t : Tables) (s : ℕ) (rest : List ℕ) (r : Done Ran) → refusalOf (step t s .answer) ≡ 0
+    → IsItsSteps (step t s .after) rest r → IsItsSteps t (s ∷ rest) (oneMore r)
 unfolding afterAll call
 one-taken t s rest r e w = record {
   tables-after = rw (add-one (r .answer .steps)) (w .tables-after);

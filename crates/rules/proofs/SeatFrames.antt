@@ -27,10 +27,10 @@ pub sound-room : (t : Tables) (s : ℕ) → sound t ≡ true → s < seatCount t
 sound-room t s e h = let l = is-sound t e .seats-length in omega arith
 
 same : (s : ℕ) (t : Tables) → OtherSeatsKept s t t
-same s t = record { word = λ r f d h. refl; length = refl }
+same s t = record { word = λ r f d h. refl; same-length = refl }
 
 others : {t u : Tables} {s : ℕ} {words : ℕ → ℕ} → Seated (t .seats) (u .seats) s words → OtherSeatsKept s t u
-others w = record { word = w .others; length = w .long }
+others w = record { word = w .others; same-length = w .long }
 
 module _ (t : Tables) (s : ℕ) (r : Room t s) where
   unlinking : {u : Tables} → Unlinking t s u → OtherSeatsKept s t u
@@ -81,7 +81,7 @@ taking-then : (t : Tables) (s : ℕ) → Room t s → (a : ℕ) (c : Claim) → 
 taking-then t s r a c =
     let e = taken-out-seats t in
     let w = taking (takenOut t) s (rw e r) a c in
-    record { word = λ r f d h. w .word r f d h ∙ ap (λ l. seatWord l r f) e; length = w .length ∙ ap length e }
+    record { word = λ r f d h. w .word r f d h ∙ ap (λ l. seatWord l r f) e; same-length = w .same-length ∙ ap length e }
 
 fetching : (t : Tables) (s : ℕ) → Room t s → {c : Claim} {f : Fetched} → Fetching t s c f → OtherSeatsKept s t (f .after)
 fetching t s r {c} (found a e z) = taking t s r a c

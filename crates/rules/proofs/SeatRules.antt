@@ -53,7 +53,8 @@ module _ {N : ℕ} {n : Nodes} {s u : Seats} {i : ℕ} (v : Invariant N n s) whe
   -- to phase 3, at a place from which every claim that crosses this one and was ahead is ahead still
   validate-to : {Q C : ℕ} → Moved s u i 3 Q C → Linked (s .phase i) → Known (n .link) s Q → Known (n .link) s C
       → (n .kind (s .own i) ≡ 1 → 0 < C → n .start (s .own i) ≤ n .start C)
-      → ((j : ℕ) → Linked (s .phase j) → Crossing (claimAt n (s .own i)) (claimAt n (s .own j)) → Reach (n .link) (s .own j) (s .cur i) → Reach (n .link) (s .own j) C)
+      → ((j : ℕ) → Linked (s .phase j) → Crossing (claimAt n (s .own i)) (claimAt n (s .own j))
+      → Reach (n .link) (s .own j) (s .cur i) → Reach (n .link) (s .own j) C)
       → Invariant N n u
   validate-to m l kq kc f g =
       move m (both-linked l (validating refl)) v kq kc
@@ -107,9 +108,11 @@ module _ {N : ℕ} {n : Nodes} {s u : Seats} {i : ℕ} (v : Invariant N n s) whe
 
   -- to phase 5, where no claim that crosses this one is ahead
   hold-if : Moved s u i 5 0 0 → (l : Linked (s .phase i))
-      → ((j : ℕ) → j ≢ i → Linked (s .phase j) → Crossing (claimAt n (s .own i)) (claimAt n (s .own j)) → Reach (n .link) (s .own j) (s .cur i) → ⊥) → Invariant N n u
+      → ((j : ℕ) → j ≢ i → Linked (s .phase j) → Crossing (claimAt n (s .own i)) (claimAt n (s .own j))
+      → Reach (n .link) (s .own j) (s .cur i) → ⊥) → Invariant N n u
   hold-if m l f =
-      move m (both-linked l (holding refl)) v (inl refl) (inl refl) (at-rest (inl refl) (own-pos v i (linked-busy l)) (v .seats i .own-named)) (not-stuck (omega arith) (omega arith))
+      move m (both-linked l (holding refl)) v (inl refl) (inl refl)
+      (at-rest (inl refl) (own-pos v i (linked-busy l)) (v .seats i .own-named)) (not-stuck (omega arith) (omega arith))
       (λ o. absurd (not-both o l)) (λ z k c. absurd (omega arith)) (λ j d z lj x r. absurd (f j d lj x r))
 
   -- a reader at the end, or at what starts behind it

@@ -7,24 +7,22 @@ use lib.ListN.{replicate}
 use borrow.Author.Tests.{eqb-false}
 use Rattle.rules.specs.Notation.{_is_}
 use Rattle.rules.specs.Tables.{Tables, phase}
-use Rattle.rules.specs.Fetch.{Fetched}
-use Rattle.rules.specs.Answers.{Answer, Done, answered}
-use Rattle.rules.specs.Steps.{refetched}
+use Rattle.rules.specs.Answers.{Done}
 use Rattle.rules.specs.Calls.{step}
 use Rattle.rules.specs.Run.{ran, refusalOf, runSteps, run}
 use Rattle.rules.specs.Demands.{stepTimes, Settled, RunEnds, all-stepped, stopped-at-8}
 use Rattle.rules.specs.declared.Ran.{Ran}
 use Rattle.rules.proofs.Logic.{branch}
 use Rattle.rules.proofs.Shape.{sound-is}
-use Rattle.rules.proofs.Reasons.{in-1, in-2, in-3, in-4, in-6, at-rest, steps}
-use Rattle.rules.proofs.Accepting.{Stepped, step-refused, step-accepted, stepped}
-use Rattle.rules.proofs.Refusals.{NoneOr8, no-refusal, refusal-8, stepping-none-or-8, answer-accepted}
+use Rattle.rules.proofs.Refused.{step-keeps as refused-keeps}
+use Rattle.rules.proofs.Reasons.{steps}
+use Rattle.rules.proofs.Refusals.{NoneOr8, no-refusal, refusal-8, stepping-none-or-8}
 use Rattle.rules.proofs.StaysBusy.{step-stays-busy}
 use Rattle.rules.proofs.Good.{Good}
 use Rattle.rules.proofs.CallKeeps.{step-keeps}
 use Rattle.rules.proofs.SoundReached.{Bounds, good-sound}
 use Rattle.rules.proofs.Within.{Within, now, later}
-use Rattle.rules.proofs.Alone.{AtRest, accepted}
+use Rattle.rules.proofs.Alone.{alone, AtRest, accepted}
 use Rattle.rules.proofs.Causes.{rest-stays, rest-settled}
 
 pub times-good : {N S : ℕ} (k : ℕ) {t : Tables} (s : ℕ) → Good N S t → Good N S (stepTimes k t s)
@@ -39,12 +37,12 @@ module _ {N S : ℕ} (b : Bounds N S) (s : ℕ) (s-in : s < S) where
   still-at-rest zero t g r = r
   still-at-rest (suc k) t g r = rw (rest-stays b s s-in g r) (still-at-rest k t g r)
 
-  at-rest-after : (k : ℕ) (t : Tables) → Good N S t → Within (λ t. step t s .after) (AtRest s) k t → AtRest s (stepTimes k t s)
+  at-rest-after : (k : ℕ) (t : Tables) → Good N S t → Within (alone s) (AtRest s) k t → AtRest s (stepTimes k t s)
   unfolding stepTimes
   at-rest-after k t g (now r) = still-at-rest k t g r
   at-rest-after (suc k) t g (later w) = at-rest-after k (step t s .after) (step-keeps g s) w
 
-  pub settled-after : (k : ℕ) (t : Tables) → Good N S t → Within (λ t. step t s .after) (AtRest s) k t → Settled (stepTimes k t s) s
+  pub settled-after : (k : ℕ) (t : Tables) → Good N S t → Within (alone s) (AtRest s) k t → Settled (stepTimes k t s) s
   settled-after k t g w = rest-settled b s s-in (times-good k s g) (at-rest-after k t g w)
 
 -- ---- each step is accepted, or refused 8
@@ -57,24 +55,6 @@ pub step-none-or-8 : {N S : ℕ} → Bounds N S → (s : ℕ) → s < S → {t :
 step-none-or-8 b s s-in {t} g d = rw (accepted b s s-in g d) (stepping-none-or-8 (steps t s))
 
 -- ---- a run of them
--- a refused step changes nothing
-answered-accepted : (t : Tables) (s : ℕ) {u : Tables} → refusalOf (answered t s .answer) ≢ 0 → answered t s .after ≡ u
-answered-accepted t s d = absurd (d (answer-accepted t s))
-
-refetched-same : (t : Tables) (s : ℕ) (f : Fetched) → refusalOf (refetched t s f .answer) ≢ 0 → refetched t s f .after ≡ t
-unfolding refetched
-refetched-same t s f =
-    branch (λ (d : Done Answer). refusalOf (d .answer) ≢ 0 → d .after ≡ t) (f .node is 0) (λ q y. refl) (λ q y. answered-accepted (f .after) s y)
-
-refused-same : {t : Tables} {s : ℕ} {d : Done Answer} → Stepped t s d → refusalOf (d .answer) ≢ 0 → d .after ≡ t
-refused-same (step-refused k r) z = refl
-refused-same {s = s} (step-accepted e h b (in-1 {u = u} p w)) z = answered-accepted u s z
-refused-same {s = s} (step-accepted e h b (in-2 {u = u} p w)) z = answered-accepted u s z
-refused-same {s = s} (step-accepted e h b (in-3 {u = u} p w)) z = answered-accepted u s z
-refused-same {s = s} (step-accepted e h b (in-4 {u = u} p w)) z = answered-accepted u s z
-refused-same {t} {s} (step-accepted e h b (in-6 {f = f} p w)) z = refetched-same t s f z
-refused-same {t} {s} (step-accepted e h b (at-rest p q x y w)) z = refl
-
 same-times : (k : ℕ) (t : Tables) (s : ℕ) → step t s .after ≡ t → stepTimes k t s ≡ t
 unfolding stepTimes
 same-times zero t s e = refl
@@ -88,7 +68,7 @@ run-steps-alone (suc k) zero t s l = absurd (omega arith)
 run-steps-alone (suc k) (suc budget) t s l =
     branch (λ (d : Done Ran). d .after ≡ stepTimes k (step t s .after) s) (refusalOf (step t s .answer) is 0)
     (λ e. run-steps-alone k budget (step t s .after) s (omega arith))
-    (λ e. let q = refused-same (stepped t s) (eqb-false (refusalOf (step t s .answer)) 0 e) in sym (rw q (same-times k t s q)))
+    (λ e. let q = refused-keeps t s (eqb-false (refusalOf (step t s .answer)) 0 e) in sym (rw q (same-times k t s q)))
 
 pub run-alone : {N S : ℕ} → Bounds N S → {t : Tables} → Good N S t → (k budget s : ℕ) → k ≤ budget → run t (replicate k s) budget .after ≡ stepTimes k t s
 unfolding run

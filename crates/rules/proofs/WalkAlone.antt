@@ -8,7 +8,6 @@ use native.Mathlib.Omega.{arith}
 use Rattle.rules.specs.Tables.{Tables, startAt, endAt, kindAt, markAt, phaseAt, ownAt, prevAt, curAt, start, end, kind, mark, link, next, head, phase, own, prev, cur}
 use Rattle.rules.specs.Comparison.{claimOf}
 use Rattle.rules.specs.Steps.{moveTo, linkIn, pass}
-use Rattle.rules.specs.Calls.{step}
 use Rattle.rules.proofs.Deciding.{if-same}
 use Rattle.rules.proofs.Following.{Reach, here, reach-source, not-from-0, beyond, Ends, ends-tail}
 use Rattle.rules.proofs.Compared.{Precedes, apart, readers}
@@ -21,7 +20,7 @@ use Rattle.rules.proofs.Reasons.{Joined, Starting, as-reader, as-writer
 use Rattle.rules.proofs.Good.{Good, room, link-in-words}
 use Rattle.rules.proofs.SoundReached.{Bounds}
 use Rattle.rules.proofs.Within.{Within, now, later, along-chain}
-use Rattle.rules.proofs.Alone.{AtRest, rests-in, after-1, unlinked, is-not-joined}
+use Rattle.rules.proofs.Alone.{alone, AtRest, rests-in, after-1, unlinked, is-not-joined}
 use Rattle.rules.proofs.WriterAlone.{ClearWay}
 
 -- every claim that stands lies ahead of cur, or ends before own starts
@@ -39,9 +38,6 @@ pub data WalkEnds (N S s : ℕ) (known : Bool) (t : Tables) : Type 0 where
   linked : Good N S t → phase t s ≡ 3 → (known ≡ true → kind t (own t s) ≢ 1 → ClearWay s t) → WalkEnds N S s known t
 
 module _ {N S : ℕ} (b : Bounds N S) (s : ℕ) (s-in : s < S) (known : Bool) where
-  abbrev next-step : Tables → Tables
-  next-step t = step t s .after
-
   -- a writer that is linked in where it has seen all has a clear way from the head
   clear-way : {t : Tables} → WalkAt N S s known t → (cur t s ≡ 0) ⊎ Precedes (claimOf t (own t s)) (claimOf t (cur t s))
       → Good N S (moveTo (linkIn t s) s 3 0 (head (linkIn t s))) → known ≡ true → kind t (own t s) ≢ 1
@@ -84,8 +80,8 @@ module _ {N S : ℕ} (b : Bounds N S) (s : ℕ) (s-in : s < S) (known : Bool) wh
       linked g (w .at-s phaseAt (omega arith)) (λ k ko. clear-way r front g k (λ q. x (link-in-words t s (own t s) kindAt (omega arith) (omega arith) ∙ q)))
 
   one-step : (m k : ℕ) (t : Tables) → WalkAt N S s known t → Ends (link t) (cur t s) k
-      → ((u : Tables) → WalkAt N S s known u → (j : ℕ) → Ends (link u) (cur u s) j → j < k → Within next-step (WalkEnds N S s known) m u)
-      → {u : Tables} → Walking t s u → Good N S u → Within next-step (WalkEnds N S s known) m u
+      → ((u : Tables) → WalkAt N S s known u → (j : ℕ) → Ends (link u) (cur u s) j → j < k → Within (alone s) (WalkEnds N S s known) m u)
+      → {u : Tables} → Walking t s u → Good N S u → Within (alone s) (WalkEnds N S s known) m u
   unfolding pass
   one-step m k t r e on (inserts f (links-in j st)) g = now (starts r f st g)
   one-step m k t r e on (inserts f (restarts x y)) g = absurd (is-not-joined t s x (r .joined))
@@ -132,8 +128,8 @@ module _ {N S : ℕ} (b : Bounds N S) (s : ℕ) (s-in : s < S) (known : Bool) wh
       (z .0) (rw cur-is (z .1)) (omega arith)
 
   pub walk-ends : (m : ℕ) {t : Tables} → WalkAt N S s known t → (k : ℕ) → Ends (link t) (cur t s) k → k ≤ m
-      → Within next-step (WalkEnds N S s known) (suc m) t
+      → Within (alone s) (WalkEnds N S s known) (suc m) t
   walk-ends m {t} =
       along-chain {P = WalkEnds N S s known} {R = WalkAt N S s known} (λ t. cur t s)
-      (λ m k t r e on. later {k = m} (after-1 b s s-in (r .good) (Within next-step (WalkEnds N S s known) m) (r .in-1) (λ u w gu. one-step m k t r e on w gu)))
+      (λ m k t r e on. later {k = m} (after-1 b s s-in (r .good) (Within (alone s) (WalkEnds N S s known) m) (r .in-1) (λ u w gu. one-step m k t r e on w gu)))
       m t

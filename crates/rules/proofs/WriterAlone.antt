@@ -7,7 +7,6 @@ use mathlib.Core.Logic.{_≢_, inl, inr}
 use native.Mathlib.Omega.{arith}
 use Rattle.rules.specs.Tables.{Tables, startAt, endAt, kindAt, markAt, phaseAt, ownAt, curAt, start, end, kind, mark, link, phase, own, cur}
 use Rattle.rules.specs.Steps.{pass}
-use Rattle.rules.specs.Calls.{step}
 use Rattle.rules.proofs.Logic.{not-of}
 use Rattle.rules.proofs.Following.{Reach, here, there, reach-source, not-from-0, beyond, Ends, ends-tail}
 use Rattle.rules.proofs.RuleEffects.{pass-stored, hold-stored, withdraw-stored}
@@ -15,7 +14,7 @@ use Rattle.rules.proofs.Reasons.{writer-holds, writer-unlinks, writer-p
 use Rattle.rules.proofs.Good.{Good, room}
 use Rattle.rules.proofs.SoundReached.{Bounds}
 use Rattle.rules.proofs.Within.{Within, now, later, along-chain}
-use Rattle.rules.proofs.Alone.{AtRest, rests-holding, after-3, unlinked}
+use Rattle.rules.proofs.Alone.{alone, AtRest, rests-holding, after-3, unlinked}
 
 -- own lies ahead of cur, and no claim that stands between them reaches into it
 pub record ClearWay (s : ℕ) (t : Tables) : Type 0 where
@@ -28,9 +27,6 @@ pub data WriterEnds (N S s : ℕ) (known : Bool) (t : Tables) : Type 0 where
   withdrawn : known ≡ false → Good N S t → phase t s ≡ 6 → WriterEnds N S s known t
 
 module _ {N S : ℕ} (b : Bounds N S) (s : ℕ) (s-in : s < S) (known : Bool) where
-  abbrev next-step : Tables → Tables
-  next-step t = step t s .after
-
   record WriterAt (t : Tables) : Type 0 where
     good : Good N S t
     in-3 : phase t s ≡ 3
@@ -38,8 +34,8 @@ module _ {N S : ℕ} (b : Bounds N S) (s : ℕ) (s-in : s < S) (known : Bool) wh
     way : known ≡ true → ClearWay s t
 
   one-step : (m k : ℕ) (t : Tables) → WriterAt t → Ends (link t) (cur t s) k
-      → ((u : Tables) → WriterAt u → (j : ℕ) → Ends (link u) (cur u s) j → j < k → Within next-step (WriterEnds N S s known) m u)
-      → {u : Tables} → Validating t s u → Good N S u → Within next-step (WriterEnds N S s known) m u
+      → ((u : Tables) → WriterAt u → (j : ℕ) → Ends (link u) (cur u s) j → j < k → Within (alone s) (WriterEnds N S s known) m u)
+      → {u : Tables} → Validating t s u → Good N S u → Within (alone s) (WriterEnds N S s known) m u
   unfolding pass
   one-step m k t r e on (validates-reader x w) g = absurd (r .writes x)
   one-step m k t r e on (validates-writer x (writer-holds f)) g =
@@ -86,8 +82,8 @@ module _ {N S : ℕ} (b : Bounds N S) (s : ℕ) (s-in : s < S) (known : Bool) wh
       (z .0) (rw cur-is (z .1)) (omega arith)
 
   pub writer-ends : (m : ℕ) {t : Tables} → Good N S t → phase t s ≡ 3 → kind t (own t s) ≢ 1 → (known ≡ true → ClearWay s t)
-      → (k : ℕ) → Ends (link t) (cur t s) k → k ≤ m → Within next-step (WriterEnds N S s known) (suc m) t
+      → (k : ℕ) → Ends (link t) (cur t s) k → k ≤ m → Within (alone s) (WriterEnds N S s known) (suc m) t
   writer-ends m {t} g p x way =
       along-chain {P = WriterEnds N S s known} {R = WriterAt} (λ t. cur t s)
-      (λ m k t r e on. later {k = m} (after-3 b s s-in (r .good) (Within next-step (WriterEnds N S s known) m) (r .in-3) (λ u w gu. one-step m k t r e on w gu)))
+      (λ m k t r e on. later {k = m} (after-3 b s s-in (r .good) (Within (alone s) (WriterEnds N S s known) m) (r .in-3) (λ u w gu. one-step m k t r e on w gu)))
       m t (record { good = g; in-3 = p; writes = x; way = way })

@@ -47,17 +47,17 @@ seatOf (releaseCall s) = s
 -- u has every word of every seat but s from t
 pub record OtherSeatsKept (s : ℕ) (t u : Tables) : Type 0 where
   pub word : (r f : ℕ) → r ≢ s → f < seatWidth → seatWord (u .seats) r f ≡ seatWord (t .seats) r f
-  pub length : length (u .seats) ≡ length (t .seats)
+  pub same-length : length (u .seats) ≡ length (t .seats)
 
 -- u has every word of the nodes from t, but for the links of these nodes (0: the head), the marks of these, the claims of these
 pub record NodesKept (links marks claims : ℕ → Type 0) (t u : Tables) : Type 0 where
   pub link-of : (a : ℕ) → (links a → ⊥) → link u a ≡ link t a
   pub mark-of : (a : ℕ) → (marks a → ⊥) → mark u a ≡ mark t a
   pub claim-of : (a : ℕ) → (claims a → ⊥) → claimOf u a ≡ claimOf t a
-  pub length : length (u .nodes) ≡ length (t .nodes)
+  pub same-length : length (u .nodes) ≡ length (t .nodes)
 
-abbrev pub Nobody : ℕ → Type 0
-Nobody a = ⊥
+abbrev pub NoNode : ℕ → Type 0
+NoNode a = ⊥
 
 -- of a fetch for seat s: the node taken, which is then the seat's own; and the links of the head and of the claims that stand, since
 -- marked nodes may have been taken out first
