@@ -1,7 +1,8 @@
 // The public calls for C and Rust to link: over numbers and slices alone, each answer encoded as one number. A slice crosses as its address
 // and its length.
 ghost use mathlib.Core.Path.{_≡_};
-ghost use Prim.Native.Nat.{_*_, _+_};
+ghost use Prim.Native.Nat.{_+_};
+ghost use lib.ListN.{take, drop};
 ghost use Rattle.rules.specs.Tables.{tables};
 ghost use Rattle.rules.specs.Comparison.{claim};
 ghost use Rattle.rules.specs.Answers.{done};
@@ -10,26 +11,28 @@ ghost use Rattle.rules.specs.Calls as call;
 ghost use Rattle.rules.specs.FreeCount.{freeCount};
 ghost use Rattle.rules.specs.Run as running;
 ghost use Rattle.rules.specs.Board.{boardNumbers};
-ghost use Rattle.boundary.specs.Encoded.{encode, encodeCount, encodeRan, encoded};
-use rules::Reply;
-use rules::CountReply;
+ghost use Rattle.rules.specs.Play.{play as Play·play};
+ghost use Rattle.boundary.specs.Encoded.{encode, encodeCount, encodeRan, encoded, encodedRun, told, tell};
 use rules::BoardReply;
+use rules::CountReply;
 use rules::Ran;
+use rules::Reply;
 
 // ---- answers as numbers
 
 fn number_of(reply: Reply) -> u64
     ensures { λ r. ⌜ r ≡ encode (means reply) ⌝ }
 {
-    match reply {
-        Reply::Refused(number) => number as u64,
-        Reply::Node(n) => 4294967296 + n as u64,
-        Reply::Out => 8589934592,
-        Reply::On => 12884901888,
-        Reply::Wait(n) => 17179869184 + n as u64,
-        Reply::Held => 21474836480,
-        Reply::Back => 25769803776,
-    }
+    let code = replies::code_of(reply);
+    let number = replies::number_of(reply);
+    4294967296 * code as u64 + number as u64
+}
+
+// kept apart, so that its number is a parameter
+fn accepted(n: u32) -> u64
+    ensures { λ r. ⌜ r ≡ 4294967296 + n ⌝ }
+{
+    4294967296 + n as u64
 }
 
 fn number_of_count(reply: CountReply) -> u64
@@ -37,7 +40,7 @@ fn number_of_count(reply: CountReply) -> u64
 {
     match reply {
         CountReply::Refused(number) => number as u64,
-        CountReply::Count(n) => 4294967296 + n as u64,
+        CountReply::Count(n) => accepted(n),
     }
 }
 
@@ -55,7 +58,8 @@ fn number_of_run(ran: Ran) -> u64
 pub extern "C" fn soodhiqune_clear(nodes: &mut [u32], seats: &mut [u32]) -> u64
     ensures { λ r. ⌜ done r (tables (now (nodes .exit)) (now (seats .exit))) ≡ call.clear (tables (now (nodes .entry)) (now (seats .entry))) ⌝ }
 {
-    claims::clear(nodes, seats) as u64
+    let number = claims::clear(nodes, seats);
+    number as u64
 }
 
 #[no_mangle]
@@ -95,4 +99,45 @@ pub extern "C" fn soodhiqune_free_count(nodes: &[u32], seats: &[u32]) -> u64
 {
     let reply = claims::free_count(nodes, seats);
     number_of_count(reply)
+}
+
+#[no_mangle]
+pub extern "C" fn soodhiqune_run(
+    nodes: &mut [u32],
+    seats: &mut [u32],
+    schedule: &[u32],
+    budget: u32,
+) -> u64
+    ensures { λ r. ⌜ done r (tables (now (nodes .exit)) (now (seats .exit))) ≡ encodedRun (running.run (tables (now (nodes .entry)) (now (seats .entry))) (now (schedule .entry)) budget) ⌝ }
+{
+    let ran = run::run(nodes, seats, schedule, budget);
+    number_of_run(ran)
+}
+
+#[no_mangle]
+pub extern "C" fn soodhiqune_board(
+    nodes: &[u32],
+    seats: &[u32],
+    rows: &mut [u32],
+    covered: &mut u64,
+) -> u64
+    ensures { λ r. ⌜ told r (now (covered .exit)) (now (rows .exit)) ≡ tell (now (covered .entry)) (boardNumbers (tables (now (nodes .entry)) (now (seats .entry))) (now (rows .entry))) ⌝ }
+{
+    let reply = board::board(nodes, seats, rows);
+    match reply {
+        BoardReply::Rows(count, frames) => {
+            *covered = frames;
+            accepted(count)
+        }
+        BoardReply::Refused(number) => number as u64,
+    }
+}
+
+// The bytes printed for a script, at most 26,986 of the 32,768 lent; their number.
+#[no_mangle]
+pub extern "C" fn soodhiqune_play(script: &[u8], out: &mut [u8; 32768]) -> u64
+    ensures { λ r. ⌜ take r (now (out .exit)) ≡ Play·play (now (script .entry)) ⌝ }
+    ensures { λ r. ⌜ drop r (now (out .exit)) ≡ drop r (now (out .entry)) ⌝ }
+{
+    playing::play(script, out) as u64
 }

@@ -12,7 +12,7 @@ use Rattle.rules.specs.Board.{rowOf, rowsBelow, holders, coveredBy}
 use Rattle.rules.specs.Play.{rowText, rowsText}
 use Rattle.rules.specs.declared.Row.{Row}
 use Rattle.text.specs.Page.{Page, puts}
-use Rattle.text.specs.Replies.{row}
+use Rattle.text.specs.Lines.{row}
 use Rattle.text.proofs.Pages.{joined}
 use Rattle.playing.specs.Played.{heldBy}
 

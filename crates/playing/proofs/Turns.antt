@@ -19,9 +19,10 @@ use Rattle.rules.specs.declared.Reply.{Reply}
 use Rattle.rules.specs.declared.Script.{Script}
 use Rattle.script.specs.Bounded.{Bounded}
 use Rattle.text.specs.Page.{Page, page, puts}
-use Rattle.text.specs.Replies.{codeOf, numberOf, answerBy, answerLine}
+use Rattle.replies.specs.Codes.{codeOf, numberOf, answerBy}
+use Rattle.text.specs.Lines.{answerLine}
 use Rattle.text.proofs.Pages.{puts-append}
-use Rattle.text.proofs.Lines.{answer-by-means}
+use Rattle.replies.proofs.Codes.{answer-by-means}
 use Rattle.playing.specs.Played.{Played, played, playFrom}
 
 -- ---- the call of a line: one law for each way through make_call

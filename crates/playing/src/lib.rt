@@ -12,7 +12,7 @@ ghost use Rattle.rules.specs.Play.{call, callOf, callsOf, numbersText, listText
 ghost use Rattle.rules.specs.Play.{play as Play·play};
 ghost use Rattle.script.specs.Bounded.{Bounded};
 ghost use Rattle.text.specs.Page.{page, puts};
-ghost use Rattle.text.specs.Replies.{answerBy};
+ghost use Rattle.replies.specs.Codes.{answerBy};
 ghost use Rattle.playing.specs.Played.{played, playFrom, playedText, heldBy};
 use rules::Line;
 use rules::Reply;
@@ -43,8 +43,8 @@ fn say_call(nodes: &mut [u32], seats: &mut [u32], line: Line) -> Said
 {
     let reply = make_call(nodes, seats, line);
     Said {
-        code: text::code_of(reply),
-        number: text::number_of(reply),
+        code: replies::code_of(reply),
+        number: replies::number_of(reply),
     }
 }
 

@@ -1,4 +1,4 @@
--- Laws of the lines: a reply's code and number give back what it means, one law for each way through put_answer, and how long lines are.
+-- Laws of the lines: one for each way through put_answer, and how long lines are.
 use Prim.Native.Nat.{ℕ, _+_, _<_, _≤_}
 use native.Mathlib.Omega.{arith}
 use mathlib.Core.List.{List, _++_}
@@ -7,33 +7,21 @@ use lib.ListN.{length, length-append}
 use borrow.Author.Tests.{ne-eqb}
 use Rattle.rules.specs.Notation.{_is_}
 use Rattle.rules.specs.Answers.{Answer}
-use Rattle.rules.specs.Means.{means}
 use Rattle.rules.specs.Play.{ascii, decimal, answerText, rowText}
-use Rattle.rules.specs.declared.Reply.{Reply}
-use Rattle.rules.specs.declared.Reply.the-variants.{Node, Out, On, Wait, Held, Back, Refused}
 use Rattle.rules.proofs.Logic.{branch}
 use Rattle.text.specs.Page.{Page, page, puts}
-use Rattle.text.specs.Replies.{codeOf, numberOf, answerBy, answerLine, row}
+use Rattle.replies.specs.Codes.{answerBy}
+use Rattle.text.specs.Lines.{answerLine, row}
 use Rattle.text.proofs.Pages.{reached}
 use Rattle.text.proofs.Decimals.{decimal-length}
-
-pub answer-by-means : (r : Reply) → answerBy (codeOf r) (numberOf r) ≡ means r
-unfolding answerBy
-answer-by-means (Node n) = refl
-answer-by-means Out = refl
-answer-by-means On = refl
-answer-by-means (Wait n) = refl
-answer-by-means Held = refl
-answer-by-means Back = refl
-answer-by-means (Refused number) = refl
 
 -- ---- the ways through put_answer: a code that is matched, and any other
 pub answer-by : (p q : Page) (code key n : ℕ) → code ≡ key → q ≡ puts p (answerText (answerBy key n)) → q ≡ puts p (answerText (answerBy code n))
 answer-by p q code key n e h = rw e h
 
-pub answer-other : (p q : Page) (code n : ℕ) → (code ≡ 0 → ⊥) → (code ≡ 1 → ⊥) → (code ≡ 2 → ⊥) → (code ≡ 3 → ⊥) → (code ≡ 4 → ⊥) → (code ≡ 5 → ⊥) → q ≡ puts p (ascii "no " ++ decimal n) → q ≡ puts p (answerText (answerBy code n))
+pub answer-other : (p q : Page) (code n : ℕ) → (code ≡ 1 → ⊥) → (code ≡ 2 → ⊥) → (code ≡ 3 → ⊥) → (code ≡ 4 → ⊥) → (code ≡ 5 → ⊥) → (code ≡ 6 → ⊥) → q ≡ puts p (ascii "no " ++ decimal n) → q ≡ puts p (answerText (answerBy code n))
 unfolding answerBy answerText
-answer-other p q code n a b c d e f h = rw (ne-eqb code 0 a, ne-eqb code 1 b, ne-eqb code 2 c, ne-eqb code 3 d, ne-eqb code 4 e, ne-eqb code 5 f) h
+answer-other p q code n a b c d e f h = rw (ne-eqb code 1 a, ne-eqb code 2 b, ne-eqb code 3 c, ne-eqb code 4 d, ne-eqb code 5 e, ne-eqb code 6 f) h
 
 -- ---- how long the lines are: a number below 2 to the 32 has at most 10 digits, one below 2 to the 64 at most 20
 named-length : (word : List ℕ) (n : ℕ) → length word ≤ 5 → n ≤ 4294967295 → length (word ++ decimal n) ≤ 15
@@ -45,12 +33,12 @@ Short answer = length (answerText answer) ≤ 15
 answer-length : (code n : ℕ) → n ≤ 4294967295 → Short (answerBy code n)
 unfolding answerBy answerText
 answer-length code n h =
-    branch Short (code is 0) (λ e. named-length (ascii "node ") n (omega arith) h)
-    (λ e. branch Short (code is 1) (λ e. omega arith)
+    branch Short (code is 1) (λ e. named-length (ascii "node ") n (omega arith) h)
     (λ e. branch Short (code is 2) (λ e. omega arith)
-    (λ e. branch Short (code is 3) (λ e. named-length (ascii "wait ") n (omega arith) h)
-    (λ e. branch Short (code is 4) (λ e. omega arith)
-    (λ e. branch Short (code is 5) (λ e. omega arith) (λ e. named-length (ascii "no ") n (omega arith) h))))))
+    (λ e. branch Short (code is 3) (λ e. omega arith)
+    (λ e. branch Short (code is 4) (λ e. named-length (ascii "wait ") n (omega arith) h)
+    (λ e. branch Short (code is 5) (λ e. omega arith)
+    (λ e. branch Short (code is 6) (λ e. omega arith) (λ e. named-length (ascii "no ") n (omega arith) h))))))
 
 answer-line-length : (number code n : ℕ) → number < 10000 → n ≤ 4294967295 → length (answerLine number (answerBy code n)) ≤ 21
 unfolding answerLine

@@ -3,8 +3,8 @@ ghost use mathlib.Core.Path.{_≡_};
 ghost use mathlib.Core.List.{[], _∷_, _++_};
 ghost use Rattle.rules.specs.Play.{ascii, decimal, answerText, rowText};
 ghost use Rattle.text.specs.Page.{page, puts};
-ghost use Rattle.text.specs.Replies.{codeOf, numberOf, answerBy, answerLine, row};
-use rules::Reply;
+ghost use Rattle.replies.specs.Codes.{answerBy};
+ghost use Rattle.text.specs.Lines.{answerLine, row};
 
 pub fn put_byte(out: &mut [u8], at: usize, b: u8) -> usize
     ensures { λ r. ⌜ page (now (out .exit)) r ≡ puts (page (now (out .entry)) at) (b ∷ []) ⌝ }
@@ -75,44 +75,16 @@ pub fn put_row(out: &mut [u8], at: usize, seat: u32, first: u32, end: u32, kind:
 }
 
 // A reply as a code and a number, which the printers take in its place.
-pub fn code_of(reply: Reply) -> u32
-    ensures { λ r. ⌜ r ≡ codeOf reply ⌝ }
-{
-    match reply {
-        Reply::Node(_) => 0,
-        Reply::Out => 1,
-        Reply::On => 2,
-        Reply::Wait(_) => 3,
-        Reply::Held => 4,
-        Reply::Back => 5,
-        Reply::Refused(_) => 6,
-    }
-}
-
-pub fn number_of(reply: Reply) -> u32
-    ensures { λ r. ⌜ r ≡ numberOf reply ⌝ }
-{
-    match reply {
-        Reply::Node(n) => n,
-        Reply::Out => 0,
-        Reply::On => 0,
-        Reply::Wait(n) => n,
-        Reply::Held => 0,
-        Reply::Back => 0,
-        Reply::Refused(number) => number,
-    }
-}
-
 fn put_answer(out: &mut [u8], at: usize, code: u32, n: u32) -> usize
     ensures { λ r. ⌜ page (now (out .exit)) r ≡ puts (page (now (out .entry)) at) (answerText (answerBy code n)) ⌝ }
 {
     match code {
-        0 => put_named(out, at, b"node ", n as u64),
-        1 => put_text(out, at, b"out"),
-        2 => put_text(out, at, b"on"),
-        3 => put_named(out, at, b"wait ", n as u64),
-        4 => put_text(out, at, b"held"),
-        5 => put_text(out, at, b"back"),
+        1 => put_named(out, at, b"node ", n as u64),
+        2 => put_text(out, at, b"out"),
+        3 => put_text(out, at, b"on"),
+        4 => put_named(out, at, b"wait ", n as u64),
+        5 => put_text(out, at, b"held"),
+        6 => put_text(out, at, b"back"),
         _ => put_named(out, at, b"no ", n as u64),
     }
 }

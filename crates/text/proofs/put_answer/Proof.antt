@@ -1,6 +1,6 @@
 -- `text::put_answer` meets its contract.
 use Rattle.text.proofs.Lines.{answer-by, answer-other}
-use Rattle.text.specs.Replies.{answerBy}
+use Rattle.replies.specs.Codes.{answerBy}
 use Rattle.rules.specs.Play.{answerText}
 use borrow.Author.Needs.{needs}
 use Rattle.text.proofs.put_answer.Statement.{statement}

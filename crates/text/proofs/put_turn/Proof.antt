@@ -1,5 +1,5 @@
 -- `text::put_turn` meets its contract: its four calls put four texts, one after another.
-use Rattle.text.specs.Replies.{answerLine}
+use Rattle.text.specs.Lines.{answerLine}
 use Rattle.text.proofs.Pages.{joined}
 use borrow.Author.Needs.{needs}
 use Rattle.text.proofs.put_turn.Statement.{statement}
