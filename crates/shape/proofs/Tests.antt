@@ -2,32 +2,88 @@
 use mathlib.Core.Path.{_≡_, refl, sym, ap, _∙_}
 use mathlib.Core.Bool.{Bool, true, false, not, _&&_, _||_}
 use mathlib.Core.List.{List, []}
-use mathlib.Core.Logic.{_≢_}
+use mathlib.Core.Logic.{_≢_, _⊎_, inl, inr}
 use Prim.Native.Nat.{ℕ, zero, suc, _+_, _-_, _*_, _≤_, _<_}
 use native.Mathlib.Omega.{arith}
 use native.Mathlib.Numerals.{add-one}
 use lib.Dec.{eqb, leb, ltb}
 use lib.ListN.{length}
-use borrow.Author.Tests.{ne-eqb, leb-true}
+use borrow.Author.Tests.{not-true, not-false, eq-eqb, ne-eqb, eqb-true, le-leb, lt-leb, leb-true}
 use Rattle.rules.specs.Notation.{_is_, _≤?_, _<?_, all}
 use Rattle.rules.specs.Tables.{Tables, tables, beforeNodes, nodeWidth, seatWidth, nodeWord, linkWord, seatWord, nodeCountOf, seatCountOf, startAt, endAt, kindAt, markAt, phaseAt, ownAt, prevAt, curAt}
 use Rattle.rules.specs.Shape.{nodesFit, seatsFit, lengthsFit, isKind, zeroNode, claimNode, names, nodeSound, isPhase, idleOrOwning, restingAtZero, waitingAtCur, seatSound, endsWithin, nodesSound, seatsSound, sound}
-use Rattle.rules.proofs.Logic.{and-left, and-right, all3, both, all-of, all-at, all-fails}
-use Rattle.shape.specs.Words.{phaseSound}
+use Rattle.rules.proofs.Logic.{and-right, all3, both, all-at, all-fails}
+use Rattle.rules.proofs.Shape.{named, name-of, name-small}
+use Rattle.shape.specs.Words.{busySound}
 
 pub lengths-is : (l t : List ℕ) (u v : Bool) → u ≡ nodesFit (tables l []) → v ≡ seatsFit (tables [] t) → (u && v) ≡ lengthsFit (tables l t)
 unfolding lengthsFit nodesFit seatsFit
 lengths-is l t u v p q = rw (p, q)
 
-pub names-is : (l : List ℕ) (n a k : ℕ) (b : Bool) → b ≡ isKind k → k ≡ nodeWord l a kindAt → n ≡ nodeCountOf l → (eqb a 0 || (leb a n && b)) ≡ names (tables l []) a
-unfolding names
-names-is l n a k b p q e = rw (p, q, e)
+-- ---- a name
+module _ (l : List ℕ) (n a : ℕ) (isCount : n ≡ nodeCountOf l) where
+  pub names-zero : a ≡ 0 → true ≡ names (tables l []) a
+  unfolding names
+  names-zero e = rw (eq-eqb a 0 e)
 
-pub node-is : (l : List ℕ) (n a x y k next m : ℕ) (u v : Bool) → v ≡ names (tables l []) next → u ≡ isKind k → m ≡ nodeWord l a markAt → next ≡ linkWord l a
-    → k ≡ nodeWord l a kindAt → y ≡ nodeWord l a endAt → x ≡ nodeWord l a startAt → n ≡ nodeCountOf l
-    → (((eqb x 0 && eqb y 0 && eqb k 0 && eqb next 0 && eqb m 0) || (u && ltb x y && leb next n && leb m 1)) && v) ≡ nodeSound (tables l []) a
-unfolding nodeSound zeroNode claimNode
-node-is l n a x y k next m u v pv pu pm pn pk py px e = rw (pv, pu, pm, pn, pk, py, px, e)
+  pub names-past : n < a → a ≢ 0 → false ≡ names (tables l []) a
+  unfolding names
+  names-past h d = rw (ne-eqb a 0 d, ← isCount, lt-leb a n h)
+
+  pub names-kind : (k : ℕ) (b : Bool) → b ≡ isKind k → k ≡ nodeWord l a kindAt → a ≤ n → a ≢ 0 → b ≡ names (tables l []) a
+  unfolding names
+  names-kind k b p q h d = rw (ne-eqb a 0 d, ← isCount, le-leb a n h, ← q) p
+
+named-small : (l : List ℕ) (a : ℕ) → names (tables l []) a ≡ true → leb a (nodeCountOf l) ≡ true
+named-small l a e = le-leb a (nodeCountOf l) (name-small (tables l []) a (named (tables l []) a e))
+
+-- ---- a node: of kind 0, or a claim. What is named is at most N, so that a claim's next is not held to N again
+zero-case : (a b c d z : Bool) → (c ≡ true → z ≡ true) → (a && b && c && d) ≡ ((a && b && true && c && d || false) && z)
+zero-case true true true true z f = sym (f refl)
+zero-case true true true false z f = refl
+zero-case true true false d z f = refl
+zero-case true false c d z f = refl
+zero-case false b c d z f = refl
+
+claim-case : (u v x y z : Bool) → (z ≡ true → x ≡ true) → (u && v && y && z) ≡ ((u && v && x && y) && z)
+claim-case true true true y z f = refl
+claim-case true true false true true f = sym (f refl)
+claim-case true true false true false f = refl
+claim-case true true false false z f = refl
+claim-case true false x y z f = refl
+claim-case false v x y z f = refl
+
+no-zero : (a b c d : Bool) → (a && b && false && c && d) ≡ false
+no-zero true true c d = refl
+no-zero true false c d = refl
+no-zero false b c d = refl
+
+module _ (l : List ℕ) (a x y k next m : ℕ) (isMark : m ≡ nodeWord l a markAt) (isNext : next ≡ linkWord l a) (isKindOf : k ≡ nodeWord l a kindAt)
+    (isEnd : y ≡ nodeWord l a endAt) (isStart : x ≡ nodeWord l a startAt) where
+  pub node-zero : k ≡ 0 → (eqb x 0 && eqb y 0 && eqb next 0 && eqb m 0) ≡ nodeSound (tables l []) a
+  unfolding nodeSound zeroNode claimNode isKind
+  node-zero e =
+      let q : nodeWord l a kindAt ≡ 0 = sym isKindOf ∙ e in
+      rw (isMark, isNext, isEnd, isStart, q)
+      (zero-case (eqb (nodeWord l a startAt) 0) (eqb (nodeWord l a endAt) 0) (eqb (linkWord l a) 0) (eqb (nodeWord l a markAt) 0) (names (tables l []) (linkWord l a))
+      (λ z. sym (names-zero l (nodeCountOf l) (linkWord l a) refl (eqb-true (linkWord l a) 0 z))))
+
+  pub node-claim : (u v : Bool) → v ≡ names (tables l []) next → u ≡ isKind k → k ≢ 0 → (u && ltb x y && leb m 1 && v) ≡ nodeSound (tables l []) a
+  unfolding nodeSound zeroNode claimNode
+  node-claim u v p q d =
+      rw (
+        q,
+        p,
+        isMark,
+        isNext,
+        isKindOf,
+        isEnd,
+        isStart,
+        ne-eqb (nodeWord l a kindAt) 0 (λ e. d (isKindOf ∙ e)),
+        no-zero (eqb (nodeWord l a startAt) 0) (eqb (nodeWord l a endAt) 0) (eqb (linkWord l a) 0) (eqb (nodeWord l a markAt) 0),
+      )
+      (claim-case (isKind (nodeWord l a kindAt)) (ltb (nodeWord l a startAt) (nodeWord l a endAt)) (leb (linkWord l a) (nodeCountOf l)) (leb (nodeWord l a markAt) 1)
+      (names (tables l []) (linkWord l a)) (named-small l (linkWord l a)))
 
 -- ---- every node
 unfoldable pub nodesBelow : List ℕ → ℕ → Bool
@@ -49,11 +105,32 @@ pub nodes-all : (l : List ℕ) (n i : ℕ) → nodesBelow l i ≡ true → n ≤
 unfolding nodesBelow nodesSound
 nodes-all l n i h a b e = let q : i ≡ nodeCountOf l = omega arith in rw (← q, h)
 
--- ---- a seat, and every seat
-pub seat-is : (l t : List ℕ) (s p o v c : ℕ) (w x y z : Bool) → z ≡ names (tables l []) c → y ≡ names (tables l []) v → x ≡ names (tables l []) o → w ≡ phaseSound p o v c
-    → c ≡ seatWord t s curAt → v ≡ seatWord t s prevAt → o ≡ seatWord t s ownAt → p ≡ seatWord t s phaseAt → (w && x && y && z) ≡ seatSound (tables l t) s
-unfolding seatSound isPhase idleOrOwning restingAtZero waitingAtCur names
-seat-is l t s p o v c w x y z pz py px pw pc pv po pp = rw (pz, py, px, pw, pc, pv, po, pp)
+-- ---- a seat, idle or busy, and every seat
+idle-case : (a b c f g h : Bool) → (a ≡ true → f ≡ true) → (b ≡ true → g ≡ true) → (c ≡ true → h ≡ true)
+    → (a && b && c) ≡ ((a && b && c || false) && true && true && f && g && h)
+idle-case true true true f g h p q r = rw (p refl, q refl, r refl)
+idle-case true true false f g h p q r = refl
+idle-case true false c f g h p q r = refl
+idle-case false b c f g h p q r = refl
+
+module _ (l t : List ℕ) (s p o v c : ℕ) (isCur : c ≡ seatWord t s curAt) (isPrev : v ≡ seatWord t s prevAt) (isOwn : o ≡ seatWord t s ownAt) (isPhaseOf : p ≡ seatWord t s phaseAt) where
+  zero-named : (a : ℕ) → eqb a 0 ≡ true → names (tables l t) a ≡ true
+  zero-named a z = name-of (tables l t) a (inl (eqb-true a 0 z))
+
+  pub seat-idle : p ≡ 0 → (eqb o 0 && eqb v 0 && eqb c 0) ≡ seatSound (tables l t) s
+  unfolding seatSound isPhase idleOrOwning restingAtZero waitingAtCur
+  seat-idle e =
+      let q : seatWord t s phaseAt ≡ 0 = sym isPhaseOf ∙ e in
+      rw (isCur, isPrev, isOwn, q)
+      (idle-case (eqb (seatWord t s ownAt) 0) (eqb (seatWord t s prevAt) 0) (eqb (seatWord t s curAt) 0)
+      (names (tables l t) (seatWord t s ownAt)) (names (tables l t) (seatWord t s prevAt)) (names (tables l t) (seatWord t s curAt))
+      (zero-named (seatWord t s ownAt)) (zero-named (seatWord t s prevAt)) (zero-named (seatWord t s curAt)))
+
+  pub seat-busy : (w x y z : Bool) → z ≡ names (tables l []) c → y ≡ names (tables l []) v → x ≡ names (tables l []) o → w ≡ busySound p o v c → p ≢ 0
+      → (w && x && y && z) ≡ seatSound (tables l t) s
+  unfolding seatSound isPhase idleOrOwning restingAtZero waitingAtCur names
+  seat-busy w x y z pz py px pw d =
+      rw (pz, py, px, pw, isCur, isPrev, isOwn, isPhaseOf, ne-eqb (seatWord t s phaseAt) 0 (λ e. d (isPhaseOf ∙ e)))
 
 pub seats-none : (l t : List ℕ) → all 0 (seatSound (tables l t)) ≡ true
 unfolding all
@@ -103,11 +180,42 @@ nodes-alone : (l t : List ℕ) → nodesSound (tables l []) ≡ nodesSound (tabl
 unfolding nodesSound nodeSound zeroNode claimNode names
 nodes-alone l t = refl
 
+-- each next of sound nodes is at most N
+pub next-small : (l : List ℕ) (n a x : ℕ) → x ≡ linkWord l a → nodesSound (tables l []) ≡ true → n ≡ nodeCountOf l → a ≢ 0 → a ≤ n → x ≤ n
+unfolding nodesSound nodeSound
+next-small l n zero x e s c d h = absurd (d refl)
+next-small l n (suc m) x e s c d h =
+    let w = rw (add-one m) at (all-at (nodeCountOf l) m (λ m. nodeSound (tables l []) (m + 1)) s (omega arith)) in
+    let v = and-right (zeroNode (tables l []) (suc m) || claimNode (tables l []) (suc m)) (names (tables l []) (linkWord l (suc m))) w in
+    rw (e, c) (name-small (tables l []) (linkWord l (suc m)) (named (tables l []) (linkWord l (suc m)) v))
+
+pub from-small : (l : List ℕ) (n a : ℕ) → n ≡ nodeCountOf l → names (tables l []) a ≡ true → a ≤ n
+from-small l n a c e = rw c (name-small (tables l []) a (named (tables l []) a e))
+
 -- ---- the whole
-pub words-is : (l t : List ℕ) (n h : ℕ) (w x y z : Bool) → z ≡ endsWithin n (tables l []) h → y ≡ seatsSound (tables l t) → x ≡ names (tables l []) h → w ≡ nodesSound (tables l [])
-    → h ≡ linkWord l 0 → n ≡ nodeCountOf l → lengthsFit (tables l t) ≡ true → (w && x && y && z) ≡ sound (tables l t)
-unfolding sound names
-words-is l t n h w x y z pz py px pw ph pn f = rw (pz, py, px, pw, ph, pn, f, ends-alone (nodeCountOf l) l t (linkWord l 0), nodes-alone l t)
+module _ (l t : List ℕ) (fit : lengthsFit (tables l t) ≡ true) where
+  pub nodes-not : (b : Bool) → b ≡ nodesSound (tables l []) → not b ≡ true → false ≡ sound (tables l t)
+  unfolding sound
+  nodes-not b p e = rw (fit, ← nodes-alone l t, sym p ∙ not-true b e)
+
+  module _ (b : Bool) (isNodes : b ≡ nodesSound (tables l [])) (some : not b ≡ false) where
+    nodes-are : nodesSound (tables l t) ≡ true
+    nodes-are = sym (nodes-alone l t) ∙ sym isNodes ∙ not-false b some
+
+    module _ (h : ℕ) (isHead : h ≡ linkWord l 0) where
+      pub head-not : (c : Bool) → c ≡ names (tables l []) h → not c ≡ true → false ≡ sound (tables l t)
+      unfolding sound names
+      head-not c p e = rw (fit, nodes-are, ← isHead, sym p ∙ not-true c e)
+
+      module _ (c : Bool) (isNamed : c ≡ names (tables l []) h) (found : not c ≡ false) where
+        pub seats-not : (d : Bool) → d ≡ seatsSound (tables l t) → not d ≡ true → false ≡ sound (tables l t)
+        unfolding sound names
+        seats-not d p e = rw (fit, nodes-are, ← isHead, sym isNamed ∙ not-false c found, sym p ∙ not-true d e)
+
+        pub words-are : (d r : Bool) (n : ℕ) → r ≡ endsWithin n (tables l []) h → d ≡ seatsSound (tables l t) → not d ≡ false → n ≡ nodeCountOf l → r ≡ sound (tables l t)
+        unfolding sound names
+        words-are d r n q p e k =
+            rw (fit, nodes-are, ← isHead, sym isNamed ∙ not-false c found, sym p ∙ not-false d e, ← ends-alone (nodeCountOf l) l t h, ← k) q
 
 pub sound-not : (l t : List ℕ) (b : Bool) → b ≡ lengthsFit (tables l t) → b ≡ false → false ≡ sound (tables l t)
 unfolding sound
@@ -134,3 +242,6 @@ few-seats l t n e f =
 -- what a caller knows after the test
 pub now-sound : (l t : List ℕ) (b : Bool) → b ≡ sound (tables l t) → b ≡ true → sound (tables l t) ≡ true
 now-sound l t b p e = sym p ∙ e
+
+pub told : (b x : Bool) → b ≡ x → not b ≡ false → x ≡ true
+told b x p e = sym p ∙ not-false b e

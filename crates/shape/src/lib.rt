@@ -1,11 +1,11 @@
-// The test for damage: sound shape, in one pass over each table. Every part is total, so that no part asks for another.
+// The test for damage: sound shape, in one pass over each table. Lengths are tested first, so that every word of a node or seat is there.
 ghost use mathlib.Core.Path.{_≡_};
 ghost use mathlib.Core.Bool.{true};
 ghost use mathlib.Core.List.{[]};
-ghost use Prim.Native.Nat.{_≤_};
+ghost use Prim.Native.Nat.{_<_, _≤_};
 ghost use Rattle.rules.specs.Tables.{tables, nodeCountOf, seatCountOf};
 ghost use Rattle.rules.specs.Shape.{lengthsFit, isKind, names, nodeSound, seatSound, endsWithin, nodesSound, seatsSound, sound};
-ghost use Rattle.shape.specs.Words.{phaseSound};
+ghost use Rattle.shape.specs.Words.{busySound};
 
 pub fn lengths_fit(nodes: &[u32], seats: &[u32]) -> bool
     ensures { λ r. ⌜ r ≡ lengthsFit (tables (now (nodes .entry)) (now (seats .entry))) ⌝ }
@@ -26,25 +26,34 @@ fn names_node(nodes: &[u32], n: u32, a: u32) -> bool
     requires { ⌜ n ≡ nodeCountOf (now nodes) ⌝ }
     ensures { λ r. ⌜ r ≡ names (tables (now (nodes .entry)) []) a ⌝ }
 {
-    let kind = words::node_word(nodes, a, words::KIND);
-    let claim = is_kind(kind);
-    (a == 0) | ((a <= n) & claim)
+    if a == 0 {
+        return true;
+    }
+    if n < a {
+        return false;
+    }
+    let kind = words::node_word_within(nodes, a, words::KIND);
+    is_kind(kind)
 }
 
+// A node of kind 0 is all zeros; any other is a claim.
 fn node_sound(nodes: &[u32], n: u32, a: u32) -> bool
     requires { ⌜ n ≡ nodeCountOf (now nodes) ⌝ }
+    requires { ⌜ (a ≡ 0 → ⊥) ⌝ }
+    requires { ⌜ a ≤ n ⌝ }
     ensures { λ r. ⌜ r ≡ nodeSound (tables (now (nodes .entry)) []) a ⌝ }
 {
-    let start = words::node_word(nodes, a, words::START);
-    let end = words::node_word(nodes, a, words::END);
-    let kind = words::node_word(nodes, a, words::KIND);
-    let next = words::link(nodes, a);
-    let mark = words::node_word(nodes, a, words::MARK);
+    let start = words::node_word_within(nodes, a, words::START);
+    let end = words::node_word_within(nodes, a, words::END);
+    let kind = words::node_word_within(nodes, a, words::KIND);
+    let next = words::next_within(nodes, a);
+    let mark = words::node_word_within(nodes, a, words::MARK);
+    if kind == 0 {
+        return (start == 0) & (end == 0) & (next == 0) & (mark == 0);
+    }
     let claim = is_kind(kind);
     let named = names_node(nodes, n, next);
-    (((start == 0) & (end == 0) & (kind == 0) & (next == 0) & (mark == 0))
-        | (claim & (start < end) & (next <= n) & (mark <= 1)))
-        & named
+    claim & (start < end) & (mark <= 1) & named
 }
 
 fn nodes_sound(nodes: &[u32], n: u32) -> bool
@@ -62,25 +71,30 @@ fn nodes_sound(nodes: &[u32], n: u32) -> bool
     true
 }
 
-// the four words of a seat, by themselves
-fn phase_sound(phase: u32, own: u32, prev: u32, cur: u32) -> bool
-    ensures { λ r. ⌜ r ≡ phaseSound phase own prev cur ⌝ }
+// the words of a seat that is not idle, by themselves
+fn busy_sound(phase: u32, own: u32, prev: u32, cur: u32) -> bool
+    ensures { λ r. ⌜ r ≡ busySound phase own prev cur ⌝ }
 {
     (phase <= 6)
-        & (((phase == 0) & (own == 0) & (prev == 0) & (cur == 0)) | (!(phase == 0) & !(own == 0)))
+        & !(own == 0)
         & (!((phase == 5) | (phase == 6)) | ((prev == 0) & (cur == 0)))
         & (!((phase == 2) | (phase == 4)) | !(cur == 0))
 }
 
+// An idle seat is all zeros.
 fn seat_sound(nodes: &[u32], seats: &[u32], n: u32, s: u32) -> bool
     requires { ⌜ n ≡ nodeCountOf (now nodes) ⌝ }
+    requires { ⌜ s < seatCountOf (now seats) ⌝ }
     ensures { λ r. ⌜ r ≡ seatSound (tables (now (nodes .entry)) (now (seats .entry))) s ⌝ }
 {
-    let phase = words::seat_word(seats, s, words::PHASE);
-    let own = words::seat_word(seats, s, words::OWN);
-    let prev = words::seat_word(seats, s, words::PREV);
-    let cur = words::seat_word(seats, s, words::CUR);
-    let a = phase_sound(phase, own, prev, cur);
+    let phase = words::seat_word_within(seats, s, words::PHASE);
+    let own = words::seat_word_within(seats, s, words::OWN);
+    let prev = words::seat_word_within(seats, s, words::PREV);
+    let cur = words::seat_word_within(seats, s, words::CUR);
+    if phase == 0 {
+        return (own == 0) & (prev == 0) & (cur == 0);
+    }
+    let a = busy_sound(phase, own, prev, cur);
     let b = names_node(nodes, n, own);
     let c = names_node(nodes, n, prev);
     let d = names_node(nodes, n, cur);
@@ -103,8 +117,11 @@ fn seats_sound(nodes: &[u32], seats: &[u32], n: u32, count: u32) -> bool
     true
 }
 
-// from a, 0 is met after at most n nodes
+// From a, 0 is met after at most n nodes. The nodes are sound, so that each next is a node that the table has.
 fn ends_within(nodes: &[u32], n: u32, from: u32) -> bool
+    requires { ⌜ n ≡ nodeCountOf (now nodes) ⌝ }
+    requires { ⌜ nodesSound (tables (now nodes) []) ≡ true ⌝ }
+    requires { ⌜ names (tables (now nodes) []) from ≡ true ⌝ }
     ensures { λ r. ⌜ r ≡ endsWithin n (tables (now (nodes .entry)) []) from ⌝ }
 {
     let mut left = n;
@@ -113,7 +130,7 @@ fn ends_within(nodes: &[u32], n: u32, from: u32) -> bool
         if left == 0 {
             return false;
         }
-        a = words::link(nodes, a);
+        a = words::next_within(nodes, a);
         left -= 1;
     }
     true
@@ -127,11 +144,16 @@ fn words_sound(nodes: &[u32], seats: &[u32]) -> bool
     let n = words::node_count(nodes) as u32;
     let count = words::seat_count(seats) as u32;
     let head = words::link(nodes, 0);
-    let a = nodes_sound(nodes, n);
-    let b = names_node(nodes, n, head);
-    let c = seats_sound(nodes, seats, n, count);
-    let d = ends_within(nodes, n, head);
-    a & b & c & d
+    if !nodes_sound(nodes, n) {
+        return false;
+    }
+    if !names_node(nodes, n, head) {
+        return false;
+    }
+    if !seats_sound(nodes, seats, n, count) {
+        return false;
+    }
+    ends_within(nodes, n, head)
 }
 
 pub fn is_sound(nodes: &[u32], seats: &[u32]) -> bool

@@ -4,7 +4,7 @@ ghost use mathlib.Core.Path.{_≡_};
 ghost use lib.ListN.{getD, set};
 ghost use mathlib.Core.List.{[]};
 ghost use Rattle.rules.specs.Tables.{tables, beforeNodes, nodeWidth, seatWidth, nodeWord, putNode, linkWord, putLink, seatWord, putSeat, nodeCountOf, seatCountOf, zeros};
-ghost use Prim.Native.Nat.{_+_, _*_};
+ghost use Prim.Native.Nat.{_+_, _*_, _<_, _≤_};
 ghost use Rattle.rules.specs.Shape.{nodesFit, seatsFit};
 
 // Where the words of a node stand in it.
@@ -61,6 +61,16 @@ pub fn node_word(nodes: &[u32], a: u32, field: u32) -> u32
     )
 }
 
+// a word of a node that the table has
+pub fn node_word_within(nodes: &[u32], a: u32, field: u32) -> u32
+    requires { ⌜ (a ≡ 0 → ⊥) ⌝ }
+    requires { ⌜ a ≤ nodeCountOf (now nodes) ⌝ }
+    requires { ⌜ field < nodeWidth ⌝ }
+    ensures { λ r. ⌜ r ≡ nodeWord (now (nodes .entry)) a field ⌝ }
+{
+    nodes[BEFORE_NODES + NODE_WIDTH * (a - 1) as usize + field as usize]
+}
+
 pub fn put_node(nodes: &mut [u32], a: u32, field: u32, value: u32)
     ensures { λ r. ⌜ now (nodes .exit) ≡ putNode (now (nodes .entry)) a field value ⌝ }
 {
@@ -83,6 +93,15 @@ pub fn link(nodes: &[u32], a: u32) -> u32
     node_word(nodes, a, NEXT)
 }
 
+// the next of a node that the table has
+pub fn next_within(nodes: &[u32], a: u32) -> u32
+    requires { ⌜ (a ≡ 0 → ⊥) ⌝ }
+    requires { ⌜ a ≤ nodeCountOf (now nodes) ⌝ }
+    ensures { λ r. ⌜ r ≡ linkWord (now (nodes .entry)) a ⌝ }
+{
+    node_word_within(nodes, a, NEXT)
+}
+
 pub fn put_link(nodes: &mut [u32], a: u32, value: u32)
     ensures { λ r. ⌜ now (nodes .exit) ≡ putLink (now (nodes .entry)) a value ⌝ }
 {
@@ -97,6 +116,15 @@ pub fn seat_word(seats: &[u32], s: u32, field: u32) -> u32
     ensures { λ r. ⌜ r ≡ seatWord (now (seats .entry)) s field ⌝ }
 {
     word(seats, SEAT_WIDTH * s as usize + field as usize)
+}
+
+// a word of a seat that the table has
+pub fn seat_word_within(seats: &[u32], s: u32, field: u32) -> u32
+    requires { ⌜ s < seatCountOf (now seats) ⌝ }
+    requires { ⌜ field < seatWidth ⌝ }
+    ensures { λ r. ⌜ r ≡ seatWord (now (seats .entry)) s field ⌝ }
+{
+    seats[SEAT_WIDTH * s as usize + field as usize]
 }
 
 pub fn put_seat(seats: &mut [u32], s: u32, field: u32, value: u32)

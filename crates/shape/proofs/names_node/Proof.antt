@@ -1,17 +1,24 @@
 -- `shape::names_node` meets its promise.
-use Rattle.shape.proofs.Tests.{names-is}
+use Rattle.shape.proofs.Tests.{names-zero, names-past, names-kind}
 use borrow.Author.Needs.{needs}
 use Rattle.shape.proofs.names_node.Statement.{statement}
 use Rattle.shape.proofs.names_node.Tie as tie
 
-node-word-requires : tie.Need-node-word-requires
-node-word-requires c κs = search needs
+returns : tie.Need-returns
+returns c = search names-zero
+
+returns-2 : tie.Need-returns-2
+returns-2 c = search names-past
+
+node-word-within-requires : tie.Need-node-word-within-requires
+node-word-within-requires c κs = search needs
 
 is-kind-requires : tie.Need-is-kind-requires
 is-kind-requires c κs = search needs
 
-returns : tie.Need-returns
-returns c = search names-is
+returns-3 : tie.Need-returns-3
+returns-3 c = search names-kind
 
 pub names-node-spec : {M : Type 1} → statement M
-names-node-spec = tie.close (tie.spec node-word-requires is-kind-requires returns)
+names-node-spec =
+    tie.close (tie.spec returns returns-2 node-word-within-requires is-kind-requires returns-3)

@@ -1,23 +1,26 @@
 -- `shape::node_sound` meets its promise.
-use Rattle.shape.proofs.Tests.{node-is}
+use Rattle.shape.proofs.Tests.{node-zero, node-claim}
 use borrow.Author.Needs.{needs}
 use Rattle.shape.proofs.node_sound.Statement.{statement}
 use Rattle.shape.proofs.node_sound.Tie as tie
 
-node-word-requires : tie.Need-node-word-requires
-node-word-requires c κs = search needs
+node-word-within-requires : tie.Need-node-word-within-requires
+node-word-within-requires c κs = search needs
 
-node-word-requires-2 : tie.Need-node-word-requires-2
-node-word-requires-2 c κs = search needs
+node-word-within-requires-2 : tie.Need-node-word-within-requires-2
+node-word-within-requires-2 c κs = search needs
 
-node-word-requires-3 : tie.Need-node-word-requires-3
-node-word-requires-3 c κs = search needs
+node-word-within-requires-3 : tie.Need-node-word-within-requires-3
+node-word-within-requires-3 c κs = search needs
 
-link-requires : tie.Need-link-requires
-link-requires c κs = search needs
+next-within-requires : tie.Need-next-within-requires
+next-within-requires c κs = search needs
 
-node-word-requires-4 : tie.Need-node-word-requires-4
-node-word-requires-4 c κs = search needs
+node-word-within-requires-4 : tie.Need-node-word-within-requires-4
+node-word-within-requires-4 c κs = search needs
+
+returns : tie.Need-returns
+returns c = search node-zero
 
 is-kind-requires : tie.Need-is-kind-requires
 is-kind-requires c κs = search needs
@@ -25,18 +28,19 @@ is-kind-requires c κs = search needs
 names-node-requires : tie.Need-names-node-requires
 names-node-requires c κs = search needs
 
-returns : tie.Need-returns
-returns c = search node-is
+returns-2 : tie.Need-returns-2
+returns-2 c = search node-claim
 
 pub node-sound-spec : {M : Type 1} → statement M
 node-sound-spec =
     tie.close
     (tie.spec
-    node-word-requires
-    node-word-requires-2
-    node-word-requires-3
-    link-requires
-    node-word-requires-4
+    node-word-within-requires
+    node-word-within-requires-2
+    node-word-within-requires-3
+    next-within-requires
+    node-word-within-requires-4
+    returns
     is-kind-requires
     names-node-requires
-    returns)
+    returns-2)

@@ -1,10 +1,10 @@
 -- `shape::nodes_sound` meets its promise.
-use Rattle.shape.proofs.Tests.{nodesBelow, nodes-none, nodes-more, nodes-fail, nodes-all}
 use mathlib.Core.Bool.{true}
 use Prim.Native.Nat.{_+_, _-_, _≤_}
 use mathlib.Core.Path.{_≡_, refl}
 use native.Mathlib.Omega.{arith}
 use borrow.Author.Needs.{needs}
+use Rattle.shape.proofs.Tests.{nodesBelow, nodes-none, nodes-more, nodes-fail, nodes-all}
 use Rattle.shape.proofs.nodes_sound.Statement.{statement}
 use Rattle.shape.proofs.nodes_sound.Tie as tie
 

@@ -1,6 +1,6 @@
 -- `shape::words_sound` meets its promise.
 use native.Mathlib.Omega.{arith}
-use Rattle.shape.proofs.Tests.{few-nodes, few-seats, words-is}
+use Rattle.shape.proofs.Tests.{few-nodes, few-seats, nodes-not, head-not, seats-not, words-are, told}
 use borrow.Author.Needs.{needs}
 use Rattle.shape.proofs.words_sound.Statement.{statement}
 use Rattle.shape.proofs.words_sound.Tie as tie
@@ -23,17 +23,29 @@ link-requires c κs = search needs
 nodes-sound-requires : tie.Need-nodes-sound-requires
 nodes-sound-requires c κs = search needs
 
+returns : tie.Need-returns
+returns c = search nodes-not
+
 names-node-requires : tie.Need-names-node-requires
 names-node-requires c κs = search needs
+
+returns-2 : tie.Need-returns-2
+returns-2 c = search head-not
 
 seats-sound-requires : tie.Need-seats-sound-requires
 seats-sound-requires c κs = search needs
 
-ends-within-requires : tie.Need-ends-within-requires
-ends-within-requires c κs = search needs
+returns-3 : tie.Need-returns-3
+returns-3 c = search seats-not
 
-returns : tie.Need-returns
-returns c = search words-is
+ends-within-requires : tie.Need-ends-within-requires
+ends-within-requires c κs =
+    let h = c .before .before .before in
+    let n = h .before .before in
+    (n .before .before .before .node-count .ensures, (told _ _ (n .nodes-sound .ensures) (h .before .if1 .left), told _ _ (h .names-node .ensures) (c .before .before .if2 .left)))
+
+returns-4 : tie.Need-returns-4
+returns-4 c = search words-are
 
 pub words-sound-spec : {M : Type 1} → statement M
 words-sound-spec =
@@ -45,7 +57,10 @@ words-sound-spec =
     cast-count
     link-requires
     nodes-sound-requires
+    returns
     names-node-requires
+    returns-2
     seats-sound-requires
+    returns-3
     ends-within-requires
-    returns)
+    returns-4)
