@@ -45,13 +45,16 @@ zero-case true true false d z f = refl
 zero-case true false c d z f = refl
 zero-case false b c d z f = refl
 
-claim-case : (u v x y z : Bool) → (z ≡ true → x ≡ true) → (u && v && y && z) ≡ ((u && v && x && y) && z)
-claim-case true true true y z f = refl
-claim-case true true false true true f = sym (f refl)
-claim-case true true false true false f = refl
-claim-case true true false false z f = refl
-claim-case true false x y z f = refl
-claim-case false v x y z f = refl
+-- with its next named, a claim's next is at most N
+claim-case : (u v y : Bool) → (u && v && y) ≡ ((u && v && true && y) && true)
+claim-case true true true = refl
+claim-case true true false = refl
+claim-case true false y = refl
+claim-case false v y = refl
+
+and-false : (b : Bool) → (b && false) ≡ false
+and-false true = refl
+and-false false = refl
 
 no-zero : (a b c d : Bool) → (a && b && false && c && d) ≡ false
 no-zero true true c d = refl
@@ -68,22 +71,29 @@ module _ (l : List ℕ) (a x y k next m : ℕ) (isMark : m ≡ nodeWord l a mark
       (zero-case (eqb (nodeWord l a startAt) 0) (eqb (nodeWord l a endAt) 0) (eqb (linkWord l a) 0) (eqb (nodeWord l a markAt) 0) (names (tables l []) (linkWord l a))
       (λ z. sym (names-zero l (nodeCountOf l) (linkWord l a) refl (eqb-true (linkWord l a) 0 z))))
 
-  pub node-claim : (u v : Bool) → v ≡ names (tables l []) next → u ≡ isKind k → k ≢ 0 → (u && ltb x y && leb m 1 && v) ≡ nodeSound (tables l []) a
-  unfolding nodeSound zeroNode claimNode
-  node-claim u v p q d =
-      rw (
-        q,
-        p,
-        isMark,
-        isNext,
-        isKindOf,
-        isEnd,
-        isStart,
-        ne-eqb (nodeWord l a kindAt) 0 (λ e. d (isKindOf ∙ e)),
-        no-zero (eqb (nodeWord l a startAt) 0) (eqb (nodeWord l a endAt) 0) (eqb (linkWord l a) 0) (eqb (nodeWord l a markAt) 0),
-      )
-      (claim-case (isKind (nodeWord l a kindAt)) (ltb (nodeWord l a startAt) (nodeWord l a endAt)) (leb (linkWord l a) (nodeCountOf l)) (leb (nodeWord l a markAt) 1)
-      (names (tables l []) (linkWord l a)) (named-small l (linkWord l a)))
+  module _ (v : Bool) (isNamed : v ≡ names (tables l []) next) (some : k ≢ 0) where
+    pub node-lost : not v ≡ true → false ≡ nodeSound (tables l []) a
+    unfolding nodeSound
+    node-lost e =
+        let q : names (tables l []) (linkWord l a) ≡ false = rw isNext at (sym isNamed ∙ not-true v e) in
+        rw q (sym (and-false (zeroNode (tables l []) a || claimNode (tables l []) a)))
+
+    pub node-claim : (u : Bool) → u ≡ isKind k → not v ≡ false → (u && ltb x y && leb m 1) ≡ nodeSound (tables l []) a
+    unfolding nodeSound zeroNode claimNode
+    node-claim u q e =
+        let w : names (tables l []) (linkWord l a) ≡ true = rw isNext at (sym isNamed ∙ not-false v e) in
+        rw (
+          q,
+          isMark,
+          isKindOf,
+          isEnd,
+          isStart,
+          w,
+          named-small l (linkWord l a) w,
+          ne-eqb (nodeWord l a kindAt) 0 (λ z. some (isKindOf ∙ z)),
+          no-zero (eqb (nodeWord l a startAt) 0) (eqb (nodeWord l a endAt) 0) (eqb (linkWord l a) 0) (eqb (nodeWord l a markAt) 0),
+        )
+        (claim-case (isKind (nodeWord l a kindAt)) (ltb (nodeWord l a startAt) (nodeWord l a endAt)) (leb (nodeWord l a markAt) 1))
 
 -- ---- every node
 unfoldable pub nodesBelow : List ℕ → ℕ → Bool
@@ -106,6 +116,10 @@ unfolding nodesBelow nodesSound
 nodes-all l n i h a b e = let q : i ≡ nodeCountOf l = omega arith in rw (← q, h)
 
 -- ---- a seat, idle or busy, and every seat
+all-named : (b : Bool) → b ≡ (b && true && true && true)
+all-named true = refl
+all-named false = refl
+
 idle-case : (a b c f g h : Bool) → (a ≡ true → f ≡ true) → (b ≡ true → g ≡ true) → (c ≡ true → h ≡ true)
     → (a && b && c) ≡ ((a && b && c || false) && true && true && f && g && h)
 idle-case true true true f g h p q r = rw (p refl, q refl, r refl)
@@ -126,11 +140,38 @@ module _ (l t : List ℕ) (s p o v c : ℕ) (isCur : c ≡ seatWord t s curAt) (
       (names (tables l t) (seatWord t s ownAt)) (names (tables l t) (seatWord t s prevAt)) (names (tables l t) (seatWord t s curAt))
       (zero-named (seatWord t s ownAt)) (zero-named (seatWord t s prevAt)) (zero-named (seatWord t s curAt)))
 
-  pub seat-busy : (w x y z : Bool) → z ≡ names (tables l []) c → y ≡ names (tables l []) v → x ≡ names (tables l []) o → w ≡ busySound p o v c → p ≢ 0
-      → (w && x && y && z) ≡ seatSound (tables l t) s
-  unfolding seatSound isPhase idleOrOwning restingAtZero waitingAtCur names
-  seat-busy w x y z pz py px pw d =
-      rw (pz, py, px, pw, isCur, isPrev, isOwn, isPhaseOf, ne-eqb (seatWord t s phaseAt) 0 (λ e. d (isPhaseOf ∙ e)))
+  module _ (x : Bool) (isNamed : x ≡ names (tables l []) o) where
+    pub own-lost : not x ≡ true → false ≡ seatSound (tables l t) s
+    unfolding seatSound names
+    own-lost e =
+        let q = rw isOwn at (sym isNamed ∙ not-true x e) in
+        rw (q, and-false (isPhase (tables l t) s && idleOrOwning (tables l t) s && restingAtZero (tables l t) s && waitingAtCur (tables l t) s))
+
+    module _ (y : Bool) (isPrevNamed : y ≡ names (tables l []) v) where
+      pub prev-lost : not y ≡ true → false ≡ seatSound (tables l t) s
+      unfolding seatSound names
+      prev-lost e =
+          let q = rw isPrev at (sym isPrevNamed ∙ not-true y e) in
+          rw (q, and-false (isPhase (tables l t) s && idleOrOwning (tables l t) s && restingAtZero (tables l t) s && waitingAtCur (tables l t) s && names (tables l t) (seatWord t s ownAt)))
+
+      module _ (z : Bool) (isCurNamed : z ≡ names (tables l []) c) where
+        pub cur-lost : not z ≡ true → false ≡ seatSound (tables l t) s
+        unfolding seatSound names
+        cur-lost e =
+            let q = rw isCur at (sym isCurNamed ∙ not-true z e) in
+            rw q
+            (sym (and-false
+            (isPhase (tables l t) s && idleOrOwning (tables l t) s && restingAtZero (tables l t) s && waitingAtCur (tables l t) s && names (tables l t) (seatWord t s ownAt)
+            && names (tables l t) (seatWord t s prevAt))))
+
+        pub seat-busy : (w : Bool) → w ≡ busySound p o v c → not x ≡ false → not y ≡ false → not z ≡ false → p ≢ 0 → w ≡ seatSound (tables l t) s
+        unfolding seatSound isPhase idleOrOwning restingAtZero waitingAtCur names
+        seat-busy w pw ex ey ez d =
+            let qx = rw isOwn at (sym isNamed ∙ not-false x ex) in
+            let qy = rw isPrev at (sym isPrevNamed ∙ not-false y ey) in
+            let qz = rw isCur at (sym isCurNamed ∙ not-false z ez) in
+            rw (qx, qy, qz, pw, isCur, isPrev, isOwn, isPhaseOf, ne-eqb (seatWord t s phaseAt) 0 (λ e. d (isPhaseOf ∙ e)))
+            (all-named (busySound (seatWord t s phaseAt) (seatWord t s ownAt) (seatWord t s prevAt) (seatWord t s curAt)))
 
 pub seats-none : (l t : List ℕ) → all 0 (seatSound (tables l t)) ≡ true
 unfolding all

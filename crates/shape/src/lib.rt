@@ -51,9 +51,11 @@ fn node_sound(nodes: &[u32], n: u32, a: u32) -> bool
     if kind == 0 {
         return (start == 0) & (end == 0) & (next == 0) & (mark == 0);
     }
+    if !names_node(nodes, n, next) {
+        return false;
+    }
     let claim = is_kind(kind);
-    let named = names_node(nodes, n, next);
-    claim & (start < end) & (mark <= 1) & named
+    claim & (start < end) & (mark <= 1)
 }
 
 fn nodes_sound(nodes: &[u32], n: u32) -> bool
@@ -94,11 +96,16 @@ fn seat_sound(nodes: &[u32], seats: &[u32], n: u32, s: u32) -> bool
     if phase == 0 {
         return (own == 0) & (prev == 0) & (cur == 0);
     }
-    let a = busy_sound(phase, own, prev, cur);
-    let b = names_node(nodes, n, own);
-    let c = names_node(nodes, n, prev);
-    let d = names_node(nodes, n, cur);
-    a & b & c & d
+    if !names_node(nodes, n, own) {
+        return false;
+    }
+    if !names_node(nodes, n, prev) {
+        return false;
+    }
+    if !names_node(nodes, n, cur) {
+        return false;
+    }
+    busy_sound(phase, own, prev, cur)
 }
 
 fn seats_sound(nodes: &[u32], seats: &[u32], n: u32, count: u32) -> bool

@@ -1,5 +1,5 @@
 -- `shape::node_sound` meets its promise.
-use Rattle.shape.proofs.Tests.{node-zero, node-claim}
+use Rattle.shape.proofs.Tests.{node-zero, node-lost, node-claim}
 use borrow.Author.Needs.{needs}
 use Rattle.shape.proofs.node_sound.Statement.{statement}
 use Rattle.shape.proofs.node_sound.Tie as tie
@@ -22,14 +22,17 @@ node-word-within-requires-4 c κs = search needs
 returns : tie.Need-returns
 returns c = search node-zero
 
-is-kind-requires : tie.Need-is-kind-requires
-is-kind-requires c κs = search needs
-
 names-node-requires : tie.Need-names-node-requires
 names-node-requires c κs = search needs
 
 returns-2 : tie.Need-returns-2
-returns-2 c = search node-claim
+returns-2 c = search node-lost
+
+is-kind-requires : tie.Need-is-kind-requires
+is-kind-requires c κs = search needs
+
+returns-3 : tie.Need-returns-3
+returns-3 c = search node-claim
 
 pub node-sound-spec : {M : Type 1} → statement M
 node-sound-spec =
@@ -41,6 +44,7 @@ node-sound-spec =
     next-within-requires
     node-word-within-requires-4
     returns
-    is-kind-requires
     names-node-requires
-    returns-2)
+    returns-2
+    is-kind-requires
+    returns-3)
