@@ -1,7 +1,7 @@
 -- How the rows are filled: what is answered where so many rows are lent, and the rows written from the last holder's to the first.
 use Prim.Native.Nat.{ℕ, zero, suc}
 use mathlib.Core.List.{List}
-use lib.ListN.{length, set}
+use lib.ListN.{length, set, replicate}
 use Rattle.rules.specs.Notation.{if_then_else_, _is_, _<?_}
 use Rattle.rules.specs.Tables.{Tables, seatWord, phaseAt}
 use Rattle.rules.specs.Calls.{damaged}
@@ -37,3 +37,7 @@ lastRow t s = rowOf t (lastBelow (t .seats) s)
 unfoldable pub fillDown : ℕ → Tables → ℕ → List Row → List Row
 fillDown zero t s out = out
 fillDown (suc left) t s out = fillDown left t (lastBelow (t .seats) s) (set out left (lastRow t s))
+
+-- a row for each seat, with nothing shown
+abbrev pub noRows : List Row
+noRows = replicate 64 (record { seat = 0; first = 0; end = 0; kind = 0 })

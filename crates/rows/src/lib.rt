@@ -5,7 +5,7 @@ ghost use lib.ListN.{length};
 ghost use Rattle.rules.specs.Tables.{tables};
 ghost use Rattle.rules.specs.Board.{rowOf, shown, board};
 ghost use Rattle.rules.specs.Means.{meansBoard};
-ghost use Rattle.rows.specs.Filling.{answerFor, narrow, rowsIn, lastBelow, lastRow};
+ghost use Rattle.rows.specs.Filling.{answerFor, narrow, rowsIn, lastBelow, lastRow, noRows};
 use rules::BoardReply;
 use rules::Row;
 
@@ -93,4 +93,39 @@ pub fn show<'a, 'b, 'c>(rows: &'a mut [Row], nodes: &'b [u32], seats: &'c [u32])
         seat = row.seat;
     }
     reply
+}
+
+// The board by value, for a caller that lends no rows: there is one for each seat, and what is not shown is 0.
+pub struct Board {
+    pub rows: [Row; 64],
+    pub reply: BoardReply,
+}
+
+fn no_rows() -> [Row; 64]
+    ensures { λ r. ⌜ r ≡ noRows ⌝ }
+{
+    let none = Row {
+        seat: 0,
+        first: 0,
+        end: 0,
+        kind: 0,
+    };
+    [none; 64]
+}
+
+fn together(rows: [Row; 64], reply: BoardReply) -> Board
+    ensures { λ r. ⌜ shown (meansBoard (r .reply)) (r .rows) ≡ shown (meansBoard reply) rows ⌝ }
+{
+    Board {
+        rows: rows,
+        reply: reply,
+    }
+}
+
+pub fn show_all<'a, 'b>(nodes: &'a [u32], seats: &'b [u32]) -> Board
+    ensures { λ r. ⌜ shown (meansBoard (r .reply)) (r .rows) ≡ board (tables (now (nodes .entry)) (now (seats .entry))) noRows ⌝ }
+{
+    let mut rows = no_rows();
+    let reply = show(&mut rows, nodes, seats);
+    together(rows, reply)
 }
