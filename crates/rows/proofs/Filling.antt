@@ -1,20 +1,18 @@
 -- What the answer and the rows come to: one law for each way through the code, and that the rows written from the last holder's to the
 -- first are the board.
-use Prim.Native.Nat.{ℕ, zero, suc, _+_, _-_, _*_, _/_, _≤_, _<_}
+use Prim.Native.Nat.{ℕ, zero, suc, _+_, _-_, _/_, _≤_, _<_}
 use mathlib.Core.Path.{_≡_, refl, sym, ap, _∙_}
 use mathlib.Core.Bool.{Bool, true, false, not}
 use mathlib.Core.Logic.{_≢_}
 use mathlib.Core.List.{List, [], _∷_, _++_, append-assoc}
 use native.Mathlib.Omega.{arith}
-use native.Mathlib.Numerals.{add-one}
 use lib.Dec.{eqb, ltb}
 use lib.ListN.{length, drop, set, length-set, length-append}
 use lib.Seq.{drop-cons, drop-set-lt, getD-set-same}
-use borrow.Author.Tests.{eq-eqb, ne-eqb, lt-ltb, le-ltb, ltb-false}
-use Rattle.rules.specs.Notation.{if_then_else_, _is_, _<?_}
+use borrow.Author.Tests.{ne-eqb, lt-ltb, le-ltb, ltb-false}
+use Rattle.rules.specs.Notation.{if_then_else_}
 use Rattle.rules.specs.Tables.{Tables, tables, seatWord, nodeWord, seatCount, seatCountOf, phaseAt, ownAt, startAt, endAt, kindAt}
 use Rattle.rules.specs.Shape.{sound}
-use Rattle.rules.specs.Calls.{damaged}
 use Rattle.rules.specs.Board.{rowWidth, rowOf, rowsBelow, holders, coveredBy, Boarded, Shown, shown, board, boardNumbers}
 use Rattle.rules.specs.Means.{meansBoard}
 use Rattle.rules.specs.declared.Row.{Row}

@@ -1,9 +1,8 @@
 // The board on a lent list of rows. The board of numbers counts, sums and refuses; here the rows are written, from the last holder's to the
 // first, so that a cursor over the seats looks at each seat once.
 ghost use mathlib.Core.Path.{_≡_};
-ghost use lib.ListN.{length};
 ghost use Rattle.rules.specs.Tables.{tables};
-ghost use Rattle.rules.specs.Board.{rowOf, shown, board};
+ghost use Rattle.rules.specs.Board.{shown, board};
 ghost use Rattle.rules.specs.Means.{meansBoard};
 ghost use Rattle.rows.specs.Filling.{answerFor, narrow, rowsIn, lastBelow, lastRow, noRows};
 use rules::BoardReply;
@@ -27,7 +26,7 @@ fn narrowed(reply: BoardReply, room: usize) -> BoardReply
     }
 }
 
-// what the board answers where so many rows are lent
+// what the board answers where so many rows are lent: that of numbers, which has room for every seat's row, but for refusal 9
 fn answer(nodes: &[u32], seats: &[u32], room: usize) -> BoardReply
     ensures { λ r. ⌜ meansBoard r ≡ answerFor (tables (now (nodes .entry)) (now (seats .entry))) room ⌝ }
 {

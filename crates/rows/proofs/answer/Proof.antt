@@ -1,6 +1,5 @@
 -- `rows::answer` meets its promise.
 use Rattle.rows.proofs.Filling.{answer-is}
-use mathlib.Core.Path.{refl}
 use borrow.Author.Needs.{needs}
 use Rattle.rows.proofs.answer.Statement.{statement}
 use Rattle.rows.proofs.answer.Tie as tie
