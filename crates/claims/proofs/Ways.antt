@@ -6,22 +6,20 @@ use mathlib.Core.List.{List, [], _∷_}
 use mathlib.Core.Logic.{_≢_, _⊎_, inl, inr, ⊎-elim}
 use native.Mathlib.Omega.{arith}
 use native.Mathlib.Nat.{eq-or-lt-of-le}
-use lib.Dec.{eqb, leb}
 use lib.ListN.{length, getD, set, replicate}
 use lib.Seq.{getD-set-same, getD-set-other}
-use borrow.Author.Tests.{eq-eqb, ne-eqb, le-leb, lt-leb, eqb-true}
+use borrow.Author.Tests.{eq-eqb, ne-eqb, le-leb, lt-leb}
 use Rattle.rules.specs.Notation.{_is_}
-use Rattle.rules.specs.Tables.{Tables, tables, zeros, fresh, nodeWord, seatWord, nodeCountOf, seatCountOf, phaseAt, ownAt, startAt, endAt, kindAt, beforeNodes, nodeWidth, seatWidth}
+use Rattle.rules.specs.Tables.{Tables, tables, zeros, fresh, nodeWord, seatWord, nodeCountOf, seatCountOf, phaseAt, ownAt, startAt, endAt, kindAt}
 use Rattle.rules.specs.Comparison.{Claim, claim, claimOf}
-use Rattle.rules.specs.Shape.{nodesFit, seatsFit, lengthsFit, sound, isKind}
+use Rattle.rules.specs.Shape.{lengthsFit, sound, isKind}
 use Rattle.rules.specs.Reach.{countFree}
 use Rattle.rules.specs.Fetch.{Fetched, fetched, fetch}
 use Rattle.rules.specs.Answers.{Answer, node, out, on, held, refused, Done, done, answerOf, answered}
 use Rattle.rules.specs.Steps.{leave, walking, waitingToEnter, validating, readerWaiting, refetched, withdrawn, stepByPhase}
 use Rattle.rules.specs.Calls.{clear, begun, begin, step, release}
 use Rattle.rules.specs.FreeCount.{Counted, freeCount}
-use Rattle.rules.proofs.Logic.{both, all3}
-use Rattle.rules.proofs.Shape.{is-sound}
+use Rattle.rules.proofs.Shape.{lengths-fit, is-sound}
 use Rattle.rules.proofs.Refused.{fetch-none}
 use Rattle.steps.proofs.Arms.{answered-is}
 use Rattle.claims.specs.Parts.{beginFetching, beginClaim, stepBusy, releaseSeat}
@@ -49,21 +47,13 @@ pub zero-all : (l : List ℕ) (i n : ℕ) → ZeroBelow l i → length l ≤ i �
 zero-all l i n z h e = rw (← e) (all-zero l (λ k j. z .zero-at k (omega arith)))
 
 -- ---- clear
-lengths : (t : Tables) → lengthsFit t ≡ true → (length (t .nodes) ≡ beforeNodes + nodeWidth * nodeCountOf (t .nodes)) × (length (t .seats) ≡ seatWidth * seatCountOf (t .seats))
-unfolding lengthsFit nodesFit seatsFit
-lengths t e =
-    let w = both (nodesFit t) (seatsFit t) e in
-    let y = all3 (eqb (length (t .nodes)) (beforeNodes + nodeWidth * nodeCountOf (t .nodes))) (leb 1 (nodeCountOf (t .nodes))) (leb (nodeCountOf (t .nodes)) 256) (w .0) in
-    let z = all3 (eqb (length (t .seats)) (seatWidth * seatCountOf (t .seats))) (leb 1 (seatCountOf (t .seats))) (leb (seatCountOf (t .seats)) 64) (w .1) in
-    (eqb-true (length (t .nodes)) (beforeNodes + nodeWidth * nodeCountOf (t .nodes)) (y .0), eqb-true (length (t .seats)) (seatWidth * seatCountOf (t .seats)) (z .0))
-
 module _ (n t : List ℕ) (b : Bool) (fits : b ≡ lengthsFit (tables n t)) where
   pub clear-fits : (n′ t′ : List ℕ) → t′ ≡ zeros (length t) → n′ ≡ zeros (length n) → b ≡ true → done 0 (tables n′ t′) ≡ clear (tables n t)
   unfolding clear fresh
   clear-fits n′ t′ p q e =
       let f = sym fits ∙ e in
-      let l = lengths (tables n t) f in
-      rw (f, p, q, l .0, l .1)
+      let l = lengths-fit (tables n t) f in
+      rw (f, p, q, l .nodes-length, l .seats-length)
 
   pub clear-not : b ≡ false → done 1 (tables n t) ≡ clear (tables n t)
   unfolding clear

@@ -193,6 +193,30 @@ module _ (t : Tables) (s : ℕ) where
         name-of t (cur t s) (w .cur-names),
       )
 
+-- ---- the lengths
+pub record Fit (t : Tables) : Type 0 where
+  pub nodes-length : length (t .nodes) ≡ beforeNodes + nodeWidth * nodeCount t
+  pub some-nodes : 1 ≤ nodeCount t
+  pub few-nodes : nodeCount t ≤ 256
+  pub seats-length : length (t .seats) ≡ seatWidth * seatCount t
+  pub some-seats : 1 ≤ seatCount t
+  pub few-seats : seatCount t ≤ 64
+
+pub lengths-fit : (t : Tables) → lengthsFit t ≡ true → Fit t
+unfolding lengthsFit nodesFit seatsFit
+lengths-fit t e =
+    let y = both (nodesFit t) (seatsFit t) e in
+    let f = all3 (length (t .nodes) is beforeNodes + nodeWidth * nodeCount t) (1 ≤? nodeCount t) (nodeCount t ≤? 256) (y .0) in
+    let g = all3 (length (t .seats) is seatWidth * seatCount t) (1 ≤? seatCount t) (seatCount t ≤? 64) (y .1) in
+    record {
+      nodes-length = eqb-true (length (t .nodes)) (beforeNodes + nodeWidth * nodeCount t) (f .0);
+      some-nodes = leb-true 1 (nodeCount t) (f .1);
+      few-nodes = leb-true (nodeCount t) 256 (f .2);
+      seats-length = eqb-true (length (t .seats)) (seatWidth * seatCount t) (g .0);
+      some-seats = leb-true 1 (seatCount t) (g .1);
+      few-seats = leb-true (seatCount t) 64 (g .2);
+    }
+
 -- ---- the whole
 pub record Sound (t : Tables) : Type 0 where
   pub nodes-length : length (t .nodes) ≡ beforeNodes + nodeWidth * nodeCount t
@@ -259,24 +283,20 @@ module _ (t : Tables) where
       (either (s <? seatCount t))
 
   pub is-sound : sound t ≡ true → Sound t
-  unfolding sound lengthsFit nodesFit seatsFit
+  unfolding sound
   is-sound e =
       let w = all5 (lengthsFit t) (nodesSound t) (names t (head t)) (seatsSound t) (endsWithin (nodeCount t) t (head t)) e in
-      let y = both (nodesFit t) (seatsFit t) (w .0) in
-      let f = all3 (length (t .nodes) is beforeNodes + nodeWidth * nodeCount t) (1 ≤? nodeCount t) (nodeCount t ≤? 256) (y .0) in
-      let g = all3 (length (t .seats) is seatWidth * seatCount t) (1 ≤? seatCount t) (seatCount t ≤? 64) (y .1) in
-      let wide = eqb-true (length (t .nodes)) (beforeNodes + nodeWidth * nodeCount t) (f .0) in
-      let long = eqb-true (length (t .seats)) (seatWidth * seatCount t) (g .0) in
+      let fit = lengths-fit t (w .0) in
       record {
-        nodes-length = wide;
-        some-nodes = leb-true 1 (nodeCount t) (f .1);
-        few-nodes = leb-true (nodeCount t) 256 (f .2);
-        seats-length = long;
-        some-seats = leb-true 1 (seatCount t) (g .1);
-        few-seats = leb-true (seatCount t) 64 (g .2);
+        nodes-length = fit .nodes-length;
+        some-nodes = fit .some-nodes;
+        few-nodes = fit .few-nodes;
+        seats-length = fit .seats-length;
+        some-seats = fit .some-seats;
+        few-seats = fit .few-seats;
         node = λ a z h. node-case a (node-of (w .1) a z h);
-        link-names = links-name wide (w .1) (named t (head t) (w .2));
-        seat = seats-all long (w .3);
+        link-names = links-name (fit .nodes-length) (w .1) (named t (head t) (w .2));
+        seat = seats-all (fit .seats-length) (w .3);
         ends = w .4;
       }
 

@@ -3,17 +3,16 @@ use mathlib.Core.Path.{_≡_, refl, sym, ap, _∙_}
 use mathlib.Core.Bool.{Bool, true, false, not, _&&_, _||_}
 use mathlib.Core.List.{List, []}
 use mathlib.Core.Logic.{_≢_, _⊎_, inl, inr}
-use Prim.Native.Nat.{ℕ, zero, suc, _+_, _-_, _*_, _≤_, _<_}
+use Prim.Native.Nat.{ℕ, zero, suc, _+_, _-_, _≤_, _<_}
 use native.Mathlib.Omega.{arith}
 use native.Mathlib.Numerals.{add-one}
 use lib.Dec.{eqb, leb, ltb}
-use lib.ListN.{length}
-use borrow.Author.Tests.{not-true, not-false, eq-eqb, ne-eqb, eqb-true, le-leb, lt-leb, leb-true}
+use borrow.Author.Tests.{not-true, not-false, eq-eqb, ne-eqb, eqb-true, le-leb, lt-leb}
 use Rattle.rules.specs.Notation.{_is_, _≤?_, _<?_, all}
-use Rattle.rules.specs.Tables.{Tables, tables, beforeNodes, nodeWidth, seatWidth, nodeWord, linkWord, seatWord, nodeCountOf, seatCountOf, startAt, endAt, kindAt, markAt, phaseAt, ownAt, prevAt, curAt}
+use Rattle.rules.specs.Tables.{Tables, tables, nodeWord, linkWord, seatWord, nodeCountOf, seatCountOf, startAt, endAt, kindAt, markAt, phaseAt, ownAt, prevAt, curAt}
 use Rattle.rules.specs.Shape.{nodesFit, seatsFit, lengthsFit, isKind, zeroNode, claimNode, names, nodeSound, isPhase, idleOrOwning, restingAtZero, waitingAtCur, seatSound, endsWithin, nodesSound, seatsSound, sound}
-use Rattle.rules.proofs.Logic.{and-right, all3, both, all-at, all-fails}
-use Rattle.rules.proofs.Shape.{named, name-of, name-small}
+use Rattle.rules.proofs.Logic.{and-right, all-at, all-fails}
+use Rattle.rules.proofs.Shape.{named, name-of, name-small, lengths-fit}
 use Rattle.shape.specs.Words.{busySound}
 
 pub lengths-is : (l t : List ℕ) (u v : Bool) → u ≡ nodesFit (tables l []) → v ≡ seatsFit (tables [] t) → (u && v) ≡ lengthsFit (tables l t)
@@ -267,18 +266,10 @@ fits l t b p q = sym p ∙ q
 
 -- N and S are small where the lengths fit
 pub few-nodes : (l t : List ℕ) (n : ℕ) → n ≡ nodeCountOf l → lengthsFit (tables l t) ≡ true → n ≤ 256
-unfolding lengthsFit nodesFit
-few-nodes l t n e f =
-    let w = both (nodesFit (tables l t)) (seatsFit (tables l t)) f in
-    let y = all3 (eqb (length l) (beforeNodes + nodeWidth * nodeCountOf l)) (leb 1 (nodeCountOf l)) (leb (nodeCountOf l) 256) (w .0) in
-    rw e (leb-true (nodeCountOf l) 256 (y .2))
+few-nodes l t n e f = rw e (lengths-fit (tables l t) f .few-nodes)
 
 pub few-seats : (l t : List ℕ) (n : ℕ) → n ≡ seatCountOf t → lengthsFit (tables l t) ≡ true → n ≤ 64
-unfolding lengthsFit seatsFit
-few-seats l t n e f =
-    let w = both (nodesFit (tables l t)) (seatsFit (tables l t)) f in
-    let y = all3 (eqb (length t) (seatWidth * seatCountOf t)) (leb 1 (seatCountOf t)) (leb (seatCountOf t) 64) (w .1) in
-    rw e (leb-true (seatCountOf t) 64 (y .2))
+few-seats l t n e f = rw e (lengths-fit (tables l t) f .few-seats)
 
 -- what a caller knows after the test
 pub now-sound : (l t : List ℕ) (b : Bool) → b ≡ sound (tables l t) → b ≡ true → sound (tables l t) ≡ true
