@@ -35,7 +35,7 @@ claim-written t a c z r =
     let w₃ = put-word z r w₂ kindAt (c .kind) (omega arith) in
     put-word z r (put-next z r w₃ 0) markAt 0 (omega arith)
 
-written : (t : Tables) (a : ℕ) (c : Claim) → a ≢ 0 → beforeNodes + nodeWidth * a ≤ length (t .nodes) → Proper c
+pub written : (t : Tables) (a : ℕ) (c : Claim) → a ≢ 0 → beforeNodes + nodeWidth * a ≤ length (t .nodes) → Proper c
     → Written (nodesOf t) (nodesOf (writeClaim t a c)) a
 written t a c z r p =
     let w = claim-written t a c z r in

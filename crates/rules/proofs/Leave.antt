@@ -19,7 +19,7 @@ pub data Leaves (o P O : ℕ) : Type 0 where
   releases : P ≡ 0 → O ≡ 0 → Leaves o P O
 
 -- a node in use is marked
-remark-shape : {N : ℕ} {n : Nodes} (new : ℕ → ℕ) (o : ℕ) → NodeShape N n → 0 < o → Proper (claimAt n o) → new o ≡ 1
+pub remark-shape : {N : ℕ} {n : Nodes} (new : ℕ → ℕ) (o : ℕ) → NodeShape N n → 0 < o → Proper (claimAt n o) → new o ≡ 1
     → ((a : ℕ) → a ≢ o → new a ≡ n .mark a) → NodeShape N (remark n new)
 remark-shape new o h pos c one old = record {
   head-unmarked = old 0 (omega (arith, pos)) ∙ h .head-unmarked;

@@ -61,3 +61,6 @@ pub mod StaysBusy
 pub mod StepsAlone
 pub mod NobodyWaits
 pub mod Cause
+-- every step but the linking in keeps sound shape, in any tables
+pub mod SoundShape
+pub mod SoundKept

@@ -1,4 +1,5 @@
--- Good tables within the bounds have sound shape, so every table that is reached has it.
+-- What has sound shape in the theory's words, within the bounds, passes the test `sound`. Good tables have it, and so every table that is
+-- reached.
 use Prim.Native.Nat.{ℕ, zero, suc, _≤_}
 use mathlib.Core.Path.{_≡_, refl}
 use mathlib.Core.Bool.{true}
@@ -17,6 +18,7 @@ use Rattle.rules.proofs.View.{nodesOf, claimAt}
 use Rattle.rules.proofs.Invariant.{Named, nothing, node}
 use Rattle.rules.proofs.Known.{known-head, known-ends, named-in}
 use Rattle.rules.proofs.Good.{Good}
+use Rattle.rules.proofs.SoundShape.{Shaped}
 use Rattle.rules.proofs.CallKeeps.{good}
 
 ends-within : (t : Tables) {a k : ℕ} → Ends (link t) a k → (h : ℕ) → k ≤ h → endsWithin h t a ≡ true
@@ -38,7 +40,7 @@ bounds (cleared a b c d) = record { some-nodes = a; few-nodes = b; some-seats = 
 bounds (called r c) = bounds r
 bounds (afterRun r schedule budget) = bounds r
 
-module _ {N S : ℕ} {t : Tables} (g : Good N S t) where
+module _ {N S : ℕ} {t : Tables} (g : Shaped N S t) where
   count : nodeCount t ≡ N
   count = node-count t N (g .nodes-long)
 
@@ -47,18 +49,18 @@ module _ {N S : ℕ} {t : Tables} (g : Good N S t) where
   names (node p l c) = inr (rw count l, c .reads-or-writes)
 
   node-shape : (a : ℕ) → a ≢ 0 → ZeroNode t a ⊎ ClaimNode t a
-  node-shape a z = elim (g .inv .nodes .blank-or-proper a (omega arith)) [
+  node-shape a z = elim (g .view .nodes .blank-or-proper a (omega arith)) [
     | inl b ↦ inl (record { start-zero = b .start-0; end-zero = b .end-0; kind-zero = b .kind-0; next-zero = b .link-0; mark-zero = b .mark-0 })
     | inr c ↦ inr (record {
       a-kind = c .reads-or-writes;
       some = c .some;
-      next-small = rw count (named-in (g .inv .nodes .links a));
-      mark-small = g .inv .nodes .marks a;
+      next-small = rw count (named-in (g .view .nodes .links a));
+      mark-small = g .view .nodes .marks a;
     })
   ]
 
   seat-shape : (s : ℕ) → SeatSound t s
-  seat-shape s = let h = g .inv .seats s in record {
+  seat-shape s = let h = g .view .seats s in record {
     phase-small = h .is-phase;
     idle = h .idle;
     owning = λ b. let o = h .owning b in omega arith;
@@ -69,11 +71,11 @@ module _ {N S : ℕ} {t : Tables} (g : Good N S t) where
     cur-names = names (h .cur-named);
   }
 
-  pub good-sound : Bounds N S → Sound t
-  good-sound b =
+  pub shaped-sound : Bounds N S → Sound t
+  shaped-sound b =
       let seats = seat-count t S (g .seats-long) in
-      let ends = known-ends (g .inv) known-head in
-      let few = short N (λ a. named-in (g .inv .nodes .links a)) (named-in (g .inv .nodes .links 0)) (ends .1) in
+      let ends = g .view .ends in
+      let few = short N (λ a. named-in (g .view .nodes .links a)) (named-in (g .view .nodes .links 0)) (ends .1) in
       record {
         nodes-length = rw count (g .nodes-long);
         some-nodes = rw count (b .some-nodes);
@@ -82,10 +84,17 @@ module _ {N S : ℕ} {t : Tables} (g : Good N S t) where
         some-seats = rw seats (b .some-seats);
         few-seats = rw seats (b .few-seats);
         node = λ a z l. node-shape a z;
-        link-names = λ a. names (g .inv .nodes .links a);
+        link-names = λ a. names (g .view .nodes .links a);
         seat = seat-shape;
         ends = ends-within t (ends .1) (nodeCount t) (rw count few);
       }
+
+pub good-sound : {N S : ℕ} {t : Tables} → Good N S t → Bounds N S → Sound t
+good-sound g = shaped-sound (record {
+  nodes-long = g .nodes-long;
+  seats-long = g .seats-long;
+  view = record { nodes = g .inv .nodes; seats = g .inv .seats; ends = known-ends (g .inv) known-head };
+})
 
 pub reached-sound : {N S : ℕ} {t : Tables} → Reached N S t → sound t ≡ true
 reached-sound {t = t} r = sound-is t (good-sound (good r) (bounds r))

@@ -43,7 +43,7 @@ module _ {n n′ : Nodes} {o : ℕ} (w : Written n n′ o) where
   named-same (nothing e) = nothing e
   named-same (node h l c) = node h l (proper-same c)
 
-  written-shape : {N : ℕ} → 0 < o → NodeShape N n → NodeShape N n′
+  pub written-shape : {N : ℕ} → 0 < o → NodeShape N n → NodeShape N n′
   written-shape pos h = record {
     head-unmarked = w .mark-a 0 (omega (arith, pos)) ∙ h .head-unmarked;
     blank-or-proper = λ a z. if-same a o
@@ -62,7 +62,7 @@ module _ {n n′ : Nodes} {o : ℕ} (w : Written n n′ o) where
     links = λ a. if-same a o (λ e. nothing (ap (n′ .link) e ∙ w .link-o)) (λ d. rw (w .link-a a d) (named-same (h .links a)));
   }
 
-  seat-same : {N P O Q C : ℕ} → SeatShape N (claimAt n) P O Q C → SeatShape N (claimAt n′) P O Q C
+  pub seat-same : {N P O Q C : ℕ} → SeatShape N (claimAt n) P O Q C → SeatShape N (claimAt n′) P O Q C
   seat-same h = record {
     is-phase = h .is-phase;
     idle = h .idle;

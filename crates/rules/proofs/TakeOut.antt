@@ -1,12 +1,13 @@
 -- Taking the marked nodes out is passing over them one after the other, so it leaves good tables good.
-use Prim.Native.Nat.{ℕ, zero, suc, _≤_, _<_}
+use Prim.Native.Nat.{ℕ, zero, suc, _+_, _*_, _≤_, _<_}
 use mathlib.Core.Path.{_≡_, refl, sym, ap, _∙_}
 use mathlib.Core.List.{List, [], _∷_}
 use mathlib.Core.Logic.{_≢_, _⊎_, inl, inr}
 use native.Mathlib.Omega.{arith}
+use lib.ListN.{length}
 use borrow.Author.Tests.{eqb-true, eqb-false}
 use Rattle.rules.specs.Notation.{_is_}
-use Rattle.rules.specs.Tables.{Tables, tables, nodeCount, markAt, putLink, mark, marked, link, next, head, setLink}
+use Rattle.rules.specs.Tables.{Tables, tables, beforeNodes, nodeWidth, nodeCount, markAt, putLink, mark, marked, link, next, head, setLink}
 use Rattle.rules.specs.Fetch.{keptFrom, kept, linkThrough, takenOut}
 use Rattle.rules.proofs.Logic.{branch}
 use Rattle.rules.proofs.Deciding.{if-true}
@@ -82,34 +83,49 @@ ends-zero : {link : ℕ → ℕ} {a k : ℕ} → Ends link a k → k ≤ 0 → a
 ends-zero stop l = refl
 ends-zero (more p e) l = absurd (omega arith)
 
--- from prev, whose link is cur, with hops enough to the end
-module _ {N S : ℕ} where
-  through-good : (h : ℕ) (t : Tables) (p c : ℕ) → Good N S t → Firm t p → link t p ≡ c → (k : ℕ) → Ends (link t) c k → k ≤ h
-      → Good N S (linkThrough t p (keptFrom h t c))
+-- What holds of the tables and of prev is kept, if passing over a marked node keeps it and going on to any other does.
+module _ (Holds : Tables → ℕ → Type 0)
+    (has-room : (t : Tables) (p : ℕ) → Holds t p → beforeNodes + nodeWidth * p ≤ length (t .nodes))
+    (no-way-back : (t : Tables) (p : ℕ) → Holds t p → Reach (link t) p (link t p) → ⊥)
+    (passed-over : (t : Tables) (p c : ℕ) → Holds t p → link t p ≡ c → c ≢ 0 → mark t c ≡ 1 → Holds (setLink t p (next t c)) p)
+    (gone-on : (t : Tables) (p c : ℕ) → Holds t p → link t p ≡ c → c ≢ 0 → mark t c ≢ 1 → Holds t c) where
+  -- from prev, whose link is cur, with hops enough to the end
+  through-keeps : (h : ℕ) (t : Tables) (p c : ℕ) → Holds t p → link t p ≡ c → (k : ℕ) → Ends (link t) c k → k ≤ h
+      → (q : ℕ) × Holds (linkThrough t p (keptFrom h t c)) q
   unfolding keptFrom
-  through-good zero t p c g f e k ends l = rw (through-end t p (e ∙ ends-zero ends l)) g
-  through-good (suc h) t p c g f e k ends l =
-      branch (λ ks. Good N S (linkThrough t p ks)) (c is 0)
-      (λ z. rw (through-end t p (e ∙ eqb-true c 0 z)) g)
+  through-keeps zero t p c g e k ends l = rw (through-end t p (e ∙ ends-zero ends l)) (p, g)
+  through-keeps (suc h) t p c g e k ends l =
+      branch (λ ks. (q : ℕ) × Holds (linkThrough t p ks) q) (c is 0)
+      (λ z. rw (through-end t p (e ∙ eqb-true c 0 z)) (p, g))
       (λ z. let d = eqb-false c 0 z in
       let pos : 0 < c = omega arith in
       let v = next t c in
       let rest = ends-tail ends d in
-      branch (λ ks. Good N S (linkThrough t p ks)) (marked t c)
-      (λ m. let new = link-put-same (t .nodes) p v (node-room g p (firm-in g p f)) in
+      branch (λ ks. (q : ℕ) × Holds (linkThrough t p ks) q) (marked t c)
+      (λ m. let new = link-put-same (t .nodes) p v (has-room t p g) in
       let left = unlink-keeps-ends (link t) (link (setLink t p v)) p c pos e new (λ a x. link-put-other (t .nodes) p a v (λ q. x (sym q))) (rest .1) in
-      let gone = passes-over g p c (firm-in g p f) (firm-known g p f) d (eqb-true (mark t c) 1 m) e in
-      rw (through-marked h t p v (λ r. firm-behind g p f (rw e (there pos r)))) at
-      (through-good h (setLink t p v) p v gone f new (left .0) (left .1) (omega arith)))
-      (λ m. let stands = g .inv .owner (rw e at (firm-next g p f (rw e d))) (eqb-false (mark t c) 1 m) in
-      rw (through-kept t p c (keptFrom h t v) e) (through-good h t c v g (inr stands) refl (rest .0) (rest .1) (omega arith))))
+      rw (through-marked h t p v (λ r. no-way-back t p g (rw e (there pos r)))) at
+      (through-keeps h (setLink t p v) p v (passed-over t p c g e d (eqb-true (mark t c) 1 m)) new (left .0) (left .1) (omega arith)))
+      (λ m. rw (through-kept t p c (keptFrom h t v) e)
+      (through-keeps h t c v (gone-on t p c g e d (eqb-false (mark t c) 1 m)) refl (rest .0) (rest .1) (omega arith))))
 
-  pub taken-out-good : {t : Tables} → Good N S t → Good N S (takenOut t)
+  pub taken-out-keeps : (t : Tables) → Holds t 0 → (k : ℕ) → Ends (link t) (head t) k → k ≤ nodeCount t → (q : ℕ) × Holds (takenOut t) q
   unfolding takenOut kept
-  taken-out-good {t} g =
-      let ends = known-ends (g .inv) known-head in
-      let few = short N (λ b. named-in (g .inv .nodes .links b)) (named-in (g .inv .nodes .links 0)) (ends .1) in
-      through-good (nodeCount t) t 0 (head t) g (inl refl) refl (ends .0) (ends .1) (rw (node-count t N (g .nodes-long)) few)
+  taken-out-keeps t g k ends l = through-keeps (nodeCount t) t 0 (head t) g refl k ends l
+
+abbrev GoodAt : ℕ → ℕ → Tables → ℕ → Type 0
+GoodAt N S t p = Good N S t × Firm t p
+
+pub taken-out-good : {N S : ℕ} {t : Tables} → Good N S t → Good N S (takenOut t)
+taken-out-good {N} {S} {t} g =
+    let ends = known-ends (g .inv) known-head in
+    let few = short N (λ b. named-in (g .inv .nodes .links b)) (named-in (g .inv .nodes .links 0)) (ends .1) in
+    taken-out-keeps (GoodAt N S)
+    (λ t p w. node-room (w .0) p (firm-in (w .0) p (w .1)))
+    (λ t p w. firm-behind (w .0) p (w .1))
+    (λ t p c w e d m. (passes-over (w .0) p c (firm-in (w .0) p (w .1)) (firm-known (w .0) p (w .1)) d m e, w .1))
+    (λ t p c w e d m. (w .0, inr (w .0 .inv .owner (rw e at (firm-next (w .0) p (w .1) (rw e d))) m)))
+    t (g, inl refl) (ends .0) (ends .1) (rw (node-count t N (g .nodes-long)) few) .1 .0
 
 -- ---- what taking out leaves, in any tables
 through-seats : (ks : List ℕ) (t : Tables) (p : ℕ) → linkThrough t p ks .seats ≡ t .seats

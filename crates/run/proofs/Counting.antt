@@ -1,7 +1,7 @@
 -- Run's loop: after k accepted steps, k and what is left of the budget and of the schedule give the whole.
 use Prim.Native.Nat.{ℕ, zero, suc, _+_, _-_, _≤_, _<_}
 use mathlib.Core.Path.{_≡_, refl, sym, ap, _∙_}
-use mathlib.Core.Bool.{Bool, true, false}
+use mathlib.Core.Bool.{Bool, true, false, not, _&&_}
 use mathlib.Core.List.{List, [], _∷_}
 use mathlib.Core.Logic.{_≢_}
 use native.Mathlib.Omega.{arith}
@@ -9,14 +9,17 @@ use native.Mathlib.Numerals.{add-one}
 use lib.ListN.{length, drop, getD}
 use lib.Seq.{drop-cons, drop-length}
 use lib.Dec.{eqb}
-use borrow.Author.Tests.{ne-eqb, eqb-true}
-use Rattle.rules.specs.Tables.{Tables, tables}
+use borrow.Author.Tests.{ne-eqb, eq-eqb}
+use Rattle.rules.specs.Tables.{Tables, tables, seatWord, phaseAt, phase}
 use Rattle.rules.specs.Shape.{sound}
 use Rattle.rules.specs.Answers.{Answer, Done, done}
 use Rattle.rules.specs.Calls.{step}
 use Rattle.rules.specs.Run.{ran, refusalOf, oneMore, runSteps, run}
 use Rattle.rules.specs.declared.Ran.{Ran}
+use Rattle.rules.proofs.Logic.{and-both, not-true, clash}
 use Rattle.rules.proofs.Refused.{step-keeps}
+use Rattle.rules.proofs.Accepting.{Stepped, step-refused, step-accepted, stepped}
+use Rattle.rules.proofs.SoundKept.{step-keeps-sound}
 use Rattle.run.specs.Parts.{stepEntry}
 
 -- k steps before the others
@@ -109,6 +112,20 @@ pub run-damaged : (n t schedule : List ℕ) (budget : ℕ) (b : Bool) → b ≡ 
 unfolding run
 run-damaged n t schedule budget b p e = rw (sym p ∙ e)
 
--- before the first step the tables are those that were tested
-pub first-known : (n t : List ℕ) (k : ℕ) → (k ≡ 0 → sound (tables n t) ≡ true) → eqb k 0 ≡ true → sound (tables n t) ≡ true
-first-known n t k f e = f (eqb-true k 0 e)
+-- ---- what is known to be sound
+-- a step on damaged tables is refused
+accepted-sound : (t : Tables) (s : ℕ) {d : Done Answer} → Stepped t s d → refusalOf (d .answer) ≡ 0 → sound t ≡ true
+accepted-sound t s (step-refused number r) e = absurd (r .some-number e)
+accepted-sound t s (step-accepted y h b w) e = y
+
+-- after an accepted step that did not link own in
+pub known-again : (n n′ t t′ : List ℕ) (s r before after : ℕ) → done r (tables n′ t′) ≡ stepEntry (tables n t) s → r ≡ 0
+    → before ≡ seatWord t s phaseAt → after ≡ seatWord t′ s phaseAt → not (eqb before 1 && eqb after 3) ≡ true → sound (tables n′ t′) ≡ true
+known-again n n′ t t′ s r before after w e p q k =
+    let a : r ≡ refusalOf (step (tables n t) s .answer) = ap (λ (x : Done ℕ). x .answer) w in
+    let u : tables n′ t′ ≡ step (tables n t) s .after = ap (λ (x : Done ℕ). x .after) w in
+    let was : sound (tables n t) ≡ true = accepted-sound (tables n t) s (stepped (tables n t) s) (sym a ∙ e) in
+    let new : after ≡ phase (step (tables n t) s .after) s = q ∙ ap (λ (x : Tables). phase x s) u in
+    rw u (step-keeps-sound (tables n t) s was (λ x y.
+    clash (eqb before 1 && eqb after 3) (and-both (eqb before 1) (eqb after 3) (eq-eqb before 1 (p ∙ x)) (eq-eqb after 3 (new ∙ y)))
+    (not-true (eqb before 1 && eqb after 3) k)))

@@ -39,11 +39,13 @@ fn step_entry(nodes: &mut [u32], seats: &mut [u32], s: u32, known: bool) -> u32
     refusal_of(reply)
 }
 
+// Only the step that links own in, from phase 1 to 3, can leave sound tables damaged: after any other they are known to be sound.
 fn run_steps(nodes: &mut [u32], seats: &mut [u32], schedule: &[u32], budget: u32) -> Ran
     requires { ⌜ sound (tables (now nodes) (now seats)) ≡ true ⌝ }
     ensures { λ r. ⌜ done r (tables (now (nodes .exit)) (now (seats .exit))) ≡ rule.runSteps budget (tables (now (nodes .entry)) (now (seats .entry))) (now (schedule .entry)) ⌝ }
 {
     let mut steps: u32 = 0;
+    let mut known = true;
     loop {
         if steps == budget {
             break Ran {
@@ -58,13 +60,16 @@ fn run_steps(nodes: &mut [u32], seats: &mut [u32], schedule: &[u32], budget: u32
             };
         }
         let s = schedule[steps as usize];
-        let refusal = step_entry(nodes, seats, s, steps == 0);
+        let before = words::seat_word(seats, s, words::PHASE);
+        let refusal = step_entry(nodes, seats, s, known);
         if refusal != 0 {
             break Ran {
                 steps: steps,
                 refusal: refusal,
             };
         }
+        let after = words::seat_word(seats, s, words::PHASE);
+        known = !((before == 1) & (after == 3));
         steps += 1;
     }
 }

@@ -8,17 +8,17 @@ use Prim.Native.Nat.{_+_, _-_, _*_, _≤_}
 use mathlib.Core.Path.{_≡_, refl}
 use native.Mathlib.Omega.{arith}
 use borrow.Author.Needs.{needs}
-use Rattle.run.proofs.Counting.{plus, left-all, left-again, left-refused, left-budget, left-end, first-known}
+use Rattle.run.proofs.Counting.{plus, left-all, left-again, left-refused, left-budget, left-end, known-again}
 use Rattle.run.proofs.run_steps.Statement.{statement}
 use Rattle.run.proofs.run_steps.Tie as tie
 
 abbrev Inv-loop : tie.InvT-loop
-Inv-loop nodes₀ seats₀ schedule budget steps₀ nodes seats steps =
-    (length nodes ≡ length nodes₀) × (length seats ≡ length seats₀) × (steps ≤ budget) × (steps ≤ length schedule) × (steps ≡ 0 → sound (tables nodes seats) ≡ true)
+Inv-loop nodes₀ seats₀ schedule budget steps₀ known₀ nodes seats steps known =
+    (length nodes ≡ length nodes₀) × (length seats ≡ length seats₀) × (steps ≤ budget) × (steps ≤ length schedule) × (known ≡ true → sound (tables nodes seats) ≡ true)
     × (plus steps (runSteps (budget - steps) (tables nodes seats) (drop steps schedule)) ≡ runSteps budget (tables nodes₀ seats₀) schedule)
 
 abbrev μ-loop : tie.MeasureT-loop
-μ-loop nodes₀ seats₀ schedule budget steps₀ nodes seats steps = budget - steps
+μ-loop nodes₀ seats₀ schedule budget steps₀ known₀ nodes seats steps known = budget - steps
 
 loop-holds : tie.Need-loop-holds Inv-loop μ-loop
 loop-holds c = (refl, refl, omega arith, omega arith, λ z. c .before .before .before .pre, left-all _ _ _)
@@ -35,8 +35,14 @@ mul-s c = search needs
 shared-slice-read-s : tie.Need-shared-slice-read-s Inv-loop μ-loop
 shared-slice-read-s c = search needs
 
+seat-word-requires : tie.Need-seat-word-requires Inv-loop μ-loop
+seat-word-requires c κs = search needs
+
 step-entry-requires : tie.Need-step-entry-requires Inv-loop μ-loop
-step-entry-requires c κs = search first-known
+step-entry-requires c κs = search needs
+
+seat-word-requires-2 : tie.Need-seat-word-requires-2 Inv-loop μ-loop
+seat-word-requires-2 c κs = search needs
 
 add-steps : tie.Need-add-steps Inv-loop μ-loop
 add-steps c = omega arith
@@ -46,14 +52,16 @@ loop-less c = omega arith
 
 loop-again : tie.Need-loop-again Inv-loop μ-loop
 loop-again c =
-    let e = c .before .before .before .before .before in
-    let l = e .before .before .before .before .before .before in (
+    let i = c .before .before in
+    let e = i .before .before .before .before .before in
+    let p = e .before .before .before in
+    let l = p .before .before .before .before .before in (
       search needs,
       search needs,
       omega arith,
       omega arith,
-      λ z. absurd (omega arith),
-      left-again _ _ _ _ _ _ _ _ _ _ (l .loop .inv .5) (e .step-entry .ensures) (c .if3 .left) refl (omega arith) (omega arith),
+      λ z. known-again _ _ _ _ _ _ _ _ (e .step-entry .ensures) (i .if3 .left) (p .seat-word .ensures) (c .seat-word2 .ensures) z,
+      left-again _ _ _ _ _ _ _ _ _ _ (l .loop .inv .5) (e .step-entry .ensures) (i .if3 .left) refl (omega arith) (omega arith),
     )
 
 same-length : tie.Need-same-length Inv-loop μ-loop
@@ -83,7 +91,7 @@ same-length-6 c = search needs
 returns-3 : tie.Need-returns-3 Inv-loop μ-loop
 returns-3 c =
     let e = c .before .before .before .before .before in
-    let l = e .before .before .before .before .before .before in
+    let l = e .before .before .before .before .before .before .before .before in
     left-refused _ _ _ _ _ _ _ _ _ _ (l .loop .inv .5) (e .step-entry .ensures) (c .if3 .taken) refl (omega arith) (omega arith)
 
 pub run-steps-spec : {M : Type 1} → statement M
@@ -97,7 +105,9 @@ run-steps-spec =
     cast-s
     mul-s
     shared-slice-read-s
+    seat-word-requires
     step-entry-requires
+    seat-word-requires-2
     add-steps
     loop-less
     loop-again
