@@ -3,6 +3,8 @@
 pub mod driver;
 pub mod generate;
 pub mod library;
+#[cfg(feature = "proved")]
+pub mod linked;
 pub mod machine;
 #[cfg(feature = "proved")]
 pub mod proved;
