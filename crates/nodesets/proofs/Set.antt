@@ -6,15 +6,15 @@ use mathlib.Core.List.{List}
 use mathlib.Core.Logic.{_≢_, ⊎-elim}
 use native.Mathlib.Omega.{arith}
 use native.Mathlib.Numerals.{add-one}
-use lib.ListN.{getD, set, length, length-set, List·getD-eq-default}
-use lib.Seq.{getD-set-same, getD-set-other, set-out}
+use lib.ListN.{getD, set, length, length-set}
+use lib.Seq.{getD-set-same, getD-set-other, set-getD}
 use borrow.Author.Tests.{eq-eqb, ne-eqb, eqb-true, eqb-false, ltb-true, ltb-false}
 use Rattle.rules.specs.Notation.{_is_, _<?_, count, lowest}
-use Rattle.rules.proofs.Logic.{either, same}
+use Rattle.rules.proofs.Logic.{either, same, not-of}
 use Rattle.nodesets.specs.Word.{inWord, addWord}
 use Rattle.nodesets.specs.Set.{has, none, add, members}
 use Rattle.nodesets.proofs.Counting.{count-none, count-split, count-alike, lowest-at, lowest-none}
-use Rattle.nodesets.proofs.Word.{in-zero, in-add}
+use Rattle.nodesets.proofs.Word.{in-zero, in-add, add-in, add-again as word-again}
 
 -- ---- a node by its word and its number there
 pub has-at : (ws : List ℕ) (i j : ℕ) → j < 64 → has ws (64 * i + j + 1) ≡ inWord (getD ws i 0) j
@@ -79,33 +79,34 @@ has-add ws (suc m) (suc k) l z h =
     (λ e. let q : k / 64 ≢ m / 64 = eqb-false (k / 64) (m / 64) e in add-in-another ws m k q ∙ rw (ne-eqb (suc m) (suc k) (λ y. q (omega arith))))
     (either (k / 64 is m / 64))
 
+-- ---- by the place that the code works out
+has-node : (ws : List ℕ) (a : ℕ) → a ≢ 0 → has ws a ≡ inWord (getD ws ((a - 1) / 64) 0) ((a - 1) % 64)
+unfolding has
+has-node ws zero z = absurd (z refl)
+has-node ws (suc m) z = let e : suc m - 1 ≡ m = omega arith in rw e
+
+add-node : (ws : List ℕ) (a : ℕ) → a ≢ 0 → add ws a ≡ set ws ((a - 1) / 64) (addWord (getD ws ((a - 1) / 64) 0) ((a - 1) % 64))
+unfolding add
+add-node ws zero z = absurd (z refl)
+add-node ws (suc m) z = let e : suc m - 1 ≡ m = omega arith in rw e
+
+-- a node that is in the set changes nothing
+pub add-again : (ws : List ℕ) (a : ℕ) → has ws a ≡ true → add ws a ≡ ws
+unfolding has add
+add-again ws zero e = refl
+add-again ws (suc m) e = rw (word-again (getD ws (m / 64) 0) (m % 64) e) (set-getD ws (m / 64) 0)
+
 -- ---- the code's calls, as a rule for each way through it
-pub holds-zero : (ws : List ℕ) (a : ℕ) → a ≡ 0 → false ≡ has ws a
-holds-zero ws a e = rw (e, has-zero ws)
+module _ (ws : List ℕ) (a w : ℕ) where
+  pub join-found : w ≡ addWord (getD ws ((a - 1) / 64) 0) ((a - 1) % 64) → a ≢ 0 → w ≡ getD ws ((a - 1) / 64) 0 → (true ≡ has ws a) × (ws ≡ add ws a)
+  join-found p z e =
+      let i : has ws a ≡ true = has-node ws a z ∙ ap (λ (v : ℕ). inWord v ((a - 1) % 64)) (sym e ∙ p) ∙ add-in (getD ws ((a - 1) / 64) 0) ((a - 1) % 64) in
+      (sym i, sym (add-again ws a i))
 
-pub holds-past : (ws : List ℕ) (a : ℕ) → 256 < a → length ws ≡ 4 → false ≡ has ws a
-unfolding has
-holds-past ws zero h l = refl
-holds-past ws (suc m) h l = rw (List·getD-eq-default ws 0 {n = m / 64} (omega arith), in-zero (m % 64))
-
-pub holds-node : (ws : List ℕ) (a : ℕ) (b : Bool) → b ≡ inWord (getD ws ((a - 1) / 64) 0) ((a - 1) % 64) → a ≢ 0 → b ≡ has ws a
-unfolding has
-holds-node ws zero b p z = absurd (z refl)
-holds-node ws (suc m) b p z = let e : suc m - 1 ≡ m = omega arith in rw e at p
-
-pub with-zero : (ws : List ℕ) (a : ℕ) → a ≡ 0 → ws ≡ add ws a
-unfolding add
-with-zero ws a e = rw e
-
-pub with-past : (ws : List ℕ) (a : ℕ) → 256 < a → length ws ≡ 4 → ws ≡ add ws a
-unfolding add
-with-past ws zero h l = refl
-with-past ws (suc m) h l = sym (set-out ws (m / 64) (addWord (getD ws (m / 64) 0) (m % 64)) (omega arith))
-
-pub with-node : (ws : List ℕ) (a w : ℕ) → w ≡ addWord (getD ws ((a - 1) / 64) 0) ((a - 1) % 64) → a ≢ 0 → set ws ((a - 1) / 64) w ≡ add ws a
-unfolding add
-with-node ws zero w p z = absurd (z refl)
-with-node ws (suc m) w p z = let e : suc m - 1 ≡ m = omega arith in rw (p, e)
+  pub join-new : w ≡ addWord (getD ws ((a - 1) / 64) 0) ((a - 1) % 64) → a ≢ 0 → w ≢ getD ws ((a - 1) / 64) 0 → (false ≡ has ws a) × (set ws ((a - 1) / 64) w ≡ add ws a)
+  join-new p z d =
+      let o : has ws a ≡ false = not-of (has ws a) (λ i. d (p ∙ word-again (getD ws ((a - 1) / 64) 0) ((a - 1) % 64) (sym (has-node ws a z) ∙ i))) in
+      (sym o, ap (set ws ((a - 1) / 64)) p ∙ sym (add-node ws a z))
 
 -- ---- outside: the words below i are done
 unfoldable pub OutsideTo : List ℕ → ℕ → List ℕ → ℕ → Type 0

@@ -6,14 +6,14 @@ use mathlib.Core.Bool.{true, false, _&&_, _||_, not}
 use mathlib.Core.Logic.{_≢_, _⊎_, inl, inr, ⊎-elim}
 use native.Mathlib.Omega.{arith}
 use native.Mathlib.Nat.{pow-suc, one-le-pow}
-use native.Mathlib.Numerals.{add-one, one-add}
+use native.Mathlib.Numerals.{add-one}
 use lib.Dec.{lit<, eqb·zero-suc, eqb·suc-zero, eqb·suc-suc, leb·suc-suc}
-use lib.Bits.{bitOr, bitAnd, or-step, and-mask}
+use lib.Bits.{bitOr, bitAnd, or-step, or-zero-r, and-mask}
 use lib.Count.{ones, ones-step, trailingZeros}
-use lib.Pow.{shr-shr, shl-exact, mod-pow-add}
-use borrow.Author.Tests.{lt-ltb, le-ltb, ltb-true}
+use lib.Pow.{shl-exact, mod-pow-add}
+use borrow.Author.Tests.{eq-eqb, eqb-true, lt-ltb, le-ltb, ltb-true}
 use Rattle.rules.specs.Notation.{if_then_else_, _is_, _<?_, count}
-use Rattle.rules.proofs.Logic.{same}
+use Rattle.rules.proofs.Logic.{same, or-right}
 use Rattle.nodesets.specs.Word.{inWord, addWord}
 use Rattle.nodesets.proofs.Counting.{count-none, count-first}
 
@@ -30,15 +30,6 @@ pub in-zero : (j : ℕ) → inWord 0 j ≡ false
 unfolding inWord
 in-zero zero = refl
 in-zero (suc j) = in-zero j
-
--- as the machine has it
-in-shift : (w j : ℕ) → inWord w j ≡ (w / 2 ^ j % 2 is 1)
-unfolding inWord
-in-shift w zero = let e : w / 1 ≡ w = omega arith in rw e
-in-shift w (suc j) = in-shift (w / 2) j ∙ ap (λ (n : ℕ). n % 2 is 1) (shr-shr w 1 j ∙ ap (λ (n : ℕ). w / 2 ^ n) (one-add j))
-
-pub shift-in : (w j : ℕ) → (bitAnd (w / 2 ^ j) 1 is 1) ≡ inWord w j
-shift-in w j = rw (in-shift w j, and-mask (w / 2 ^ j) 1)
 
 -- ---- or
 or-digit : (a b c : ℕ) → ((c * 2 + max (a % 2) (b % 2)) % 2 is 1) ≡ (a % 2 is 1 || b % 2 is 1)
@@ -71,6 +62,18 @@ in-power (suc j) (suc i) = let e : 2 ^ suc j / 2 ≡ 2 ^ j = omega (arith, pow-s
 pub in-add : (w j i : ℕ) → inWord (addWord w j) i ≡ (inWord w i || i is j)
 unfolding addWord
 in-add w j i = rw (in-or i w (2 ^ j), in-power j i)
+
+-- a number that is in the word changes nothing
+pub add-again : (w j : ℕ) → inWord w j ≡ true → addWord w j ≡ w
+unfolding inWord addWord
+add-again w zero e = let q = eqb-true (w % 2) 1 e in rw (or-step w 1, or-zero-r (w / 2)) (omega arith)
+add-again w (suc j) e =
+    let h : 2 ^ suc j / 2 ≡ 2 ^ j = omega (arith, pow-suc 2 j) in
+    let l : 2 ^ suc j % 2 ≡ 0 = omega (arith, pow-suc 2 j) in
+    rw (or-step w (2 ^ suc j), h, l, add-again (w / 2) j e) (omega arith)
+
+pub add-in : (w j : ℕ) → inWord (addWord w j) j ≡ true
+add-in w j = in-add w j j ∙ or-right (inWord w j) (j is j) (eq-eqb j j refl)
 
 one-shifted : (j : ℕ) → j < 64 → (1 * 2 ^ j) % 18446744073709551616 ≡ 2 ^ j
 one-shifted j h = shl-exact 1 j 64 (lit< tt) (omega arith) ∙ omega arith

@@ -1,5 +1,4 @@
-// A set of the nodes 1 to 256, by value, as four words: node m + 1 is number m % 64 of word m / 64. Node 0 is in no set.
-// All calls are total: what is no node of 1 to 256 is in no set and changes none.
+// A set of the nodes 1 to 256 as four words: node m + 1 is number m % 64 of word m / 64. Node 0 is in no set.
 ghost use mathlib.Core.Path.{_≡_};
 ghost use mathlib.Core.Bool.{true, false, _&&_, not};
 ghost use mathlib.Core.Logic.{_≢_};
@@ -9,13 +8,6 @@ ghost use Rattle.nodesets.specs.Word.{inWord, addWord};
 ghost use Rattle.nodesets.specs.Set.{has, none, add, members};
 
 // ---- one word, as a set of the numbers 0 to 63
-
-fn word_holds(w: u64, j: u32) -> bool
-    requires { ⌜ j < 64 ⌝ }
-    ensures { λ r. ⌜ r ≡ inWord w j ⌝ }
-{
-    (w >> j) & 1 == 1
-}
 
 fn word_with(w: u64, j: u32) -> u64
     requires { ⌜ j < 64 ⌝ }
@@ -58,32 +50,20 @@ pub fn empty() -> [u64; 4]
     [0; 4]
 }
 
-pub fn holds(ws: [u64; 4], a: u32) -> bool
-    ensures { λ r. ⌜ r ≡ has ws a ⌝ }
+// Node a joins the set. The answer says whether it was in it before.
+pub fn join(ws: &mut [u64; 4], a: u32) -> bool
+    requires { ⌜ a ≢ 0 ⌝ }
+    requires { ⌜ a ≤ 256 ⌝ }
+    ensures { λ r. ⌜ (r ≡ has (now (ws .entry)) a) × (now (ws .exit) ≡ add (now (ws .entry)) a) ⌝ }
 {
-    if a == 0 {
-        return false;
-    }
-    if 256 < a {
-        return false;
-    }
     let at = ((a - 1) / 64) as usize;
-    word_holds(ws[at], (a - 1) % 64)
-}
-
-pub fn with(ws: [u64; 4], a: u32) -> [u64; 4]
-    ensures { λ r. ⌜ r ≡ add ws a ⌝ }
-{
-    if a == 0 {
-        return ws;
+    let word = ws[at];
+    let more = word_with(word, (a - 1) % 64);
+    if more == word {
+        return true;
     }
-    if 256 < a {
-        return ws;
-    }
-    let at = ((a - 1) / 64) as usize;
-    let mut more = ws;
-    more[at] = word_with(ws[at], (a - 1) % 64);
-    more
+    ws[at] = more;
+    false
 }
 
 // The nodes of 1 to n that are not in the set.

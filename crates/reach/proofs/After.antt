@@ -17,8 +17,8 @@ use Rattle.rules.proofs.Words.{put-link-length, same-node-count, same-seat-coun
 use Rattle.rules.proofs.Shape.{Sound}
 use Rattle.nodesets.specs.Set.{has, none, add}
 use Rattle.nodesets.proofs.Set.{has-none, none-length, has-add, add-length}
-use Rattle.reach.specs.Walks.{reachFrom, reachSeat, reachSeats, reachOthers, addAll}
-use Rattle.reach.proofs.Walk.{met-none, met-zero, met-next, met-case, swap, inside, outside, Links, closed-alike, add-keeps}
+use Rattle.reach.specs.Walks.{Links, reachFrom, reachSeat, reachSeats, reachOthers, addAll}
+use Rattle.reach.proofs.Walk.{met-none, met-zero, met-next, met-case, swap, inside, outside, closed-alike, add-keeps}
 use Rattle.reach.proofs.Used.{Grown, Named, sound-named, joins-list, joins-others}
 use Rattle.reach.proofs.TakingOut.{ends-zero, kept-end, kept-in, kept-out, not-ahead, ahead-kept, Going, going-start, going-end, going-skip, going-keep}
 
@@ -77,7 +77,7 @@ kept-met (suc h) t a x =
     ∙ ⊎-elim (λ y. or-left (a is x) (met h t b x) y) (λ y. or-right (a is x) (met h t b x) (kept-met h t b x y)) (or-case (a is x) (isIn (keptFrom h t b) x) (sym (in-more a x (keptFrom h t b)) ∙ e)))
     (λ z e. met-next h t a x z ∙ or-right (a is x) (met h t b x) (kept-met h t b x e))
 
-met-within : (h : ℕ) (t : Tables) (a x : ℕ) → Links t → a ≤ nodeCount t → met h t a x ≡ true → (x ≢ 0) × (x ≤ nodeCount t)
+met-within : (h : ℕ) (t : Tables) (a x : ℕ) → Links (t .nodes) → a ≤ nodeCount t → met h t a x ≡ true → (x ≢ 0) × (x ≤ nodeCount t)
 met-within zero t a x s b e = absurd (clash (met 0 t a x) e (met-none t a x))
 met-within (suc h) t a x s b e =
     let w = met-case h t a x e in

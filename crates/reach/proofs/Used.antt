@@ -12,8 +12,8 @@ use Rattle.rules.proofs.Logic.{either, clash}
 use Rattle.rules.proofs.Shape.{Sound, name-small}
 use Rattle.nodesets.specs.Set.{has, none}
 use Rattle.nodesets.proofs.Set.{has-none, none-length}
-use Rattle.reach.specs.Walks.{reachFrom, reachSeat, reachSeats, reachOthers}
-use Rattle.reach.proofs.Walk.{Links, Closed, closed-nearly, reach-has, reach-closed, reach-length}
+use Rattle.reach.specs.Walks.{Links, reachFrom, reachSeat, reachSeats, reachOthers}
+use Rattle.reach.proofs.Walk.{Closed, closed-nearly, reach-has, reach-closed, reach-length}
 
 -- ---- a set in the making, and what joins it
 pub record Grown (t : Tables) (ws : List ℕ) : Type 0 where
@@ -40,7 +40,7 @@ joins-then t us vs ws p q j k =
 
 -- ---- every name in the tables is 0 or one of the N nodes
 pub record Named (t : Tables) : Type 0 where
-  pub links : Links t
+  pub links : Links (t .nodes)
   pub own-small : (r : ℕ) → own t r ≤ nodeCount t
   pub prev-small : (r : ℕ) → prev t r ≤ nodeCount t
   pub cur-small : (r : ℕ) → cur t r ≤ nodeCount t

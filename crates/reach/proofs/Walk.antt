@@ -10,13 +10,13 @@ use native.Mathlib.Numerals.{add-one}
 use lib.ListN.{length}
 use borrow.Author.Tests.{eq-eqb, ne-eqb, eqb-true, eqb-false}
 use Rattle.rules.specs.Notation.{_is_}
-use Rattle.rules.specs.Tables.{Tables, nodeCount, link, next}
+use Rattle.rules.specs.Tables.{Tables, nodeCount, next}
 use Rattle.rules.specs.Reach.{met}
 use Rattle.rules.proofs.Logic.{either, or-left, or-right, or-case, or-neither, clash}
 use Rattle.nodesets.specs.Set.{has, add, members}
 use Rattle.nodesets.proofs.Counting.{count-full, count-more}
 use Rattle.nodesets.proofs.Set.{has-add, add-length}
-use Rattle.reach.specs.Walks.{reachFrom}
+use Rattle.reach.specs.Walks.{Links, reachFrom}
 
 -- ---- the rule, by its ways on
 pub met-none : (t : Tables) (a x : ℕ) → met 0 t a x ≡ false
@@ -111,12 +111,7 @@ swap true true c = refl
 swap true false c = refl
 swap false b c = refl
 
--- every link is 0 or one of the N nodes
-pub record Links (t : Tables) : Type 0 where
-  pub few : nodeCount t ≤ 256
-  pub small : (a : ℕ) → link t a ≤ nodeCount t
-
-module _ (t : Tables) (s : Links t) where
+module _ (t : Tables) (s : Links (t .nodes)) where
   absorb : (a b : Bool) → (b ≡ true → a ≡ true) → a ≡ (a || b)
   absorb true b h = refl
   absorb false true h = h refl

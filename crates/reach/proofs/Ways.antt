@@ -17,17 +17,25 @@ use Rattle.rules.specs.Fetch.{keptFrom, kept, takenOut}
 use Rattle.rules.proofs.Shape.{is-sound}
 use Rattle.nodesets.specs.Set.{has, none, add}
 use Rattle.nodesets.proofs.Counting.{lowest-cut}
-use Rattle.reach.specs.Walks.{reachFrom, reachSeat, reachSeats, reachOthers, addAll}
+use Rattle.nodesets.proofs.Set.{add-again}
+use Rattle.reach.specs.Walks.{Links, reachFrom, reachSeat, reachSeats, reachOthers, addAll}
 use Rattle.reach.specs.FreeSet.{IsFreeSet}
-use Rattle.reach.proofs.Used.{sound-named, used-free}
+use Rattle.reach.proofs.Used.{Named, sound-named, used-free}
 use Rattle.reach.proofs.TakingOut.{kept-end, kept-in, kept-out}
 use Rattle.reach.proofs.NodesAlone.{kept-alone}
 use Rattle.reach.proofs.After.{after-count, after-free}
 
 -- ---- reach
-pub reach-none : (h : ℕ) (nodes ws : List ℕ) (a : ℕ) → h ≡ 0 → ws ≡ reachFrom h nodes ws a
-unfolding reachFrom
-reach-none h nodes ws a e = rw e
+pub next-small : (nodes : List ℕ) (a x : ℕ) → Links nodes → x ≡ linkWord nodes a → x ≤ nodeCountOf nodes
+next-small nodes a x s e = rw e (s .small a)
+
+pub hops-left : (h : ℕ) → h ≢ 0 → h ≢ 1 → h - 1 ≢ 0
+hops-left zero n l e = n refl
+hops-left (suc zero) n l e = l refl
+hops-left (suc (suc h)) n l e = omega arith
+
+pub node-within : (nodes : List ℕ) (a : ℕ) → Links nodes → a ≤ nodeCountOf nodes → a ≤ 256
+node-within nodes a s h = omega (arith, s .few)
 
 module _ (nodes ws : List ℕ) (a : ℕ) where
   pub reach-end : (h : ℕ) → a ≡ 0 → ws ≡ reachFrom h nodes ws a
@@ -35,21 +43,28 @@ module _ (nodes ws : List ℕ) (a : ℕ) where
   reach-end zero e = refl
   reach-end (suc h) e = rw (eq-eqb a 0 e)
 
-  pub reach-stop : (h : ℕ) (b : Bool) → b ≡ has ws a → b ≡ true → ws ≡ reachFrom h nodes ws a
+  pub reach-stop : (h : ℕ) (b : Bool) (vs : List ℕ) → (b ≡ has ws a) × (vs ≡ add ws a) → b ≡ true → vs ≡ reachFrom h nodes ws a
   unfolding reachFrom
-  reach-stop zero b p q = refl
-  reach-stop (suc h) b p q = rw (← p, q, or-true (a is 0))
+  reach-stop zero b vs p q = p .1 ∙ add-again ws a (sym (p .0) ∙ q)
+  reach-stop (suc h) b vs p q = let i : has ws a ≡ true = sym (p .0) ∙ q in p .1 ∙ add-again ws a i ∙ rw (i, or-true (a is 0))
 
-  pub reach-on : (h x : ℕ) (vs r : List ℕ) (b : Bool) → r ≡ reachFrom (h - 1) nodes vs x → vs ≡ add ws a → x ≡ linkWord nodes a → h ≢ 0 → a ≢ 0 → b ≡ has ws a → b ≡ false → r ≡ reachFrom h nodes ws a
+  pub reach-last : (h : ℕ) (b : Bool) (vs : List ℕ) → (b ≡ has ws a) × (vs ≡ add ws a) → b ≡ false → a ≢ 0 → h ≡ 1 → vs ≡ reachFrom h nodes ws a
   unfolding reachFrom
-  reach-on zero x vs r b p q e n z i j = absurd (n refl)
-  reach-on (suc h) x vs r b p q e n z i j = let y : suc h - 1 ≡ h = omega arith in rw (ne-eqb a 0 z, ← i, j, ← q, ← e) (rw y at p)
+  reach-last h b vs p q z e = rw (e, ne-eqb a 0 z, ← p .0, q) (p .1)
+
+  pub reach-on : (h x : ℕ) (vs r : List ℕ) (b : Bool) → r ≡ reachFrom (h - 1) nodes vs x → x ≡ linkWord nodes a → (b ≡ has ws a) × (vs ≡ add ws a) → b ≡ false → h ≢ 0 → a ≢ 0 → r ≡ reachFrom h nodes ws a
+  unfolding reachFrom
+  reach-on zero x vs r b p e q j n z = absurd (n refl)
+  reach-on (suc h) x vs r b p e q j n z = let y : suc h - 1 ≡ h = omega arith in rw (ne-eqb a 0 z, ← q .0, j, ← q .1, ← e) (rw y at p)
 
 -- ---- the seats
 pub seat-reached : (h r o p u : ℕ) (nodes seats us vs ws xs : List ℕ) → xs ≡ reachFrom h nodes ws u → ws ≡ reachFrom h nodes vs p → vs ≡ reachFrom h nodes us o
     → o ≡ seatWord seats r ownAt → p ≡ seatWord seats r prevAt → u ≡ seatWord seats r curAt → xs ≡ reachSeat h (tables nodes seats) us r
 unfolding reachSeat
 seat-reached h r o p u nodes seats us vs ws xs a b c d e f = rw (a, b, c, d, e, f)
+
+pub seat-within : (seats : List ℕ) (r c : ℕ) → r < c → c ≡ seatCountOf seats → r < seatCountOf seats
+seat-within seats r c h e = rw e at h
 
 module _ (h s : ℕ) (t : Tables) (ws : List ℕ) where
   pub seats-start : ws ≡ reachSeats h t s ws 0
@@ -95,6 +110,27 @@ module _ (t : Tables) (ws whole : List ℕ) where
 module _ (nodes seats : List ℕ) (ok : sound (tables nodes seats) ≡ true) where
   abbrev both : Tables
   both = tables nodes seats
+
+  named : Named both
+  named = sound-named both (is-sound both ok)
+
+  pub links-within : Links nodes
+  links-within = named .links
+
+  pub own-within : (r x : ℕ) → x ≡ seatWord seats r ownAt → x ≤ nodeCountOf nodes
+  own-within r x e = rw e (named .own-small r)
+
+  pub prev-within : (r x : ℕ) → x ≡ seatWord seats r prevAt → x ≤ nodeCountOf nodes
+  prev-within r x e = rw e (named .prev-small r)
+
+  pub cur-within : (r x : ℕ) → x ≡ seatWord seats r curAt → x ≤ nodeCountOf nodes
+  cur-within r x e = rw e (named .cur-small r)
+
+  pub head-within : (x : ℕ) → x ≡ linkWord nodes 0 → x ≤ nodeCountOf nodes
+  head-within x e = rw e (named .links .small 0)
+
+  pub some-hops : (n : ℕ) → n ≡ nodeCountOf nodes → n ≢ 0
+  some-hops n e z = omega (arith, is-sound both ok .some-nodes)
 
   pub few-seats : (c : ℕ) → c ≡ seatCountOf seats → c ≤ 64
   few-seats c e = omega (arith, is-sound both ok .few-seats)

@@ -1,11 +1,16 @@
 -- How the private functions gather nodes into a set, named for their contracts. No rule stands here: proofs/ ties each set to the rules
 -- of Reach and Fetch.
-use Prim.Native.Nat.{ℕ, zero, suc}
+use Prim.Native.Nat.{ℕ, zero, suc, _≤_}
 use mathlib.Core.Bool.{_||_}
 use mathlib.Core.List.{List, [], _∷_}
 use Rattle.rules.specs.Notation.{if_then_else_, _is_}
-use Rattle.rules.specs.Tables.{Tables, nodeCount, seatCount, own, prev, cur, linkWord}
+use Rattle.rules.specs.Tables.{Tables, nodeCountOf, nodeCount, seatCount, own, prev, cur, linkWord}
 use Rattle.nodesets.specs.Set.{has, add}
+
+-- every link is 0 or one of the N nodes, which are few enough for a set
+pub record Links (nodes : List ℕ) : Type 0 where
+  pub few : nodeCountOf nodes ≤ 256
+  pub small : (a : ℕ) → linkWord nodes a ≤ nodeCountOf nodes
 
 -- the nodes met from a join the set; the walk stops at a node that is in it
 unfoldable pub reachFrom : ℕ → List ℕ → List ℕ → ℕ → List ℕ

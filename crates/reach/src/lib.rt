@@ -3,68 +3,74 @@
 ghost use mathlib.Core.Path.{_≡_};
 ghost use mathlib.Core.Bool.{true};
 ghost use mathlib.Core.List.{[]};
-ghost use Rattle.rules.specs.Tables.{tables};
+ghost use mathlib.Core.Logic.{_≢_};
+ghost use Prim.Native.Nat.{_≤_, _<_};
+ghost use Rattle.rules.specs.Tables.{tables, nodeCountOf, seatCountOf};
 ghost use Rattle.rules.specs.Shape.{sound};
 ghost use Rattle.rules.specs.Reach.{lowestFree};
 ghost use Rattle.rules.specs.Fetch.{kept, takenOut};
 ghost use Rattle.nodesets.specs.Set.{none};
-ghost use Rattle.reach.specs.Walks.{reachFrom, reachSeat, reachOthers, addAll};
+ghost use Rattle.reach.specs.Walks.{Links, reachFrom, reachSeat, reachOthers, addAll};
 ghost use Rattle.reach.specs.FreeSet.{IsFreeSet};
 
 // ---- what is used
 
 // The nodes met from a join the set. The walk stops at a node that is in it, so that all walks together add each node once.
-fn reach(nodes: &[u32], ws: [u64; 4], hops: usize, a: u32) -> [u64; 4]
-    ensures { λ r. ⌜ r ≡ reachFrom hops (now (nodes .entry)) ws a ⌝ }
+// The slice is lent once for the whole walk (`&&`): a call that passes it on copies nothing, and the recursion costs what a loop does.
+fn reach(nodes: &&[u32], ws: &mut [u64; 4], hops: usize, a: u32)
+    requires { ⌜ Links (now (now nodes)) ⌝ }
+    requires { ⌜ a ≤ nodeCountOf (now (now nodes)) ⌝ }
+    requires { ⌜ hops ≢ 0 ⌝ }
+    ensures { λ r. ⌜ now (ws .exit) ≡ reachFrom hops (now (now (nodes .entry))) (now (ws .entry)) a ⌝ }
 {
-    if hops == 0 {
-        return ws;
-    }
     if a == 0 {
-        return ws;
+        return;
     }
-    if nodesets::holds(ws, a) {
-        return ws;
+    if nodesets::join(ws, a) {
+        return;
     }
-    let next = words::link(nodes, a);
-    let more = nodesets::with(ws, a);
-    reach(nodes, more, hops - 1, next)
+    if hops == 1 {
+        return;
+    }
+    let next = words::next_within(*nodes, a);
+    reach(nodes, ws, hops - 1, next);
 }
 
-fn reach_seat(nodes: &[u32], seats: &[u32], ws: [u64; 4], hops: usize, r: u32) -> [u64; 4]
-    ensures { λ a. ⌜ a ≡ reachSeat hops (tables (now (nodes .entry)) (now (seats .entry))) ws r ⌝ }
+fn reach_seat(nodes: &[u32], seats: &[u32], ws: &mut [u64; 4], hops: usize, r: u32)
+    requires { ⌜ sound (tables (now nodes) (now seats)) ≡ true ⌝ }
+    requires { ⌜ r < seatCountOf (now seats) ⌝ }
+    requires { ⌜ hops ≢ 0 ⌝ }
+    ensures { λ a. ⌜ now (ws .exit) ≡ reachSeat hops (tables (now (nodes .entry)) (now (seats .entry))) (now (ws .entry)) r ⌝ }
 {
-    let own = words::seat_word(seats, r, words::OWN);
-    let prev = words::seat_word(seats, r, words::PREV);
-    let cur = words::seat_word(seats, r, words::CUR);
-    let ws = reach(nodes, ws, hops, own);
-    let ws = reach(nodes, ws, hops, prev);
-    reach(nodes, ws, hops, cur)
+    let own = words::seat_word_within(seats, r, words::OWN);
+    let prev = words::seat_word_within(seats, r, words::PREV);
+    let cur = words::seat_word_within(seats, r, words::CUR);
+    reach(&nodes, ws, hops, own);
+    reach(&nodes, ws, hops, prev);
+    reach(&nodes, ws, hops, cur);
 }
 
 // What every seat but s reaches joins the set.
-fn reach_others(nodes: &[u32], seats: &[u32], ws: [u64; 4], s: u32) -> [u64; 4]
+fn reach_others(nodes: &[u32], seats: &[u32], ws: &mut [u64; 4], s: u32)
     requires { ⌜ sound (tables (now nodes) (now seats)) ≡ true ⌝ }
-    ensures { λ a. ⌜ a ≡ reachOthers (tables (now (nodes .entry)) (now (seats .entry))) s ws ⌝ }
+    ensures { λ a. ⌜ now (ws .exit) ≡ reachOthers (tables (now (nodes .entry)) (now (seats .entry))) s (now (ws .entry)) ⌝ }
 {
     let hops = words::node_count(nodes);
     let count = words::seat_count(seats) as u32;
-    let mut used = ws;
     let mut r: u32 = 0;
     while r < count {
         if r == s {
             r += 1;
         } else {
-            let more = reach_seat(nodes, seats, used, hops, r);
-            used = more;
+            reach_seat(nodes, seats, ws, hops, r);
             r += 1;
         }
     }
-    used
 }
 
 // The unmarked nodes on the list.
 fn kept_set(nodes: &[u32]) -> [u64; 4]
+    requires { ⌜ Links (now nodes) ⌝ }
     ensures { λ r. ⌜ r ≡ addAll none (kept (tables (now (nodes .entry)) [])) ⌝ }
 {
     let mut ws = nodesets::empty();
@@ -74,13 +80,12 @@ fn kept_set(nodes: &[u32]) -> [u64; 4]
         if cur == 0 {
             return ws;
         }
-        let next = words::link(nodes, cur);
-        if words::node_word(nodes, cur, words::MARK) == 1 {
+        let next = words::next_within(nodes, cur);
+        if words::node_word_within(nodes, cur, words::MARK) == 1 {
             cur = next;
             left -= 1;
         } else {
-            let more = nodesets::with(ws, cur);
-            ws = more;
+            nodesets::join(&mut ws, cur);
             cur = next;
             left -= 1;
         }
@@ -96,8 +101,9 @@ pub fn free_set(nodes: &[u32], seats: &[u32], s: u32) -> [u64; 4]
 {
     let n = words::node_count(nodes);
     let head = words::link(nodes, 0);
-    let listed = reach(nodes, nodesets::empty(), n, head);
-    let used = reach_others(nodes, seats, listed, s);
+    let mut used = nodesets::empty();
+    reach(&nodes, &mut used, n, head);
+    reach_others(nodes, seats, &mut used, s);
     nodesets::outside(used, n)
 }
 
@@ -108,8 +114,8 @@ fn free_set_after(nodes: &[u32], seats: &[u32], s: u32) -> [u64; 4]
     ensures { λ r. ⌜ IsFreeSet r (takenOut (tables (now (nodes .entry)) (now (seats .entry)))) s ⌝ }
 {
     let n = words::node_count(nodes);
-    let kept = kept_set(nodes);
-    let used = reach_others(nodes, seats, kept, s);
+    let mut used = kept_set(nodes);
+    reach_others(nodes, seats, &mut used, s);
     nodesets::outside(used, n)
 }
 

@@ -1,3 +1,4 @@
+-- `nodesets::count` meets its promise.
 use Rattle.nodesets.specs.Set.{members}
 use Rattle.nodesets.proofs.Set.{members-none, count-more, count-done}
 use borrow.Author.Needs.{needs}

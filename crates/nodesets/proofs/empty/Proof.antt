@@ -1,3 +1,4 @@
+-- `nodesets::empty` meets its promise.
 use Rattle.nodesets.specs.Set.{none}
 use mathlib.Core.Path.{refl}
 use Rattle.nodesets.proofs.empty.Statement.{statement}

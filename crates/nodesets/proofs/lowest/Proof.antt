@@ -1,3 +1,4 @@
+-- `nodesets::lowest` meets its promise.
 use borrow.Author.Needs.{needs}
 use Rattle.nodesets.proofs.Set.{Clear, clear-start, clear-more, lowest-found, lowest-clear}
 use Prim.Native.Nat.{_≤_, _-_}

@@ -1,3 +1,4 @@
+-- `nodesets::outside` meets its promise.
 use borrow.Author.Needs.{needs}
 use Rattle.nodesets.proofs.Set.{OutsideTo, outside-start, outside-more, outside-done}
 use lib.ListN.{length}

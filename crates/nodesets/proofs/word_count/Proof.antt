@@ -1,3 +1,4 @@
+-- `nodesets::word_count` meets its promise.
 use Rattle.nodesets.proofs.Word.{ones-count}
 use lib.Count.{ones-le}
 use native.Mathlib.Omega.{arith}

@@ -1,3 +1,4 @@
+-- `nodesets::word_lowest` meets its promise.
 use Rattle.nodesets.proofs.Word.{trailing-in, trailing-below}
 use native.Mathlib.Omega.{arith}
 use Rattle.nodesets.proofs.word_lowest.Statement.{statement}

@@ -1,3 +1,4 @@
+-- `nodesets::word_outside` meets its promise.
 use Rattle.nodesets.proofs.Word.{outside-none, outside-all, outside-some, mask-fits}
 use borrow.Author.Needs.{needs}
 use Rattle.nodesets.proofs.word_outside.Statement.{statement}

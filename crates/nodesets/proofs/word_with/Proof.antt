@@ -1,3 +1,4 @@
+-- `nodesets::word_with` meets its promise.
 use Rattle.nodesets.proofs.Word.{add-shift}
 use borrow.Author.Needs.{needs}
 use Rattle.nodesets.proofs.word_with.Statement.{statement}

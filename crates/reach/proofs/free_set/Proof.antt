@@ -1,4 +1,5 @@
-use Rattle.reach.proofs.Ways.{free-now}
+-- `reach::free_set` meets its promise.
+use Rattle.reach.proofs.Ways.{links-within, head-within, some-hops, free-now}
 use borrow.Author.Needs.{needs}
 use Rattle.reach.proofs.free_set.Statement.{statement}
 use Rattle.reach.proofs.free_set.Tie as tie
@@ -13,7 +14,7 @@ empty-requires : tie.Need-empty-requires
 empty-requires c κs = search needs
 
 reach-requires : tie.Need-reach-requires
-reach-requires c κs = search needs
+reach-requires c κs = search (links-within, head-within, some-hops)
 
 reach-others-requires : tie.Need-reach-others-requires
 reach-others-requires c κs = search needs

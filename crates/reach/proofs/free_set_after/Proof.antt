@@ -1,4 +1,5 @@
-use Rattle.reach.proofs.Ways.{free-after}
+-- `reach::free_set_after` meets its promise.
+use Rattle.reach.proofs.Ways.{links-within, free-after}
 use borrow.Author.Needs.{needs}
 use Rattle.reach.proofs.free_set_after.Statement.{statement}
 use Rattle.reach.proofs.free_set_after.Tie as tie
@@ -7,7 +8,7 @@ node-count-requires : tie.Need-node-count-requires
 node-count-requires c κs = search needs
 
 kept-set-requires : tie.Need-kept-set-requires
-kept-set-requires c κs = search needs
+kept-set-requires c κs = search links-within
 
 reach-others-requires : tie.Need-reach-others-requires
 reach-others-requires c κs = search needs

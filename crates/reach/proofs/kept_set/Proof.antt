@@ -1,17 +1,19 @@
+-- `reach::kept_set` meets its promise.
 use borrow.Author.Needs.{needs}
-use Rattle.reach.proofs.Ways.{kept-start, kept-ended, kept-spent, kept-skip, kept-join}
+use Rattle.reach.proofs.Ways.{kept-start, kept-ended, kept-spent, kept-skip, kept-join, node-within, next-small}
 use native.Mathlib.Omega.{arith}
 use Rattle.reach.specs.Walks.{addAll}
 use Rattle.nodesets.specs.Set.{none}
 use Rattle.rules.specs.Fetch.{keptFrom, kept}
-use Rattle.rules.specs.Tables.{tables}
+use Rattle.rules.specs.Tables.{tables, nodeCountOf}
+use Prim.Native.Nat.{_≤_}
 use mathlib.Core.List.{[]}
 use mathlib.Core.Path.{_≡_}
 use Rattle.reach.proofs.kept_set.Statement.{statement}
 use Rattle.reach.proofs.kept_set.Tie as tie
 
 abbrev Inv-loop : tie.InvT-loop
-Inv-loop nodes ws₀ left₀ cur₀ ws left cur = addAll ws (keptFrom left (tables nodes []) cur) ≡ addAll none (kept (tables nodes []))
+Inv-loop nodes ws₀ left₀ cur₀ ws left cur = (cur ≤ nodeCountOf nodes) × (addAll ws (keptFrom left (tables nodes []) cur) ≡ addAll none (kept (tables nodes [])))
 
 abbrev μ-loop : tie.MeasureT-loop
 μ-loop nodes ws₀ left₀ cur₀ ws left cur = left
@@ -26,16 +28,16 @@ link-requires : tie.Need-link-requires Inv-loop μ-loop
 link-requires c κs = search needs
 
 loop-holds : tie.Need-loop-holds Inv-loop μ-loop
-loop-holds c = search kept-start
+loop-holds c = (search next-small, search kept-start)
 
 returns : tie.Need-returns Inv-loop μ-loop
 returns c = search kept-ended
 
-link-requires-2 : tie.Need-link-requires-2 Inv-loop μ-loop
-link-requires-2 c κs = search needs
+next-within-requires : tie.Need-next-within-requires Inv-loop μ-loop
+next-within-requires c κs = search needs
 
-node-word-requires : tie.Need-node-word-requires Inv-loop μ-loop
-node-word-requires c κs = search needs
+node-word-within-requires : tie.Need-node-word-within-requires Inv-loop μ-loop
+node-word-within-requires c κs = search needs
 
 sub-left : tie.Need-sub-left Inv-loop μ-loop
 sub-left c = omega arith
@@ -44,10 +46,10 @@ loop-less : tie.Need-loop-less Inv-loop μ-loop
 loop-less c = omega arith
 
 loop-again : tie.Need-loop-again Inv-loop μ-loop
-loop-again c = search kept-skip
+loop-again c = (search next-small, search kept-skip)
 
-with-requires : tie.Need-with-requires Inv-loop μ-loop
-with-requires c κs = search needs
+join-requires : tie.Need-join-requires Inv-loop μ-loop
+join-requires c κs = search node-within
 
 sub-left-2 : tie.Need-sub-left-2 Inv-loop μ-loop
 sub-left-2 c = omega arith
@@ -56,7 +58,7 @@ loop-less-2 : tie.Need-loop-less-2 Inv-loop μ-loop
 loop-less-2 c = omega arith
 
 loop-again-2 : tie.Need-loop-again-2 Inv-loop μ-loop
-loop-again-2 c = search kept-join
+loop-again-2 c = (search next-small, search kept-join)
 
 returns-2 : tie.Need-returns-2 Inv-loop μ-loop
 returns-2 c = search kept-spent
@@ -72,12 +74,12 @@ kept-set-spec =
     link-requires
     loop-holds
     returns
-    link-requires-2
-    node-word-requires
+    next-within-requires
+    node-word-within-requires
     sub-left
     loop-less
     loop-again
-    with-requires
+    join-requires
     sub-left-2
     loop-less-2
     loop-again-2

@@ -1,3 +1,4 @@
+-- `reach::lowest_free` meets its promise.
 use Rattle.reach.proofs.Ways.{lowest-read}
 use borrow.Author.Needs.{needs}
 use Rattle.reach.proofs.lowest_free.Statement.{statement}

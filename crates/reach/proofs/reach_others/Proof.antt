@@ -1,6 +1,6 @@
-use Rattle.reach.proofs.Ways.{seats-fit}
+-- `reach::reach_others` meets its promise.
 use borrow.Author.Needs.{needs}
-use Rattle.reach.proofs.Ways.{few-seats, seats-start, seats-pass, seats-join, seats-done}
+use Rattle.reach.proofs.Ways.{some-hops, seat-within, seats-fit, few-seats, seats-start, seats-pass, seats-join, seats-done}
 use Rattle.reach.specs.Walks.{reachSeats}
 use native.Mathlib.Omega.{arith}
 use Rattle.rules.specs.Tables.{tables}
@@ -10,10 +10,10 @@ use Rattle.reach.proofs.reach_others.Statement.{statement}
 use Rattle.reach.proofs.reach_others.Tie as tie
 
 abbrev Inv-loop : tie.InvT-loop
-Inv-loop nodes seats s hops count used₀ r₀ used r = (count ≤ 64) × (r ≤ count) × (used ≡ reachSeats hops (tables nodes seats) s used₀ r)
+Inv-loop nodes seats ws₀ s hops count r₀ ws r = (count ≤ 64) × (r ≤ count) × (ws ≡ reachSeats hops (tables nodes seats) s ws₀ r)
 
 abbrev μ-loop : tie.MeasureT-loop
-μ-loop nodes seats s hops count used₀ r₀ used r = count - r
+μ-loop nodes seats ws₀ s hops count r₀ ws r = count - r
 
 node-count-requires : tie.Need-node-count-requires Inv-loop μ-loop
 node-count-requires c κs = search needs
@@ -37,7 +37,7 @@ loop-again : tie.Need-loop-again Inv-loop μ-loop
 loop-again c = (omega arith, omega arith, search seats-pass)
 
 reach-seat-requires : tie.Need-reach-seat-requires Inv-loop μ-loop
-reach-seat-requires c κs = search needs
+reach-seat-requires c κs = search (some-hops, seat-within)
 
 add-r-2 : tie.Need-add-r-2 Inv-loop μ-loop
 add-r-2 c = omega arith
@@ -46,7 +46,7 @@ loop-less-2 : tie.Need-loop-less-2 Inv-loop μ-loop
 loop-less-2 c = omega arith
 
 loop-again-2 : tie.Need-loop-again-2 Inv-loop μ-loop
-loop-again-2 c = (omega arith, omega arith, seats-join _ _ _ _ _ _ _ (c .reach-seat .ensures) (c .before .before .before .loop .inv .2) (c .before .if1 .left))
+loop-again-2 c = (omega arith, omega arith, search seats-join)
 
 returns : tie.Need-returns Inv-loop μ-loop
 returns c = search seats-done

@@ -1,36 +1,37 @@
-use Rattle.reach.proofs.Ways.{seat-reached}
+-- `reach::reach_seat` meets its promise.
+use Rattle.reach.proofs.Ways.{links-within, own-within, prev-within, cur-within, seat-reached}
 use borrow.Author.Needs.{needs}
 use Rattle.reach.proofs.reach_seat.Statement.{statement}
 use Rattle.reach.proofs.reach_seat.Tie as tie
 
-seat-word-requires : tie.Need-seat-word-requires
-seat-word-requires c κs = search needs
+seat-word-within-requires : tie.Need-seat-word-within-requires
+seat-word-within-requires c κs = search needs
 
-seat-word-requires-2 : tie.Need-seat-word-requires-2
-seat-word-requires-2 c κs = search needs
+seat-word-within-requires-2 : tie.Need-seat-word-within-requires-2
+seat-word-within-requires-2 c κs = search needs
 
-seat-word-requires-3 : tie.Need-seat-word-requires-3
-seat-word-requires-3 c κs = search needs
+seat-word-within-requires-3 : tie.Need-seat-word-within-requires-3
+seat-word-within-requires-3 c κs = search needs
 
 reach-requires : tie.Need-reach-requires
-reach-requires c κs = search needs
+reach-requires c κs = search (links-within, own-within, prev-within, cur-within)
 
 reach-requires-2 : tie.Need-reach-requires-2
-reach-requires-2 c κs = search needs
+reach-requires-2 c κs = search (links-within, own-within, prev-within, cur-within)
 
 reach-requires-3 : tie.Need-reach-requires-3
-reach-requires-3 c κs = search needs
+reach-requires-3 c κs = search (links-within, own-within, prev-within, cur-within)
 
 returns : tie.Need-returns
-returns c = search seat-reached
+returns c = seat-reached _ _ _ _ _ _ _ _ _ _ _ (c .reach3 .ensures) (c .before .before .before .reach2 .ensures) (c .before .before .before .before .before .before .reach .ensures) (c .before .before .before .before .before .before .before .before .before .before .before .seat-word-within .ensures) (c .before .before .before .before .before .before .before .before .before .before .seat-word-within2 .ensures) (c .before .before .before .before .before .before .before .before .before .seat-word-within3 .ensures)
 
 pub reach-seat-spec : {M : Type 1} → statement M
 reach-seat-spec =
     tie.close
     (tie.spec
-    seat-word-requires
-    seat-word-requires-2
-    seat-word-requires-3
+    seat-word-within-requires
+    seat-word-within-requires-2
+    seat-word-within-requires-3
     reach-requires
     reach-requires-2
     reach-requires-3
