@@ -6,7 +6,8 @@ use mathlib.Core.List.{List, []}
 use mathlib.Core.Logic.{_≢_}
 use native.Mathlib.Omega.{arith}
 use native.Mathlib.Numerals.{add-one}
-use borrow.Author.Tests.{eq-eqb, ne-eqb}
+use lib.Dec.{eqb}
+use borrow.Author.Tests.{eq-eqb, ne-eqb, eqb-true}
 use mir.Syntax.{w32}
 use mir.Val.{Fits}
 use Rattle.rules.specs.Notation.{_is_, _<?_, lowest}
@@ -14,6 +15,7 @@ use Rattle.rules.specs.Tables.{Tables, tables, ownAt, prevAt, curAt, markAt, no
 use Rattle.rules.specs.Shape.{sound}
 use Rattle.rules.specs.Reach.{free, lowestFree}
 use Rattle.rules.specs.Fetch.{keptFrom, kept, takenOut}
+use Rattle.rules.proofs.Logic.{both}
 use Rattle.rules.proofs.Shape.{is-sound}
 use Rattle.nodesets.specs.Set.{has, none, add}
 use Rattle.nodesets.proofs.Counting.{lowest-cut}
@@ -63,6 +65,13 @@ pub seat-reached : (h r o p u : ℕ) (nodes seats us vs ws xs : List ℕ) → xs
 unfolding reachSeat
 seat-reached h r o p u nodes seats us vs ws xs a b c d e f = rw (a, b, c, d, e, f)
 
+-- a seat that holds or has withdrawn stands nowhere
+pub seat-resting : (h r o p u : ℕ) (nodes seats us vs : List ℕ) → vs ≡ reachFrom h nodes us o → o ≡ seatWord seats r ownAt → p ≡ seatWord seats r prevAt → u ≡ seatWord seats r curAt → (eqb p 0 && eqb u 0) ≡ true → vs ≡ reachSeat h (tables nodes seats) us r
+seat-resting h r o p u nodes seats us vs a b c d e =
+    let w = both (eqb p 0) (eqb u 0) e in
+    let q = reach-end nodes vs p h (eqb-true p 0 (w .0)) in
+    seat-reached h r o p u nodes seats us vs vs vs (reach-end nodes vs u h (eqb-true u 0 (w .1))) q a b c d
+
 pub seat-within : (seats : List ℕ) (r c : ℕ) → r < c → c ≡ seatCountOf seats → r < seatCountOf seats
 seat-within seats r c h e = rw e at h
 
@@ -108,11 +117,11 @@ module _ (t : Tables) (ws whole : List ℕ) where
 
 -- ---- the free set of sound tables, and what is read off it
 module _ (nodes seats : List ℕ) (ok : sound (tables nodes seats) ≡ true) where
-  abbrev both : Tables
-  both = tables nodes seats
+  abbrev whole : Tables
+  whole = tables nodes seats
 
-  named : Named both
-  named = sound-named both (is-sound both ok)
+  named : Named whole
+  named = sound-named whole (is-sound whole ok)
 
   pub links-within : Links nodes
   links-within = named .links
@@ -130,25 +139,25 @@ module _ (nodes seats : List ℕ) (ok : sound (tables nodes seats) ≡ true) whe
   head-within x e = rw e (named .links .small 0)
 
   pub some-hops : (n : ℕ) → n ≡ nodeCountOf nodes → n ≢ 0
-  some-hops n e z = omega (arith, is-sound both ok .some-nodes)
+  some-hops n e z = omega (arith, is-sound whole ok .some-nodes)
 
   pub few-seats : (c : ℕ) → c ≡ seatCountOf seats → c ≤ 64
-  few-seats c e = omega (arith, is-sound both ok .few-seats)
+  few-seats c e = omega (arith, is-sound whole ok .few-seats)
 
   pub seats-fit : (c : ℕ) → c ≡ seatCountOf seats → Fits w32 c
   seats-fit c e = let h = few-seats c e in omega arith
 
-  pub free-now : (ws us vs es : List ℕ) (n a s : ℕ) → ((m : ℕ) → m < 256 → has ws (m + 1) ≡ (m <? n && not (has us (m + 1)))) → us ≡ reachOthers both s vs → vs ≡ reachFrom n nodes es a → es ≡ none → n ≡ nodeCountOf nodes → a ≡ linkWord nodes 0 → IsFreeSet ws both s
+  pub free-now : (ws us vs es : List ℕ) (n a s : ℕ) → ((m : ℕ) → m < 256 → has ws (m + 1) ≡ (m <? n && not (has us (m + 1)))) → us ≡ reachOthers whole s vs → vs ≡ reachFrom n nodes es a → es ≡ none → n ≡ nodeCountOf nodes → a ≡ linkWord nodes 0 → IsFreeSet ws whole s
   free-now ws us vs es n a s f p q e b d =
-      let w = is-sound both ok in
-      record { few = w .few-nodes; free-nodes = λ m h. f m h ∙ rw (p, q, e, b, d, used-free both (sound-named both w) s (m + 1)) }
+      let w = is-sound whole ok in
+      record { few = w .few-nodes; free-nodes = λ m h. f m h ∙ rw (p, q, e, b, d, used-free whole (sound-named whole w) s (m + 1)) }
 
-  pub free-after : (ws us vs : List ℕ) (n s : ℕ) → ((m : ℕ) → m < 256 → has ws (m + 1) ≡ (m <? n && not (has us (m + 1)))) → us ≡ reachOthers both s vs → vs ≡ addAll none (kept (tables nodes [])) → n ≡ nodeCountOf nodes → IsFreeSet ws (takenOut both) s
+  pub free-after : (ws us vs : List ℕ) (n s : ℕ) → ((m : ℕ) → m < 256 → has ws (m + 1) ≡ (m <? n && not (has us (m + 1)))) → us ≡ reachOthers whole s vs → vs ≡ addAll none (kept (tables nodes [])) → n ≡ nodeCountOf nodes → IsFreeSet ws (takenOut whole) s
   free-after ws us vs n s f p q b =
-      let w = is-sound both ok in
+      let w = is-sound whole ok in
       record {
-        few = rw (after-count both w) (w .few-nodes);
-        free-nodes = λ m h. f m h ∙ rw (p, q, b, kept-alone nodes seats, after-free both w s (m + 1), after-count both w);
+        few = rw (after-count whole w) (w .few-nodes);
+        free-nodes = λ m h. f m h ∙ rw (p, q, b, kept-alone nodes seats, after-free whole w s (m + 1), after-count whole w);
       }
 
 pub lowest-read : (ws : List ℕ) (t : Tables) (s r : ℕ) → r ≡ lowest 256 (has ws) → IsFreeSet ws t s → r ≡ lowestFree t s

@@ -46,16 +46,19 @@ fn reach_seat(nodes: &[u32], seats: &[u32], ws: &mut [u64; 4], hops: usize, r: u
     let prev = words::seat_word_within(seats, r, words::PREV);
     let cur = words::seat_word_within(seats, r, words::CUR);
     reach(&nodes, ws, hops, own);
+    if (prev == 0) & (cur == 0) {
+        return;
+    }
     reach(&nodes, ws, hops, prev);
     reach(&nodes, ws, hops, cur);
 }
 
 // What every seat but s reaches joins the set.
-fn reach_others(nodes: &[u32], seats: &[u32], ws: &mut [u64; 4], s: u32)
+fn reach_others(nodes: &[u32], seats: &[u32], ws: &mut [u64; 4], hops: usize, s: u32)
     requires { ⌜ sound (tables (now nodes) (now seats)) ≡ true ⌝ }
+    requires { ⌜ hops ≡ nodeCountOf (now nodes) ⌝ }
     ensures { λ a. ⌜ now (ws .exit) ≡ reachOthers (tables (now (nodes .entry)) (now (seats .entry))) s (now (ws .entry)) ⌝ }
 {
-    let hops = words::node_count(nodes);
     let count = words::seat_count(seats) as u32;
     let mut r: u32 = 0;
     while r < count {
@@ -103,7 +106,7 @@ pub fn free_set(nodes: &[u32], seats: &[u32], s: u32) -> [u64; 4]
     let head = words::link(nodes, 0);
     let mut used = nodesets::empty();
     reach(&nodes, &mut used, n, head);
-    reach_others(nodes, seats, &mut used, s);
+    reach_others(nodes, seats, &mut used, n, s);
     nodesets::outside(used, n)
 }
 
@@ -115,7 +118,7 @@ fn free_set_after(nodes: &[u32], seats: &[u32], s: u32) -> [u64; 4]
 {
     let n = words::node_count(nodes);
     let mut used = kept_set(nodes);
-    reach_others(nodes, seats, &mut used, s);
+    reach_others(nodes, seats, &mut used, n, s);
     nodesets::outside(used, n)
 }
 

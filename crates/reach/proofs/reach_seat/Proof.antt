@@ -1,5 +1,5 @@
 -- `reach::reach_seat` meets its promise.
-use Rattle.reach.proofs.Ways.{links-within, own-within, prev-within, cur-within, seat-reached}
+use Rattle.reach.proofs.Ways.{links-within, own-within, prev-within, cur-within, seat-reached, seat-resting}
 use borrow.Author.Needs.{needs}
 use Rattle.reach.proofs.reach_seat.Statement.{statement}
 use Rattle.reach.proofs.reach_seat.Tie as tie
@@ -16,14 +16,17 @@ seat-word-within-requires-3 c κs = search needs
 reach-requires : tie.Need-reach-requires
 reach-requires c κs = search (links-within, own-within, prev-within, cur-within)
 
+returns : tie.Need-returns
+returns c = search seat-resting
+
 reach-requires-2 : tie.Need-reach-requires-2
 reach-requires-2 c κs = search (links-within, own-within, prev-within, cur-within)
 
 reach-requires-3 : tie.Need-reach-requires-3
 reach-requires-3 c κs = search (links-within, own-within, prev-within, cur-within)
 
-returns : tie.Need-returns
-returns c = seat-reached _ _ _ _ _ _ _ _ _ _ _ (c .reach3 .ensures) (c .before .before .before .reach2 .ensures) (c .before .before .before .before .before .before .reach .ensures) (c .before .before .before .before .before .before .before .before .before .before .before .seat-word-within .ensures) (c .before .before .before .before .before .before .before .before .before .before .seat-word-within2 .ensures) (c .before .before .before .before .before .before .before .before .before .seat-word-within3 .ensures)
+returns-2 : tie.Need-returns-2
+returns-2 c = seat-reached _ _ _ _ _ _ _ _ _ _ _ (c .reach3 .ensures) (c .before .before .before .reach2 .ensures) (c .before .before .before .before .before .before .before .reach .ensures) (c .before .before .before .before .before .before .before .before .before .before .before .before .seat-word-within .ensures) (c .before .before .before .before .before .before .before .before .before .before .before .seat-word-within2 .ensures) (c .before .before .before .before .before .before .before .before .before .before .seat-word-within3 .ensures)
 
 pub reach-seat-spec : {M : Type 1} → statement M
 reach-seat-spec =
@@ -33,6 +36,7 @@ reach-seat-spec =
     seat-word-within-requires-2
     seat-word-within-requires-3
     reach-requires
+    returns
     reach-requires-2
     reach-requires-3
-    returns)
+    returns-2)
