@@ -42,6 +42,10 @@ uint64_t soodhiqune_board(const uint32_t *nodes, size_t node_words, const uint32
 /* 1 in the upper 32 bits and the number of free nodes in the lower; or refused 1. */
 uint64_t soodhiqune_free_count(const uint32_t *nodes, size_t node_words, const uint32_t *seats, size_t seat_words);
 
+/* The numbers of a script, into 5,003 words: N, S, K, then five for each of 1,000 rows (a code: b 1, s 2, r 3; seat, start, end, kind), 0
+ * where the script has none. 0; or 10 in the upper 32 bits and the first wrong line in the lower (0 if too long), the words as found. */
+uint64_t soodhiqune_read(const uint8_t *script, size_t bytes, uint32_t *numbers);
+
 /* What the program prints for a script, into a buffer of 32,768 bytes; the number of bytes, at most 26,986. */
 uint64_t soodhiqune_play(const uint8_t *script, size_t bytes, uint8_t *out);
 

@@ -123,3 +123,16 @@ pub fn board(nodes: &[u32], seats: &[u32], rows: &mut [u32]) -> Result<(u32, u64
 pub fn free_count(nodes: &[u32], seats: &[u32]) -> Result<u32, Refused> {
     count(proved::free_count(nodes, seats))
 }
+
+/// A script that is not well formed: the first wrong line from 1, or 0 if it is too long.
+#[derive(Clone, Copy, Debug, PartialEq, Eq)]
+pub struct Bad(pub u32);
+
+/// The numbers of a script: N, S, K, then five for each of 1,000 rows, a code (b 1, s 2, r 3), seat, start, end and kind; 0 where the
+/// script has none. Of a script that is not well formed the numbers stay as they were.
+pub fn read(script: &[u8], numbers: &mut [u32; 5003]) -> Result<(), Bad> {
+    match proved::read(script, numbers) {
+        0 => Ok(()),
+        word => Err(Bad(lower(word))),
+    }
+}

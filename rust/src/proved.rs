@@ -18,6 +18,7 @@ mod archive {
         pub fn soodhiqune_run(nodes: &mut [u32], seats: &mut [u32], entries: &[u32], budget: u32) -> u64;
         pub fn soodhiqune_board(nodes: &[u32], seats: &[u32], rows: &mut [u32], covered: &mut u64) -> u64;
         pub fn soodhiqune_free_count(nodes: &[u32], seats: &[u32]) -> u64;
+        pub fn soodhiqune_read(bytes: &[u8], numbers: &mut [u32; 5003]) -> u64;
     }
 }
 
@@ -49,4 +50,8 @@ pub fn board(nodes: &[u32], seats: &[u32], rows: &mut [u32], covered: &mut u64) 
 
 pub fn free_count(nodes: &[u32], seats: &[u32]) -> u64 {
     unsafe { archive::soodhiqune_free_count(nodes, seats) }
+}
+
+pub fn read(bytes: &[u8], numbers: &mut [u32; 5003]) -> u64 {
+    unsafe { archive::soodhiqune_read(bytes, numbers) }
 }

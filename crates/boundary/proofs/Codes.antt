@@ -1,5 +1,13 @@
 -- What each call gives as a number, from what it gives as a value: one law for each way through the code.
-use Prim.Native.Nat.{ℕ, _+_, _*_, _≤_}
+use Prim.Native.Nat.{ℕ, zero, suc, _+_, _*_, _≤_}
+use mathlib.Core.Logic.{_≢_}
+use native.Mathlib.Numerals.{add-one}
+use lib.ListN.{getD, set, length, length-set}
+use borrow.Author.Tests.{ne-eqb}
+use Rattle.rules.specs.Script.{noLine, readScript}
+use Rattle.script.proofs.Bounds.{read-bounded}
+use Rattle.rules.specs.declared.Line.{Line}
+use Rattle.rules.specs.declared.Script.{Script}
 use mathlib.Core.Path.{_≡_, refl, sym, ap, _∙_}
 use mathlib.Core.List.{List}
 use native.Mathlib.Omega.{arith}
@@ -16,7 +24,7 @@ use Rattle.rules.specs.declared.BoardReply.{BoardReply}
 use Rattle.rules.specs.declared.BoardReply.the-variants.{Rows, Refused as BoardRefused}
 use Rattle.rules.specs.declared.Ran.{Ran}
 use Rattle.replies.specs.Codes.{codeOf, numberOf}
-use Rattle.boundary.specs.Encoded.{upper, encode, encodeCount, encodeRan, encoded, encodedRun, Told, told, tellAnswer, tell}
+use Rattle.boundary.specs.Encoded.{upper, encode, encodeCount, encodeRan, encoded, encodedRun, Told, told, tellAnswer, tell, putLine, linesAfter, scriptNumbers, readAs, encodeScript}
 
 -- ---- an answer
 pub few-codes : (r : Reply) (code : ℕ) → code ≡ codeOf r → code ≤ 6
@@ -61,3 +69,46 @@ module _ (d : Shown ℕ) (r : BoardReply) (rows : List ℕ) (covered : ℕ) (isS
   pub told-refused : (number : ℕ) → r ≡ BoardRefused number → told number covered rows ≡ tell covered d
   unfolding tellAnswer
   told-refused number q = rw (← isShown, q)
+
+-- ---- script reading
+lines-more : (l : List ℕ) (rows : List Line) (n : ℕ) → linesAfter (n + 1) l rows ≡ putLine (linesAfter n l rows) (3 + 5 * n) (getD rows n noLine)
+unfolding linesAfter
+lines-more l rows n = rw (add-one n)
+
+pub lines-none : (l : List ℕ) (rows : List Line) → l ≡ linesAfter 0 l rows
+unfolding linesAfter
+lines-none l rows = refl
+
+pub lines-again : (l m m′ : List ℕ) (rows : List Line) (n : ℕ) (line : Line) → m ≡ linesAfter n l rows → m′ ≡ putLine m (3 + 5 * n) line → line ≡ getD rows n noLine → m′ ≡ linesAfter (n + 1) l rows
+lines-again l m m′ rows n line p q e = q ∙ rw (p, e) (sym (lines-more l rows n))
+
+pub lines-done : (l m : List ℕ) (rows : List Line) (n : ℕ) → m ≡ linesAfter n l rows → 1000 ≤ n → n ≤ 1000 → m ≡ linesAfter 1000 l rows
+lines-done l m rows n p h i = let e : n ≡ 1000 = omega arith in rw e at p
+
+module _ (script : Script) (lent : List ℕ) where
+  pub script-is : (m : List ℕ) → m ≡ linesAfter 1000 (set (set (set lent 0 (script .n)) 1 (script .s)) 2 (script .k)) (script .rows) → m ≡ scriptNumbers script lent
+  unfolding scriptNumbers
+  script-is m p = p
+
+  pub read-good : (read : Script) (m : List ℕ) → m ≡ scriptNumbers script lent → script ≡ read → script .refusal ≡ 0 → readAs 0 m ≡ encodeScript read lent
+  unfolding encodeScript scriptNumbers
+  read-good read m p q e = rw (← q, e) (ap (readAs 0) p)
+
+  pub read-bad : (read : Script) → script ≡ read → script .refusal ≢ 0 → readAs (4294967296 * script .refusal + script .wrong) lent ≡ encodeScript read lent
+  unfolding encodeScript
+  read-bad read q d = rw (← q, ne-eqb (script .refusal) 0 d)
+
+put-line-length : (l : List ℕ) (at : ℕ) (line : Line) → length (putLine l at line) ≡ length l
+unfolding putLine
+put-line-length l at line = simp length-set
+
+lines-length : (n : ℕ) (l : List ℕ) (rows : List Line) → length (linesAfter n l rows) ≡ length l
+unfolding linesAfter
+lines-length zero l rows = refl
+lines-length (suc n) l rows = put-line-length (linesAfter n l rows) (3 + 5 * n) (getD rows n noLine) ∙ lines-length n l rows
+
+pub script-length : (l m : List ℕ) (rows : List Line) (a b d : ℕ) → m ≡ linesAfter 1000 (set (set (set l 0 a) 1 b) 2 d) rows → length m ≡ length l
+script-length l m rows a b d p = ap length p ∙ lines-length 1000 (set (set (set l 0 a) 1 b) 2 d) rows ∙ simp length-set
+
+pub thousand-rows : (src : List ℕ) (script : Script) → script ≡ readScript src → length (script .rows) ≡ 1000
+thousand-rows src script e = rw e (read-bounded src .rows)

@@ -1,8 +1,9 @@
 // The public calls for C and Rust to link: over numbers and slices alone, each answer encoded as one number. A slice crosses as its address
 // and its length.
 ghost use mathlib.Core.Path.{_≡_};
-ghost use Prim.Native.Nat.{_+_};
-ghost use lib.ListN.{take, drop};
+ghost use Prim.Native.Nat.{_+_, _≤_};
+ghost use lib.ListN.{length, take, drop};
+ghost use Rattle.rules.specs.Script.{readScript};
 ghost use Rattle.rules.specs.Tables.{tables};
 ghost use Rattle.rules.specs.Comparison.{claim};
 ghost use Rattle.rules.specs.Answers.{done};
@@ -12,11 +13,13 @@ ghost use Rattle.rules.specs.FreeCount.{freeCount};
 ghost use Rattle.rules.specs.Run as running;
 ghost use Rattle.rules.specs.Board.{boardNumbers};
 ghost use Rattle.rules.specs.Play.{play as Play·play};
-ghost use Rattle.boundary.specs.Encoded.{encode, encodeCount, encodeRan, encoded, encodedRun, told, tell};
+ghost use Rattle.boundary.specs.Encoded.{encode, encodeCount, encodeRan, encoded, encodedRun, told, tell, putLine, linesAfter, scriptNumbers, readAs, encodeScript};
 use rules::BoardReply;
 use rules::CountReply;
+use rules::Line;
 use rules::Ran;
 use rules::Reply;
+use rules::Script;
 
 // ---- answers as numbers
 
@@ -140,4 +143,61 @@ pub extern "C" fn soodhiqune_play(script: &[u8], out: &mut [u8; 32768]) -> u64
     ensures { λ r. ⌜ drop r (now (out .exit)) ≡ drop r (now (out .entry)) ⌝ }
 {
     playing::play(script, out) as u64
+}
+
+// ---- script reading: the numbers of a script in a lent list: N, S, K, then five for each of the 1,000 rows
+
+fn put_line(numbers: &mut [u32], at: usize, line: Line)
+    requires { ⌜ at + 5 ≤ length (now numbers) ⌝ }
+    ensures { λ r. ⌜ now (numbers .exit) ≡ putLine (now (numbers .entry)) at line ⌝ }
+{
+    numbers[at] = line.code;
+    numbers[at + 1] = line.seat;
+    numbers[at + 2] = line.start;
+    numbers[at + 3] = line.end;
+    numbers[at + 4] = line.kind;
+}
+
+fn put_lines(numbers: &mut [u32], script: Script)
+    requires { ⌜ length (now numbers) ≡ 5003 ⌝ }
+    requires { ⌜ length (script .rows) ≡ 1000 ⌝ }
+    ensures { λ r. ⌜ now (numbers .exit) ≡ linesAfter 1000 (now (numbers .entry)) (script .rows) ⌝ }
+{
+    let mut i: usize = 0;
+    while i < 1000 {
+        let line = script.rows[i];
+        put_line(numbers, 3 + 5 * i, line);
+        i += 1;
+    }
+}
+
+fn put_script(numbers: &mut [u32], script: Script)
+    requires { ⌜ length (now numbers) ≡ 5003 ⌝ }
+    requires { ⌜ length (script .rows) ≡ 1000 ⌝ }
+    ensures { λ r. ⌜ now (numbers .exit) ≡ scriptNumbers script (now (numbers .entry)) ⌝ }
+{
+    numbers[0] = script.n;
+    numbers[1] = script.s;
+    numbers[2] = script.k;
+    put_lines(numbers, script);
+}
+
+fn read_into(bytes: &[u8], numbers: &mut [u32]) -> u64
+    requires { ⌜ length (now numbers) ≡ 5003 ⌝ }
+    ensures { λ r. ⌜ readAs r (now (numbers .exit)) ≡ encodeScript (readScript (now (bytes .entry))) (now (numbers .entry)) ⌝ }
+{
+    let script = script::read(bytes);
+    let refusal = script.refusal;
+    if refusal == 0 {
+        put_script(numbers, script);
+        return 0;
+    }
+    4294967296 * refusal as u64 + script.wrong as u64
+}
+
+#[no_mangle]
+pub extern "C" fn soodhiqune_read(bytes: &[u8], numbers: &mut [u32; 5003]) -> u64
+    ensures { λ r. ⌜ readAs r (now (numbers .exit)) ≡ encodeScript (readScript (now (bytes .entry))) (now (numbers .entry)) ⌝ }
+{
+    read_into(bytes, numbers)
 }

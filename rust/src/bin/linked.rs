@@ -33,6 +33,10 @@ fn main() {
     check("no such seat", release(&mut nodes, &mut seats, 3) == Err(Refused(2)));
     let stopped = Ran { steps: 1, refusal: Some(Refused(6)) };
     check("an idle seat stops a run", run(&mut nodes, &mut seats, &[1, 0, 1], 9) == stopped);
+    let mut numbers = [9; 5003];
+    check("a bad line", read(b"4 3 1\ns 00\n", &mut numbers) == Err(Bad(2)) && numbers == [9; 5003]);
+    check("a good script", read(b"4 3 2\nb 0 10 20 2\ns 0\n", &mut numbers) == Ok(()));
+    check("its numbers", numbers[..13] == [4, 3, 2, 1, 0, 10, 20, 2, 2, 0, 0, 0, 0] && numbers[13..] == [0; 4990]);
     println!("{passed} passed, {failed} failed");
     std::process::exit(i32::from(failed != 0));
 }
