@@ -17,7 +17,7 @@ use Rattle.nodesets.specs.Set.{has, members}
 use Rattle.nodesets.proofs.Counting.{count-cut}
 use Rattle.reach.specs.FreeSet.{IsFreeSet}
 use Rattle.reach.proofs.TakingOut.{Going, going-end, going-left, going-skip, going-keep}
-use Rattle.reach.proofs.NodesAlone.{ends-alone, taken-out-alone}
+use Rattle.rules.proofs.NodesAlone.{ends-alone, taken-out-alone}
 
 -- ---- taking out
 module _ (whole t : Tables) (prev cur : ℕ) where

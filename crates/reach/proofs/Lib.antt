@@ -2,5 +2,4 @@ pub mod Walk
 pub mod Used
 pub mod TakingOut
 pub mod After
-pub mod NodesAlone
 pub mod Ways

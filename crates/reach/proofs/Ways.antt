@@ -24,7 +24,7 @@ use Rattle.reach.specs.Walks.{Links, reachFrom, reachSeat, reachSeats, r
 use Rattle.reach.specs.FreeSet.{IsFreeSet}
 use Rattle.reach.proofs.Used.{Named, sound-named, used-free}
 use Rattle.reach.proofs.TakingOut.{kept-end, kept-in, kept-out}
-use Rattle.reach.proofs.NodesAlone.{kept-alone}
+use Rattle.rules.proofs.NodesAlone.{kept-alone}
 use Rattle.reach.proofs.After.{after-count, after-free}
 
 -- ---- reach

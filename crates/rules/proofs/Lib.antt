@@ -3,6 +3,7 @@ pub mod Histories
 pub mod Logic
 pub mod Words
 pub mod Shape
+pub mod NodesAlone
 pub mod Refused
 pub mod OneAnswer
 -- what the theory stands on: following links, the view of the tables, the invariant

@@ -1,20 +1,22 @@
--- A step keeps sound shape in any sound tables, reached or not, unless it is the one that links own in; and so do begin and release.
-use Prim.Native.Nat.{ℕ, _≤_, _<_}
-use mathlib.Core.Path.{_≡_, refl, sym}
+-- A step keeps sound shape in any sound tables, reached or not, and so do begin and release. Only the step that links own in can break
+-- a clause, and only the last one: in tables that no calls have made, own may be on the list already.
+use Prim.Native.Nat.{ℕ, _+_, _*_, _≤_, _<_}
+use mathlib.Core.Path.{_≡_, refl, sym, _∙_, subst}
 use mathlib.Core.Bool.{true, _||_}
 use mathlib.Core.Logic.{_≢_, _⊎_, inl, inr}
 use native.Mathlib.Omega.{arith}
+use lib.ListN.{length}
 use Rattle.rules.specs.Notation.{_is_}
-use Rattle.rules.specs.Tables.{Tables, nodeCount, seatCount, phaseAt, link, next, head, phase, own, prev, cur, setLink, setMark, setPhase, setPrev, setCur}
+use Rattle.rules.specs.Tables.{Tables, beforeNodes, nodeWidth, putLink, nodeCount, seatCount, phaseAt, link, next, head, phase, own, prev, cur, setLink, setMark, setPhase, setPrev, setCur}
 use Rattle.rules.specs.Comparison.{Claim, claimOf}
-use Rattle.rules.specs.Shape.{sound}
+use Rattle.rules.specs.Shape.{endsWithin, sound}
 use Rattle.rules.specs.Reach.{met, listed, othersReach, free, lowestFree}
 use Rattle.rules.specs.Fetch.{Fetched, writeClaim, enterAtHead, takeNode, takenOut}
 use Rattle.rules.specs.Answers.{Answer, Done}
 use Rattle.rules.specs.Steps.{linkIn, pass, hold, withdraw, leave, refetched}
 use Rattle.rules.specs.Calls.{begun, begin, step, release}
 use Rattle.rules.proofs.Logic.{branch, or-neither, not-true, clash}
-use Rattle.rules.proofs.Words.{link-put-same, link-put-other}
+use Rattle.rules.proofs.Words.{link-put-same, link-put-other, put-link-length}
 use Rattle.rules.proofs.Shape.{is-sound, sound-is}
 use Rattle.rules.proofs.SameWords.{node-count}
 use Rattle.rules.proofs.Lowest.{lowest-has}
@@ -24,13 +26,17 @@ use Rattle.rules.proofs.Listed.{reach-met}
 use Rattle.rules.proofs.Invariant.{Proper, Named, nothing, node, SeatShape, OnList, Ending}
 use Rattle.rules.proofs.Known.{named-in, named-proper}
 use Rattle.rules.proofs.SeatShapes.{not-waiting, on-its-way, at-rest as resting-seat, idle-seat}
-use Rattle.rules.proofs.Effects.{Room}
+use Rattle.rules.proofs.Effects.{Room, only-links}
+use Rattle.rules.proofs.Deciding.{if-same}
+use Rattle.rules.proofs.View.{seatsOf}
+use Rattle.rules.proofs.Unlink.{relink-shape}
+use Rattle.rules.proofs.Good.{link-in-words}
 use Rattle.rules.proofs.RuleEffects.{phase-stored, cur-stored, place-stored, start-stored, hold-stored, withdraw-stored, leave-stored, enter-stored}
 use Rattle.rules.proofs.Reasons.{Unlinking, takes-out, goes-past, Starting, as-reader, as-writer, Inserting, links-in, restarts, rereads, Walking, inserts, unlinks, passes, waits, Waking, wakes, stays, reader-holds, reader-unlinks, reader-passes, reader-waits, writer-holds, writer-unlinks, writer-passes, withdraws, Validating, validates-reader, validates-writer, Fetching, found, found-then, none, Stepping, in-1, in-2, in-3, in-4, in-6, at-rest}
 use Rattle.rules.proofs.Accepting.{Beginning, begin-refused, begin-accepted, beginning, Stepped, step-refused, step-accepted, stepped, Releasing, release-refused, release-accepted, releasing}
 use Rattle.rules.proofs.FetchKeeps.{written}
 use Rattle.rules.proofs.TakeOut.{taken-out-keeps}
-use Rattle.rules.proofs.SoundShape.{Shaped, shaped-room, seat-moves, link-passes-over, claim-marked, claim-put, sound-shaped}
+use Rattle.rules.proofs.SoundShape.{SoundView, Shaped, within-ends, shaped-room, seat-moves, link-passes-over, claim-marked, claim-put, sound-shaped}
 use Rattle.rules.proofs.SoundReached.{shaped-sound}
 
 -- ---- fetch
@@ -176,18 +182,58 @@ module _ {N S : ℕ} {t : Tables} (g : Shaped N S t) (s : ℕ) (s-in : s < S) (b
       cur-shaped h s s-in busy p v (rw (link-put-same (t .nodes) (prev t s) v (shaped-room g (prev t s) l)) at (h .view .nodes .links (prev t s)))
   unlinking-shaped p d (goes-past e) = cur-shaped g s s-in busy p (next t (cur t s)) (g .view .nodes .links (cur t s))
 
-  -- own is not linked in, since then the phase would be 3
+  -- each link is as it was, or a claim's to a claim
+  linked-ways : (a : ℕ) → (link (linkIn t s) a ≡ link t a) ⊎ (Named N (claimOf t) a × Named N (claimOf t) (link (linkIn t s) a))
+  unfolding linkIn
+  linked-ways a =
+      let h = shape g s s-in busy in
+      let o = own t s in
+      let p = prev t s in
+      let c = cur t s in
+      let own-linked = putLink (t .nodes) o c in
+      let long : beforeNodes + nodeWidth * p ≤ length own-linked = rw (put-link-length (t .nodes) o c) (shaped-room g p (named-in (h .prev-named))) in
+      if-same a p
+      (λ e. inr (rw e (h .prev-named), rw (e, link-put-same own-linked p o long) (h .own-named)))
+      (λ d. let kept = link-put-other own-linked p a o (λ e. d (sym e)) in
+      if-same a o
+      (λ e. inr (rw e (h .own-named), rw (kept, e, link-put-same (t .nodes) o c (shaped-room g o (named-in (h .own-named)))) (h .cur-named)))
+      (λ f. inl (kept ∙ link-put-other (t .nodes) o a c (λ e. f (sym e)))))
+
+  linked-shaped : Ending (link (linkIn t s)) (head (linkIn t s)) → Shaped N S (linkIn t s)
+  unfolding linkIn
+  linked-shaped e = record {
+    nodes-long = put-link-length (putLink (t .nodes) (own t s) (cur t s)) (prev t s) (own t s) ∙ put-link-length (t .nodes) (own t s) (cur t s) ∙ g .nodes-long;
+    seats-long = g .seats-long;
+    view = subst (λ n. SoundView N n (seatsOf t)) (only-links t (linkIn t s) (link-in-words t s))
+        (record { nodes = relink-shape (link (linkIn t s)) (g .view .nodes) linked-ways; seats = g .view .seats; ends = e });
+  }
+
+  starting-shaped : {u : Tables} → endsWithin (nodeCount u) u (head u) ≡ true → Starting (linkIn t s) s u → Shaped N S u
+  unfolding linkIn
+  starting-shaped {u} e (as-reader k) =
+      let h = linked-shaped (within-ends u (nodeCount u) (head u) e) in
+      seat-moves h (start-stored t s (room g s s-in busy) 3 (own t s) (next (linkIn t s) (own t s)))
+      (on-foot h s s-in busy (inr refl) (h .view .seats s .own-named) (h .view .nodes .links (own t s)))
+  starting-shaped {u} e (as-writer k) =
+      let h = linked-shaped (within-ends u (nodeCount u) (head u) e) in
+      seat-moves h (start-stored t s (room g s s-in busy) 3 0 (head (linkIn t s)))
+      (on-foot h s s-in busy (inr refl) (nothing refl) (h .view .nodes .links 0))
+
+  -- "from the head, 0 is met after at most N nodes", asked of a seat that validates
+  abbrev EndsIfLinked : Tables → Type 0
+  EndsIfLinked u = phase u s ≡ 3 → endsWithin (nodeCount u) u (head u) ≡ true
+
   starting-phase : {u : Tables} → Starting (linkIn t s) s u → phase u s ≡ 3
   unfolding linkIn
   starting-phase (as-reader k) = start-stored t s (room g s s-in busy) 3 (own t s) (next (linkIn t s) (own t s)) .at-s phaseAt (omega arith)
   starting-phase (as-writer k) = start-stored t s (room g s s-in busy) 3 0 (head (linkIn t s)) .at-s phaseAt (omega arith)
 
-  inserting-shaped : {u : Tables} → phase t s ≡ 1 → phase u s ≢ 3 → Inserting t s u → Shaped N S u
-  inserting-shaped e f (links-in j w) = absurd (f (starting-phase w))
+  inserting-shaped : {u : Tables} → phase t s ≡ 1 → EndsIfLinked u → Inserting t s u → Shaped N S u
+  inserting-shaped e f (links-in j w) = starting-shaped (f (starting-phase w)) w
   inserting-shaped e f (restarts j m) = place-shaped g s s-in busy (inl e) 0 (head t) (nothing refl) (g .view .nodes .links 0)
   inserting-shaped e f (rereads j m) = cur-shaped g s s-in busy (inl e) (link t (prev t s)) (g .view .nodes .links (prev t s))
 
-  walking-shaped : {u : Tables} → phase t s ≡ 1 → phase u s ≢ 3 → Walking t s u → Shaped N S u
+  walking-shaped : {u : Tables} → phase t s ≡ 1 → EndsIfLinked u → Walking t s u → Shaped N S u
   walking-shaped e f (inserts h w) = inserting-shaped e f w
   walking-shaped e f (unlinks d m w) = unlinking-shaped (inl e) d w
   walking-shaped e f (passes d m h) = pass-shaped g s s-in busy (inl e)
@@ -207,7 +253,7 @@ module _ {N S : ℕ} {t : Tables} (g : Shaped N S t) (s : ℕ) (s-in : s < S) (b
   validating-shaped e (validates-writer k (writer-passes x d m f)) = pass-shaped g s s-in busy (inr e)
   validating-shaped e (validates-writer k (withdraws x f)) = withdraw-shaped g s s-in busy
 
-  stepping-shaped : {d : Done Answer} → (phase t s ≡ 1 → phase (d .after) s ≢ 3) → Stepping t s d → Shaped N S (d .after)
+  stepping-shaped : {d : Done Answer} → (phase t s ≡ 1 → EndsIfLinked (d .after)) → Stepping t s d → Shaped N S (d .after)
   unfolding refetched
   stepping-shaped f (in-1 e w) = walking-shaped e (f e) w
   stepping-shaped f (in-2 e w) = waking-shaped (inl refl) w
@@ -226,11 +272,13 @@ module _ (t : Tables) (s : ℕ) where
       let w = is-sound t e in
       sound-is u (shaped-sound h (record { some-nodes = w .some-nodes; few-nodes = w .few-nodes; some-seats = w .some-seats; few-seats = w .few-seats }))
 
-  step-sound : {d : Done Answer} → sound t ≡ true → (phase t s ≡ 1 → phase (d .after) s ≢ 3) → Stepped t s d → sound (d .after) ≡ true
+  step-sound : {d : Done Answer} → sound t ≡ true → (phase t s ≡ 1 → phase (d .after) s ≡ 3 → endsWithin (nodeCount (d .after)) (d .after) (head (d .after)) ≡ true) → Stepped t s d → sound (d .after) ≡ true
   step-sound e f (step-refused number r) = e
   step-sound e f (step-accepted y h b w) = shaped-after e (stepping-shaped (sound-shaped (is-sound t e)) s h b f w)
 
-  pub step-keeps-sound : sound t ≡ true → (phase t s ≡ 1 → phase (step t s .after) s ≢ 3) → sound (step t s .after) ≡ true
+  pub step-keeps-sound : sound t ≡ true
+      → (phase t s ≡ 1 → phase (step t s .after) s ≡ 3 → endsWithin (nodeCount (step t s .after)) (step t s .after) (head (step t s .after)) ≡ true)
+      → sound (step t s .after) ≡ true
   step-keeps-sound e f = step-sound e f (stepped t s)
 
   begin-sound : {c : Claim} {d : Done Answer} → sound t ≡ true → Beginning t s c d → sound (d .after) ≡ true

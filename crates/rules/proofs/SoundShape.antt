@@ -134,7 +134,7 @@ module _ {N S : ℕ} {t : Tables} (g : Shaped N S t) where
       }
 
 -- ---- sound tables have it
-within-ends : (t : Tables) (h a : ℕ) → endsWithin h t a ≡ true → Ending (link t) a
+pub within-ends : (t : Tables) (h a : ℕ) → endsWithin h t a ≡ true → Ending (link t) a
 unfolding endsWithin
 within-ends t zero a e = rw (eqb-true a 0 e) (0, stop)
 within-ends t (suc h) a e =

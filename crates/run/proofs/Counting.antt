@@ -1,7 +1,7 @@
 -- Run's loop: after k accepted steps, k and what is left of the budget and of the schedule give the whole.
 use Prim.Native.Nat.{ℕ, zero, suc, _+_, _-_, _≤_, _<_}
 use mathlib.Core.Path.{_≡_, refl, sym, ap, _∙_}
-use mathlib.Core.Bool.{Bool, true, false, not, _&&_}
+use mathlib.Core.Bool.{Bool, true, false, _&&_}
 use mathlib.Core.List.{List, [], _∷_}
 use mathlib.Core.Logic.{_≢_}
 use native.Mathlib.Omega.{arith}
@@ -10,17 +10,18 @@ use lib.ListN.{length, drop, getD}
 use lib.Seq.{drop-cons, drop-length}
 use lib.Dec.{eqb}
 use borrow.Author.Tests.{ne-eqb, eq-eqb}
-use Rattle.rules.specs.Tables.{Tables, tables, seatWord, phaseAt, phase}
+use Rattle.rules.specs.Tables.{Tables, tables, seatWord, nodeCountOf, linkWord, phaseAt, phase}
 use Rattle.rules.specs.Shape.{sound}
 use Rattle.rules.specs.Answers.{Answer, Done, done}
 use Rattle.rules.specs.Calls.{step}
 use Rattle.rules.specs.Run.{ran, refusalOf, oneMore, runSteps, run}
 use Rattle.rules.specs.declared.Ran.{Ran}
-use Rattle.rules.proofs.Logic.{and-both, not-true, clash}
 use Rattle.rules.proofs.Refused.{step-keeps}
 use Rattle.rules.proofs.Accepting.{Stepped, step-refused, step-accepted, stepped}
 use Rattle.rules.proofs.SoundKept.{step-keeps-sound}
-use Rattle.run.specs.Parts.{stepEntry}
+use Rattle.shape.specs.Parts.{listEnds}
+use Rattle.rules.proofs.NodesAlone.{ends-alone}
+use Rattle.run.specs.Parts.{stepEntry, keptSound}
 
 -- k steps before the others
 abbrev pub plus : ℕ → Done Ran → Done Ran
@@ -118,14 +119,21 @@ accepted-sound : (t : Tables) (s : ℕ) {d : Done Answer} → Stepped t s d → 
 accepted-sound t s (step-refused number r) e = absurd (r .some-number e)
 accepted-sound t s (step-accepted y h b w) e = y
 
--- after an accepted step that did not link own in
-pub known-again : (n n′ t t′ : List ℕ) (s r before after : ℕ) → done r (tables n′ t′) ≡ stepEntry (tables n t) s → r ≡ 0
-    → before ≡ seatWord t s phaseAt → after ≡ seatWord t′ s phaseAt → not (eqb before 1 && eqb after 3) ≡ true → sound (tables n′ t′) ≡ true
-known-again n n′ t t′ s r before after w e p q k =
+-- ---- whether they are still sound
+pub kept-linked : (n : List ℕ) (before after : ℕ) (r : Bool) → r ≡ listEnds (tables n []) → (eqb before 1 && eqb after 3) ≡ true → r ≡ keptSound (tables n []) before after
+kept-linked n before after r p e = rw e p
+
+pub kept-other : (n : List ℕ) (before after : ℕ) → (eqb before 1 && eqb after 3) ≡ false → true ≡ keptSound (tables n []) before after
+kept-other n before after e = rw e
+
+-- after an accepted step, if the test says so
+pub known-again : (n n′ t t′ : List ℕ) (s r before after : ℕ) (k : Bool) → done r (tables n′ t′) ≡ stepEntry (tables n t) s → r ≡ 0
+    → before ≡ seatWord t s phaseAt → after ≡ seatWord t′ s phaseAt → k ≡ keptSound (tables n′ []) before after → k ≡ true → sound (tables n′ t′) ≡ true
+known-again n n′ t t′ s r before after k w e p q test passed =
     let a : r ≡ refusalOf (step (tables n t) s .answer) = ap (λ (x : Done ℕ). x .answer) w in
     let u : tables n′ t′ ≡ step (tables n t) s .after = ap (λ (x : Done ℕ). x .after) w in
     let was : sound (tables n t) ≡ true = accepted-sound (tables n t) s (stepped (tables n t) s) (sym a ∙ e) in
     let new : after ≡ phase (step (tables n t) s .after) s = q ∙ ap (λ (x : Tables). phase x s) u in
     rw u (step-keeps-sound (tables n t) s was (λ x y.
-    clash (eqb before 1 && eqb after 3) (and-both (eqb before 1) (eqb after 3) (eq-eqb before 1 (p ∙ x)) (eq-eqb after 3 (new ∙ y)))
-    (not-true (eqb before 1 && eqb after 3) k)))
+    let linked : keptSound (tables n′ []) before after ≡ listEnds (tables n′ []) = rw (eq-eqb before 1 (p ∙ x), eq-eqb after 3 (new ∙ y)) in
+    rw (← u) (sym (ends-alone (nodeCountOf n′) n′ t′ (linkWord n′ 0)) ∙ sym linked ∙ sym test ∙ passed)))

@@ -1,6 +1,7 @@
 // Run: a lent list of seat numbers, stepped in order within a budget.
 ghost use mathlib.Core.Path.{_≡_};
 ghost use mathlib.Core.Bool.{true};
+ghost use mathlib.Core.List.{[]};
 ghost use Prim.Native.Nat.{_≤_};
 ghost use Rattle.rules.specs.Tables.{tables};
 ghost use Rattle.rules.specs.Shape.{sound};
@@ -39,7 +40,17 @@ fn step_entry(nodes: &mut [u32], seats: &mut [u32], s: u32, known: bool) -> u32
     refusal_of(reply)
 }
 
-// Only the step that links own in, from phase 1 to 3, can leave sound tables damaged: after any other they are known to be sound.
+// After an accepted step by which a seat's phase changed from one to the other. Only the step that links own in, from phase 1 to 3, can
+// leave sound tables damaged, and then it is their list that does not end: no other word is looked at again.
+fn is_kept_sound(nodes: &[u32], before: u32, after: u32) -> bool
+    ensures { λ r. ⌜ r ≡ part.keptSound (tables (now (nodes .entry)) []) before after ⌝ }
+{
+    if (before == 1) & (after == 3) {
+        return shape::list_ends(nodes);
+    }
+    true
+}
+
 fn run_steps(nodes: &mut [u32], seats: &mut [u32], schedule: &[u32], budget: u32) -> Ran
     requires { ⌜ sound (tables (now nodes) (now seats)) ≡ true ⌝ }
     ensures { λ r. ⌜ done r (tables (now (nodes .exit)) (now (seats .exit))) ≡ rule.runSteps budget (tables (now (nodes .entry)) (now (seats .entry))) (now (schedule .entry)) ⌝ }
@@ -69,7 +80,7 @@ fn run_steps(nodes: &mut [u32], seats: &mut [u32], schedule: &[u32], budget: u32
             };
         }
         let after = words::seat_word(seats, s, words::PHASE);
-        known = !((before == 1) & (after == 3));
+        known = is_kept_sound(nodes, before, after);
         steps += 1;
     }
 }

@@ -1,5 +1,5 @@
 -- Each test of the code, from the words that it read, is the test of the definition: one law for each way through the code.
-use mathlib.Core.Path.{_≡_, refl, sym, ap, _∙_}
+use mathlib.Core.Path.{_≡_, refl, sym, _∙_}
 use mathlib.Core.Bool.{Bool, true, false, not, _&&_, _||_}
 use mathlib.Core.List.{List, []}
 use mathlib.Core.Logic.{_≢_, _⊎_, inl, inr}
@@ -7,13 +7,14 @@ use Prim.Native.Nat.{ℕ, zero, suc, _+_, _-_, _≤_, _<_}
 use native.Mathlib.Omega.{arith}
 use native.Mathlib.Numerals.{add-one}
 use lib.Dec.{eqb, leb, ltb}
-use borrow.Author.Tests.{not-true, not-false, eq-eqb, ne-eqb, eqb-true, le-leb, lt-leb}
-use Rattle.rules.specs.Notation.{_is_, _≤?_, _<?_, all}
+use borrow.Author.Tests.{not-true, not-false, eq-eqb, ne-eqb, eqb-true, eqb-false, le-leb, lt-leb}
+use Rattle.rules.specs.Notation.{_is_, all}
 use Rattle.rules.specs.Tables.{Tables, tables, nodeWord, linkWord, seatWord, nodeCountOf, seatCountOf, startAt, endAt, kindAt, markAt, phaseAt, ownAt, prevAt, curAt}
 use Rattle.rules.specs.Shape.{nodesFit, seatsFit, lengthsFit, isKind, zeroNode, claimNode, names, nodeSound, isPhase, idleOrOwning, restingAtZero, waitingAtCur, seatSound, endsWithin, nodesSound, seatsSound, sound}
-use Rattle.rules.proofs.Logic.{and-right, all-at, all-fails}
+use Rattle.rules.proofs.Logic.{either, all-fails}
 use Rattle.rules.proofs.Shape.{named, name-of, name-small, lengths-fit}
-use Rattle.shape.specs.Words.{busySound}
+use Rattle.rules.proofs.NodesAlone.{ends-alone, nodes-alone}
+use Rattle.shape.specs.Parts.{busySound, waitingSound, restingSound, listEnds}
 
 pub lengths-is : (l t : List ℕ) (u v : Bool) → u ≡ nodesFit (tables l []) → v ≡ seatsFit (tables [] t) → (u && v) ≡ lengthsFit (tables l t)
 unfolding lengthsFit nodesFit seatsFit
@@ -114,11 +115,42 @@ pub nodes-all : (l : List ℕ) (n i : ℕ) → nodesBelow l i ≡ true → n ≤
 unfolding nodesBelow nodesSound
 nodes-all l n i h a b e = let q : i ≡ nodeCountOf l = omega arith in rw (← q, h)
 
--- ---- a seat, idle or busy, and every seat
-all-named : (b : Bool) → b ≡ (b && true && true && true)
-all-named true = refl
-all-named false = refl
+-- ---- own, prev and cur
+module _ (l : List ℕ) (o v c : ℕ) where
+  pub own-none : o ≡ 0 → false ≡ busySound (tables l []) o v c
+  own-none e = rw (eq-eqb o 0 e)
 
+  module _ (x : Bool) (isOwn : x ≡ names (tables l []) o) where
+    pub own-lost : not x ≡ true → false ≡ busySound (tables l []) o v c
+    own-lost e = rw (sym isOwn ∙ not-true x e, and-false (not (eqb o 0)))
+
+    module _ (y : Bool) (isPrev : y ≡ names (tables l []) v) (owns : not x ≡ false) (some : o ≢ 0) where
+      pub prev-lost : not y ≡ true → false ≡ busySound (tables l []) o v c
+      prev-lost e = rw (ne-eqb o 0 some, sym isOwn ∙ not-false x owns, sym isPrev ∙ not-true y e)
+
+      pub all-named : (z : Bool) → z ≡ names (tables l []) c → not y ≡ false → z ≡ busySound (tables l []) o v c
+      all-named z isCur e = rw (ne-eqb o 0 some, sym isOwn ∙ not-false x owns, sym isPrev ∙ not-false y e) isCur
+
+  pub waits-nowhere : c ≡ 0 → false ≡ waitingSound (tables l []) o v c
+  waits-nowhere e = rw (eq-eqb c 0 e)
+
+  pub waits-at-cur : (w : Bool) → w ≡ busySound (tables l []) o v c → c ≢ 0 → w ≡ waitingSound (tables l []) o v c
+  waits-at-cur w q d = rw (ne-eqb c 0 d) q
+
+  -- the test before own is looked up
+  rests-case : (a b d w : Bool) → (not a && b && d && w) ≡ (not (a || not b || not d) && w)
+  rests-case true b d w = refl
+  rests-case false false d w = refl
+  rests-case false true false w = refl
+  rests-case false true true w = refl
+
+  pub rests-not : (eqb o 0 || not (eqb v 0) || not (eqb c 0)) ≡ true → false ≡ restingSound (tables l []) o v c
+  rests-not e = rw (rests-case (eqb o 0) (eqb v 0) (eqb c 0) (names (tables l []) o), e)
+
+  pub rests : (w : Bool) → w ≡ names (tables l []) o → (eqb o 0 || not (eqb v 0) || not (eqb c 0)) ≡ false → w ≡ restingSound (tables l []) o v c
+  rests w q e = rw (rests-case (eqb o 0) (eqb v 0) (eqb c 0) (names (tables l []) o), e) q
+
+-- ---- a seat by its phase, and every seat
 idle-case : (a b c f g h : Bool) → (a ≡ true → f ≡ true) → (b ≡ true → g ≡ true) → (c ≡ true → h ≡ true)
     → (a && b && c) ≡ ((a && b && c || false) && true && true && f && g && h)
 idle-case true true true f g h p q r = rw (p refl, q refl, r refl)
@@ -126,51 +158,77 @@ idle-case true true false f g h p q r = refl
 idle-case true false c f g h p q r = refl
 idle-case false b c f g h p q r = refl
 
+foot-case : (a f g h : Bool) → (a && f && g && h) ≡ (a && true && true && f && g && h)
+foot-case true f g h = refl
+foot-case false f g h = refl
+
+waiting-case : (a c f g h : Bool) → (c && (a && f && g && h)) ≡ (a && true && c && f && g && h)
+waiting-case true true f g h = refl
+waiting-case true false f g h = refl
+waiting-case false true f g h = refl
+waiting-case false false f g h = refl
+
+-- a name that is 0 is not looked up
+resting-case : (a b c f g h : Bool) → (b ≡ true → g ≡ true) → (c ≡ true → h ≡ true) → (a && b && c && f) ≡ (a && (b && c) && true && f && g && h)
+resting-case true true true true g h q r = rw (q refl, r refl)
+resting-case true true true false g h q r = refl
+resting-case true true false f g h q r = refl
+resting-case true false c f g h q r = refl
+resting-case false b c f g h q r = refl
+
+six : {p : ℕ} → 5 ≤ p → p < 7 → p ≢ 5 → p ≡ 6
+six g h d = omega arith
+
 module _ (l t : List ℕ) (s p o v c : ℕ) (isCur : c ≡ seatWord t s curAt) (isPrev : v ≡ seatWord t s prevAt) (isOwn : o ≡ seatWord t s ownAt) (isPhaseOf : p ≡ seatWord t s phaseAt) where
-  zero-named : (a : ℕ) → eqb a 0 ≡ true → names (tables l t) a ≡ true
-  zero-named a z = name-of (tables l t) a (inl (eqb-true a 0 z))
+  zero-named : (a : ℕ) → eqb a 0 ≡ true → names (tables l []) a ≡ true
+  zero-named a z = name-of (tables l []) a (inl (eqb-true a 0 z))
 
   pub seat-idle : p ≡ 0 → (eqb o 0 && eqb v 0 && eqb c 0) ≡ seatSound (tables l t) s
-  unfolding seatSound isPhase idleOrOwning restingAtZero waitingAtCur
+  unfolding seatSound isPhase idleOrOwning restingAtZero waitingAtCur names
   seat-idle e =
-      let q : seatWord t s phaseAt ≡ 0 = sym isPhaseOf ∙ e in
-      rw (isCur, isPrev, isOwn, q)
-      (idle-case (eqb (seatWord t s ownAt) 0) (eqb (seatWord t s prevAt) 0) (eqb (seatWord t s curAt) 0)
-      (names (tables l t) (seatWord t s ownAt)) (names (tables l t) (seatWord t s prevAt)) (names (tables l t) (seatWord t s curAt))
-      (zero-named (seatWord t s ownAt)) (zero-named (seatWord t s prevAt)) (zero-named (seatWord t s curAt)))
+      rw (← isPhaseOf, ← isCur, ← isPrev, ← isOwn, e)
+      (idle-case (eqb o 0) (eqb v 0) (eqb c 0) (names (tables l []) o) (names (tables l []) v) (names (tables l []) c) (zero-named o) (zero-named v) (zero-named c))
 
-  module _ (x : Bool) (isNamed : x ≡ names (tables l []) o) where
-    pub own-lost : not x ≡ true → false ≡ seatSound (tables l t) s
-    unfolding seatSound names
-    own-lost e =
-        let q = rw isOwn at (sym isNamed ∙ not-true x e) in
-        rw (q, and-false (isPhase (tables l t) s && idleOrOwning (tables l t) s && restingAtZero (tables l t) s && waitingAtCur (tables l t) s))
+  -- what each clause says of a seat in a phase from 1 to 6
+  clauses : Bool → Bool → Bool
+  clauses resting waiting = not (eqb o 0) && resting && waiting && names (tables l []) o && names (tables l []) v && names (tables l []) c
 
-    module _ (y : Bool) (isPrevNamed : y ≡ names (tables l []) v) where
-      pub prev-lost : not y ≡ true → false ≡ seatSound (tables l t) s
-      unfolding seatSound names
-      prev-lost e =
-          let q = rw isPrev at (sym isPrevNamed ∙ not-true y e) in
-          rw (q, and-false (isPhase (tables l t) s && idleOrOwning (tables l t) s && restingAtZero (tables l t) s && waitingAtCur (tables l t) s && names (tables l t) (seatWord t s ownAt)))
+  in-phase : (P : ℕ) → p ≡ P → P ≢ 0 → P ≤ 6 → clauses (not (eqb P 5 || eqb P 6) || eqb v 0 && eqb c 0) (not (eqb P 2 || eqb P 4) || not (eqb c 0)) ≡ seatSound (tables l t) s
+  unfolding seatSound isPhase idleOrOwning restingAtZero waitingAtCur names clauses
+  in-phase P e d h = rw (← isPhaseOf, ← isCur, ← isPrev, ← isOwn, e, ne-eqb P 0 d, le-leb P 6 h)
 
-      module _ (z : Bool) (isCurNamed : z ≡ names (tables l []) c) where
-        pub cur-lost : not z ≡ true → false ≡ seatSound (tables l t) s
-        unfolding seatSound names
-        cur-lost e =
-            let q = rw isCur at (sym isCurNamed ∙ not-true z e) in
-            rw q
-            (sym (and-false
-            (isPhase (tables l t) s && idleOrOwning (tables l t) s && restingAtZero (tables l t) s && waitingAtCur (tables l t) s && names (tables l t) (seatWord t s ownAt)
-            && names (tables l t) (seatWord t s prevAt))))
+  pub seat-on-foot : (w : Bool) → w ≡ busySound (tables l []) o v c → (p ≡ 1) ⊎ (p ≡ 3) → w ≡ seatSound (tables l t) s
+  unfolding clauses
+  seat-on-foot w h (inl e) = h ∙ foot-case (not (eqb o 0)) (names (tables l []) o) (names (tables l []) v) (names (tables l []) c) ∙ in-phase 1 e (omega arith) (omega arith)
+  seat-on-foot w h (inr e) = h ∙ foot-case (not (eqb o 0)) (names (tables l []) o) (names (tables l []) v) (names (tables l []) c) ∙ in-phase 3 e (omega arith) (omega arith)
 
-        pub seat-busy : (w : Bool) → w ≡ busySound p o v c → not x ≡ false → not y ≡ false → not z ≡ false → p ≢ 0 → w ≡ seatSound (tables l t) s
-        unfolding seatSound isPhase idleOrOwning restingAtZero waitingAtCur names
-        seat-busy w pw ex ey ez d =
-            let qx = rw isOwn at (sym isNamed ∙ not-false x ex) in
-            let qy = rw isPrev at (sym isPrevNamed ∙ not-false y ey) in
-            let qz = rw isCur at (sym isCurNamed ∙ not-false z ez) in
-            rw (qx, qy, qz, pw, isCur, isPrev, isOwn, isPhaseOf, ne-eqb (seatWord t s phaseAt) 0 (λ e. d (isPhaseOf ∙ e)))
-            (all-named (busySound (seatWord t s phaseAt) (seatWord t s ownAt) (seatWord t s prevAt) (seatWord t s curAt)))
+  pub seat-waiting : (w : Bool) → w ≡ waitingSound (tables l []) o v c → (p ≡ 2) ⊎ (p ≡ 4) → w ≡ seatSound (tables l t) s
+  unfolding clauses
+  seat-waiting w h (inl e) =
+      h ∙ waiting-case (not (eqb o 0)) (not (eqb c 0)) (names (tables l []) o) (names (tables l []) v) (names (tables l []) c) ∙ in-phase 2 e (omega arith) (omega arith)
+  seat-waiting w h (inr e) =
+      h ∙ waiting-case (not (eqb o 0)) (not (eqb c 0)) (names (tables l []) o) (names (tables l []) v) (names (tables l []) c) ∙ in-phase 4 e (omega arith) (omega arith)
+
+  rested : restingSound (tables l []) o v c ≡ clauses (eqb v 0 && eqb c 0) true
+  unfolding clauses
+  rested = resting-case (not (eqb o 0)) (eqb v 0) (eqb c 0) (names (tables l []) o) (names (tables l []) v) (names (tables l []) c) (zero-named v) (zero-named c)
+
+  -- 5 or 6 is what is left below 7
+  pub seat-resting : (w : Bool) → w ≡ restingSound (tables l []) o v c → p ≢ 0 → ((p ≡ 1) ⊎ (p ≡ 3) → ⊥) → ((p ≡ 2) ⊎ (p ≡ 4) → ⊥) → p < 7 → w ≡ seatSound (tables l t) s
+  seat-resting w h z f g small =
+      let no-1 : p ≢ 1 = λ e. f (inl e) in
+      let no-2 : p ≢ 2 = λ e. g (inl e) in
+      let no-3 : p ≢ 3 = λ e. f (inr e) in
+      let no-4 : p ≢ 4 = λ e. g (inr e) in
+      let large : 5 ≤ p = omega arith in
+      elim (either (eqb p 5)) [
+        | inl e ↦ h ∙ rested ∙ in-phase 5 (eqb-true p 5 e) (omega arith) (omega arith)
+        | inr e ↦ h ∙ rested ∙ in-phase 6 (six large small (eqb-false p 5 e)) (omega arith) (omega arith)
+      ]
+
+  pub seat-no-phase : 7 ≤ p → false ≡ seatSound (tables l t) s
+  unfolding seatSound isPhase
+  seat-no-phase h = rw (← isPhaseOf, lt-leb p 6 (omega arith))
 
 pub seats-none : (l t : List ℕ) → all 0 (seatSound (tables l t)) ≡ true
 unfolding all
@@ -199,38 +257,19 @@ unfolding endsWithin
 ends-next t zero a g h = absurd (g refl)
 ends-next t (suc left) a g h = let e : suc left - 1 ≡ left = omega arith in rw (e, ne-eqb a 0 h)
 
-pub ends-again : (l : List ℕ) (n from left a x : ℕ) → endsWithin left (tables l []) a ≡ endsWithin n (tables l []) from → x ≡ linkWord l a → left ≢ 0 → a ≢ 0
-    → endsWithin (left - 1) (tables l []) x ≡ endsWithin n (tables l []) from
-ends-again l n from left a x h p g e = rw p (ends-next (tables l []) left a g e ∙ h)
+module _ (l : List ℕ) (left a : ℕ) (whole : endsWithin left (tables l []) a ≡ listEnds (tables l [])) where
+  pub ends-again : (x : ℕ) → x ≡ linkWord l a → left ≢ 0 → a ≢ 0 → endsWithin (left - 1) (tables l []) x ≡ listEnds (tables l [])
+  ends-again x p g e = rw p (ends-next (tables l []) left a g e ∙ whole)
 
-pub ends-left : (l : List ℕ) (n from left a : ℕ) → endsWithin left (tables l []) a ≡ endsWithin n (tables l []) from → left ≡ 0 → a ≢ 0 → false ≡ endsWithin n (tables l []) from
-unfolding endsWithin
-ends-left l n from left a h e g = sym (ne-eqb a 0 g) ∙ (rw e at h)
+  pub ends-left : left ≡ 0 → eqb a 0 ≡ listEnds (tables l [])
+  unfolding endsWithin
+  ends-left e = rw e at whole
 
-pub ends-done : (l : List ℕ) (n from left a : ℕ) → endsWithin left (tables l []) a ≡ endsWithin n (tables l []) from → a ≡ 0 → true ≡ endsWithin n (tables l []) from
-ends-done l n from left a h e = sym (ends-zero (tables l []) left a e) ∙ h
+  pub ends-done : a ≡ 0 → true ≡ listEnds (tables l [])
+  ends-done e = sym (ends-zero (tables l []) left a e) ∙ whole
 
--- what is met does not depend on the seats
-ends-alone : (hops : ℕ) (l t : List ℕ) (a : ℕ) → endsWithin hops (tables l []) a ≡ endsWithin hops (tables l t) a
-unfolding endsWithin
-ends-alone zero l t a = refl
-ends-alone (suc hops) l t a = rw (ends-alone hops l t (linkWord l a))
-
-nodes-alone : (l t : List ℕ) → nodesSound (tables l []) ≡ nodesSound (tables l t)
-unfolding nodesSound nodeSound zeroNode claimNode names
-nodes-alone l t = refl
-
--- each next of sound nodes is at most N
-pub next-small : (l : List ℕ) (n a x : ℕ) → x ≡ linkWord l a → nodesSound (tables l []) ≡ true → n ≡ nodeCountOf l → a ≢ 0 → a ≤ n → x ≤ n
-unfolding nodesSound nodeSound
-next-small l n zero x e s c d h = absurd (d refl)
-next-small l n (suc m) x e s c d h =
-    let w = rw (add-one m) at (all-at (nodeCountOf l) m (λ m. nodeSound (tables l []) (m + 1)) s (omega arith)) in
-    let v = and-right (zeroNode (tables l []) (suc m) || claimNode (tables l []) (suc m)) (names (tables l []) (linkWord l (suc m))) w in
-    rw (e, c) (name-small (tables l []) (linkWord l (suc m)) (named (tables l []) (linkWord l (suc m)) v))
-
-pub from-small : (l : List ℕ) (n a : ℕ) → n ≡ nodeCountOf l → names (tables l []) a ≡ true → a ≤ n
-from-small l n a c e = rw c (name-small (tables l []) a (named (tables l []) a e))
+pub ends-all : (l : List ℕ) (n a : ℕ) → n ≡ nodeCountOf l → a ≡ linkWord l 0 → endsWithin n (tables l []) a ≡ listEnds (tables l [])
+ends-all l n a p q = rw (p, q)
 
 -- ---- the whole
 module _ (l t : List ℕ) (fit : lengthsFit (tables l t) ≡ true) where
@@ -252,10 +291,10 @@ module _ (l t : List ℕ) (fit : lengthsFit (tables l t) ≡ true) where
         unfolding sound names
         seats-not d p e = rw (fit, nodes-are, ← isHead, sym isNamed ∙ not-false c found, sym p ∙ not-true d e)
 
-        pub words-are : (d r : Bool) (n : ℕ) → r ≡ endsWithin n (tables l []) h → d ≡ seatsSound (tables l t) → not d ≡ false → n ≡ nodeCountOf l → r ≡ sound (tables l t)
+        pub words-are : (d r : Bool) → r ≡ listEnds (tables l []) → d ≡ seatsSound (tables l t) → not d ≡ false → r ≡ sound (tables l t)
         unfolding sound names
-        words-are d r n q p e k =
-            rw (fit, nodes-are, ← isHead, sym isNamed ∙ not-false c found, sym p ∙ not-false d e, ← ends-alone (nodeCountOf l) l t h, ← k) q
+        words-are d r q p e =
+            rw (fit, nodes-are, ← isHead, sym isNamed ∙ not-false c found, sym p ∙ not-false d e, ← ends-alone (nodeCountOf l) l t h, isHead) q
 
 pub sound-not : (l t : List ℕ) (b : Bool) → b ≡ lengthsFit (tables l t) → b ≡ false → false ≡ sound (tables l t)
 unfolding sound
@@ -274,6 +313,3 @@ few-seats l t n e f = rw e (lengths-fit (tables l t) f .few-seats)
 -- what a caller knows after the test
 pub now-sound : (l t : List ℕ) (b : Bool) → b ≡ sound (tables l t) → b ≡ true → sound (tables l t) ≡ true
 now-sound l t b p e = sym p ∙ e
-
-pub told : (b x : Bool) → b ≡ x → not b ≡ false → x ≡ true
-told b x p e = sym p ∙ not-false b e

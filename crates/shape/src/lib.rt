@@ -4,8 +4,8 @@ ghost use mathlib.Core.Bool.{true};
 ghost use mathlib.Core.List.{[]};
 ghost use Prim.Native.Nat.{_<_, _≤_};
 ghost use Rattle.rules.specs.Tables.{tables, nodeCountOf, seatCountOf};
-ghost use Rattle.rules.specs.Shape.{lengthsFit, isKind, names, nodeSound, seatSound, endsWithin, nodesSound, seatsSound, sound};
-ghost use Rattle.shape.specs.Words.{busySound};
+ghost use Rattle.rules.specs.Shape.{lengthsFit, isKind, names, nodeSound, seatSound, nodesSound, seatsSound, sound};
+ghost use Rattle.shape.specs.Parts.{busySound, waitingSound, restingSound, listEnds};
 
 pub fn lengths_fit(nodes: &[u32], seats: &[u32]) -> bool
     ensures { λ r. ⌜ r ≡ lengthsFit (tables (now (nodes .entry)) (now (seats .entry))) ⌝ }
@@ -73,17 +73,46 @@ fn nodes_sound(nodes: &[u32], n: u32) -> bool
     true
 }
 
-// the words of a seat that is not idle, by themselves
-fn busy_sound(phase: u32, own: u32, prev: u32, cur: u32) -> bool
-    ensures { λ r. ⌜ r ≡ busySound phase own prev cur ⌝ }
+// own names a node, and prev and cur are each 0 or name one
+fn busy_sound(nodes: &[u32], n: u32, own: u32, prev: u32, cur: u32) -> bool
+    requires { ⌜ n ≡ nodeCountOf (now nodes) ⌝ }
+    ensures { λ r. ⌜ r ≡ busySound (tables (now (nodes .entry)) []) own prev cur ⌝ }
 {
-    (phase <= 6)
-        & !(own == 0)
-        & (!((phase == 5) | (phase == 6)) | ((prev == 0) & (cur == 0)))
-        & (!((phase == 2) | (phase == 4)) | !(cur == 0))
+    if own == 0 {
+        return false;
+    }
+    if !names_node(nodes, n, own) {
+        return false;
+    }
+    if !names_node(nodes, n, prev) {
+        return false;
+    }
+    names_node(nodes, n, cur)
 }
 
-// An idle seat is all zeros.
+// in phases 2 and 4
+fn waiting_sound(nodes: &[u32], n: u32, own: u32, prev: u32, cur: u32) -> bool
+    requires { ⌜ n ≡ nodeCountOf (now nodes) ⌝ }
+    ensures { λ r. ⌜ r ≡ waitingSound (tables (now (nodes .entry)) []) own prev cur ⌝ }
+{
+    if cur == 0 {
+        return false;
+    }
+    busy_sound(nodes, n, own, prev, cur)
+}
+
+// in phases 5 and 6: of three names, only own is left to look up
+fn resting_sound(nodes: &[u32], n: u32, own: u32, prev: u32, cur: u32) -> bool
+    requires { ⌜ n ≡ nodeCountOf (now nodes) ⌝ }
+    ensures { λ r. ⌜ r ≡ restingSound (tables (now (nodes .entry)) []) own prev cur ⌝ }
+{
+    if (own == 0) | !(prev == 0) | !(cur == 0) {
+        return false;
+    }
+    names_node(nodes, n, own)
+}
+
+// An idle seat is all zeros; any other is held to what its phase allows.
 fn seat_sound(nodes: &[u32], seats: &[u32], n: u32, s: u32) -> bool
     requires { ⌜ n ≡ nodeCountOf (now nodes) ⌝ }
     requires { ⌜ s < seatCountOf (now seats) ⌝ }
@@ -93,19 +122,13 @@ fn seat_sound(nodes: &[u32], seats: &[u32], n: u32, s: u32) -> bool
     let own = words::seat_word_within(seats, s, words::OWN);
     let prev = words::seat_word_within(seats, s, words::PREV);
     let cur = words::seat_word_within(seats, s, words::CUR);
-    if phase == 0 {
-        return (own == 0) & (prev == 0) & (cur == 0);
+    match phase {
+        0 => (own == 0) & (prev == 0) & (cur == 0),
+        1 | 3 => busy_sound(nodes, n, own, prev, cur),
+        2 | 4 => waiting_sound(nodes, n, own, prev, cur),
+        5 | 6 => resting_sound(nodes, n, own, prev, cur),
+        7..=4294967295 => false,
     }
-    if !names_node(nodes, n, own) {
-        return false;
-    }
-    if !names_node(nodes, n, prev) {
-        return false;
-    }
-    if !names_node(nodes, n, cur) {
-        return false;
-    }
-    busy_sound(phase, own, prev, cur)
 }
 
 fn seats_sound(nodes: &[u32], seats: &[u32], n: u32, count: u32) -> bool
@@ -124,23 +147,20 @@ fn seats_sound(nodes: &[u32], seats: &[u32], n: u32, count: u32) -> bool
     true
 }
 
-// From a, 0 is met after at most n nodes. The nodes are sound, so that each next is a node that the table has.
-fn ends_within(nodes: &[u32], n: u32, from: u32) -> bool
-    requires { ⌜ n ≡ nodeCountOf (now nodes) ⌝ }
-    requires { ⌜ nodesSound (tables (now nodes) []) ≡ true ⌝ }
-    requires { ⌜ names (tables (now nodes) []) from ≡ true ⌝ }
-    ensures { λ r. ⌜ r ≡ endsWithin n (tables (now (nodes .entry)) []) from ⌝ }
+// From the head, 0 is met after at most N nodes. It may be asked of any nodes: a next past the last node reads 0.
+pub fn list_ends(nodes: &[u32]) -> bool
+    ensures { λ r. ⌜ r ≡ listEnds (tables (now (nodes .entry)) []) ⌝ }
 {
-    let mut left = n;
-    let mut a = from;
-    while a != 0 {
-        if left == 0 {
-            return false;
+    let mut left = words::node_count(nodes);
+    let mut a = words::link(nodes, 0);
+    while left != 0 {
+        if a == 0 {
+            return true;
         }
-        a = words::next_within(nodes, a);
+        a = words::link(nodes, a);
         left -= 1;
     }
-    true
+    a == 0
 }
 
 // all but the lengths
@@ -160,7 +180,7 @@ fn words_sound(nodes: &[u32], seats: &[u32]) -> bool
     if !seats_sound(nodes, seats, n, count) {
         return false;
     }
-    ends_within(nodes, n, head)
+    list_ends(nodes)
 }
 
 pub fn is_sound(nodes: &[u32], seats: &[u32]) -> bool

@@ -44,6 +44,9 @@ step-entry-requires c κs = search needs
 seat-word-requires-2 : tie.Need-seat-word-requires-2 Inv-loop μ-loop
 seat-word-requires-2 c κs = search needs
 
+is-kept-sound-requires : tie.Need-is-kept-sound-requires Inv-loop μ-loop
+is-kept-sound-requires c κs = search needs
+
 add-steps : tie.Need-add-steps Inv-loop μ-loop
 add-steps c = omega arith
 
@@ -52,7 +55,8 @@ loop-less c = omega arith
 
 loop-again : tie.Need-loop-again Inv-loop μ-loop
 loop-again c =
-    let i = c .before .before in
+    let n = c .before .before in
+    let i = n .before .before in
     let e = i .before .before .before .before .before in
     let p = e .before .before .before in
     let l = p .before .before .before .before .before in (
@@ -60,7 +64,7 @@ loop-again c =
       search needs,
       omega arith,
       omega arith,
-      λ z. known-again _ _ _ _ _ _ _ _ (e .step-entry .ensures) (i .if3 .left) (p .seat-word .ensures) (c .seat-word2 .ensures) z,
+      λ z. known-again _ _ _ _ _ _ _ _ _ (e .step-entry .ensures) (i .if3 .left) (p .seat-word .ensures) (n .seat-word2 .ensures) (c .is-kept-sound .ensures) z,
       left-again _ _ _ _ _ _ _ _ _ _ (l .loop .inv .5) (e .step-entry .ensures) (i .if3 .left) refl (omega arith) (omega arith),
     )
 
@@ -108,6 +112,7 @@ run-steps-spec =
     seat-word-requires
     step-entry-requires
     seat-word-requires-2
+    is-kept-sound-requires
     add-steps
     loop-less
     loop-again

@@ -1,6 +1,6 @@
 -- `shape::words_sound` meets its promise.
 use native.Mathlib.Omega.{arith}
-use Rattle.shape.proofs.Tests.{few-nodes, few-seats, nodes-not, head-not, seats-not, words-are, told}
+use Rattle.shape.proofs.Tests.{few-nodes, few-seats, nodes-not, head-not, seats-not, words-are}
 use borrow.Author.Needs.{needs}
 use Rattle.shape.proofs.words_sound.Statement.{statement}
 use Rattle.shape.proofs.words_sound.Tie as tie
@@ -38,11 +38,8 @@ seats-sound-requires c κs = search needs
 returns-3 : tie.Need-returns-3
 returns-3 c = search seats-not
 
-ends-within-requires : tie.Need-ends-within-requires
-ends-within-requires c κs =
-    let h = c .before .before .before in
-    let n = h .before .before in
-    (n .before .before .before .node-count .ensures, (told _ _ (n .nodes-sound .ensures) (h .before .if1 .left), told _ _ (h .names-node .ensures) (c .before .before .if2 .left)))
+list-ends-requires : tie.Need-list-ends-requires
+list-ends-requires c κs = search needs
 
 returns-4 : tie.Need-returns-4
 returns-4 c = search words-are
@@ -62,5 +59,5 @@ words-sound-spec =
     returns-2
     seats-sound-requires
     returns-3
-    ends-within-requires
+    list-ends-requires
     returns-4)

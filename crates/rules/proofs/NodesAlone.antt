@@ -3,15 +3,19 @@ use Prim.Native.Nat.{ℕ, zero, suc, _-_}
 use mathlib.Core.Path.{_≡_, refl, ap}
 use mathlib.Core.Bool.{Bool, _||_}
 use mathlib.Core.List.{List, [], _∷_}
 use Rattle.rules.specs.Notation.{_is_}
 use Rattle.rules.specs.Tables.{tables, linkWord, putLink, nodeCountOf}
-use Rattle.rules.specs.Shape.{endsWithin}
+use Rattle.rules.specs.Shape.{zeroNode, claimNode, names, nodeSound, endsWithin, nodesSound}
 use Rattle.rules.specs.Fetch.{keptFrom, kept, linkThrough, takenOut}
 
 pub ends-alone : (h : ℕ) (nodes seats : List ℕ) (a : ℕ) → endsWithin h (tables nodes []) a ≡ endsWithin h (tables nodes seats) a
 unfolding endsWithin
 ends-alone zero nodes seats a = refl
 ends-alone (suc h) nodes seats a = ap (λ (b : Bool). a is 0 || b) (ends-alone h nodes seats (linkWord nodes a))
+
+pub nodes-alone : (nodes seats : List ℕ) → nodesSound (tables nodes []) ≡ nodesSound (tables nodes seats)
+unfolding nodesSound nodeSound zeroNode claimNode names
+nodes-alone nodes seats = refl
 
 kept-from-alone : (h : ℕ) (nodes seats : List ℕ) (a : ℕ) → keptFrom h (tables nodes []) a ≡ keptFrom h (tables nodes seats) a
 unfolding keptFrom

@@ -1,0 +1,22 @@
+-- Parts of sound shape: what it asks of a seat's own, prev and cur by the seat's phase, and its last clause alone.
+use Prim.Native.Nat.{ℕ}
+use mathlib.Core.Bool.{Bool, not, _&&_}
+use Rattle.rules.specs.Notation.{_is_}
+use Rattle.rules.specs.Tables.{Tables, nodeCount, head}
+use Rattle.rules.specs.Shape.{names, endsWithin}
+
+-- in any phase but 0
+abbrev pub busySound : Tables → ℕ → ℕ → ℕ → Bool
+busySound t own prev cur = not (own is 0) && names t own && names t prev && names t cur
+
+-- in phases 2 and 4
+abbrev pub waitingSound : Tables → ℕ → ℕ → ℕ → Bool
+waitingSound t own prev cur = not (cur is 0) && busySound t own prev cur
+
+-- in phases 5 and 6
+abbrev pub restingSound : Tables → ℕ → ℕ → ℕ → Bool
+restingSound t own prev cur = not (own is 0) && prev is 0 && cur is 0 && names t own
+
+-- "from the head, 0 is met after at most N nodes"
+abbrev pub listEnds : Tables → Bool
+listEnds t = endsWithin (nodeCount t) t (head t)
