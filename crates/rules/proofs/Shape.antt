@@ -202,16 +202,22 @@ pub record Fit (t : Tables) : Type 0 where
   pub some-seats : 1 ≤ seatCount t
   pub few-seats : seatCount t ≤ 64
 
+pub nodes-fit : (t : Tables) → nodesFit t ≡ true → (length (t .nodes) ≡ beforeNodes + nodeWidth * nodeCount t) × (1 ≤ nodeCount t) × (nodeCount t ≤ 256)
+unfolding nodesFit
+nodes-fit t e =
+    let f = all3 (length (t .nodes) is beforeNodes + nodeWidth * nodeCount t) (1 ≤? nodeCount t) (nodeCount t ≤? 256) e in
+    (eqb-true (length (t .nodes)) (beforeNodes + nodeWidth * nodeCount t) (f .0), leb-true 1 (nodeCount t) (f .1), leb-true (nodeCount t) 256 (f .2))
+
 pub lengths-fit : (t : Tables) → lengthsFit t ≡ true → Fit t
-unfolding lengthsFit nodesFit seatsFit
+unfolding lengthsFit seatsFit
 lengths-fit t e =
     let y = both (nodesFit t) (seatsFit t) e in
-    let f = all3 (length (t .nodes) is beforeNodes + nodeWidth * nodeCount t) (1 ≤? nodeCount t) (nodeCount t ≤? 256) (y .0) in
+    let f = nodes-fit t (y .0) in
     let g = all3 (length (t .seats) is seatWidth * seatCount t) (1 ≤? seatCount t) (seatCount t ≤? 64) (y .1) in
     record {
-      nodes-length = eqb-true (length (t .nodes)) (beforeNodes + nodeWidth * nodeCount t) (f .0);
-      some-nodes = leb-true 1 (nodeCount t) (f .1);
-      few-nodes = leb-true (nodeCount t) 256 (f .2);
+      nodes-length = f .0;
+      some-nodes = f .1;
+      few-nodes = f .2;
       seats-length = eqb-true (length (t .seats)) (seatWidth * seatCount t) (g .0);
       some-seats = leb-true 1 (seatCount t) (g .1);
       few-seats = leb-true (seatCount t) 64 (g .2);

@@ -11,11 +11,12 @@ use lib.Seq.{drop-cons, drop-length}
 use lib.Dec.{eqb}
 use borrow.Author.Tests.{ne-eqb, eq-eqb}
 use Rattle.rules.specs.Tables.{Tables, tables, seatWord, nodeCountOf, linkWord, phaseAt, phase}
-use Rattle.rules.specs.Shape.{sound}
+use Rattle.rules.specs.Shape.{nodesFit, seatsFit, lengthsFit, names, endsWithin, nodesSound, seatsSound, sound}
 use Rattle.rules.specs.Answers.{Answer, Done, done}
 use Rattle.rules.specs.Calls.{step}
 use Rattle.rules.specs.Run.{ran, refusalOf, oneMore, runSteps, run}
 use Rattle.rules.specs.declared.Ran.{Ran}
+use Rattle.rules.proofs.Logic.{and-left, all5}
 use Rattle.rules.proofs.Refused.{step-keeps}
 use Rattle.rules.proofs.Accepting.{Stepped, step-refused, step-accepted, stepped}
 use Rattle.rules.proofs.SoundKept.{step-keeps-sound}
@@ -120,6 +121,13 @@ accepted-sound t s (step-refused number r) e = absurd (r .some-number e)
 accepted-sound t s (step-accepted y h b w) e = y
 
 -- ---- whether they are still sound
+-- a step keeps the lengths
+pub still-fit : (n n′ t : List ℕ) → sound (tables n t) ≡ true → length n′ ≡ length n → nodesFit (tables n′ []) ≡ true
+unfolding sound lengthsFit nodesFit nodeCountOf
+still-fit n n′ t e l =
+    let w = all5 (lengthsFit (tables n t)) (nodesSound (tables n t)) (names (tables n t) (linkWord n 0)) (seatsSound (tables n t)) (endsWithin (nodeCountOf n) (tables n t) (linkWord n 0)) e in
+    rw l (and-left (nodesFit (tables n t)) (seatsFit (tables n t)) (w .0))
+
 pub kept-linked : (n : List ℕ) (before after : ℕ) (r : Bool) → r ≡ listEnds (tables n []) → (eqb before 1 && eqb after 3) ≡ true → r ≡ keptSound (tables n []) before after
 kept-linked n before after r p e = rw e p
 

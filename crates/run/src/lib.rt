@@ -4,7 +4,7 @@ ghost use mathlib.Core.Bool.{true};
 ghost use mathlib.Core.List.{[]};
 ghost use Prim.Native.Nat.{_≤_};
 ghost use Rattle.rules.specs.Tables.{tables};
-ghost use Rattle.rules.specs.Shape.{sound};
+ghost use Rattle.rules.specs.Shape.{nodesFit, sound};
 ghost use Rattle.rules.specs.Answers.{done};
 ghost use Rattle.rules.specs.Means.{means};
 ghost use Rattle.rules.specs.Run as rule;
@@ -43,6 +43,7 @@ fn step_entry(nodes: &mut [u32], seats: &mut [u32], s: u32, known: bool) -> u32
 // After an accepted step by which a seat's phase changed from one to the other. Only the step that links own in, from phase 1 to 3, can
 // leave sound tables damaged, and then it is their list that does not end: no other word is looked at again.
 fn is_kept_sound(nodes: &[u32], before: u32, after: u32) -> bool
+    requires { ⌜ nodesFit (tables (now nodes) []) ≡ true ⌝ }
     ensures { λ r. ⌜ r ≡ part.keptSound (tables (now (nodes .entry)) []) before after ⌝ }
 {
     if (before == 1) & (after == 3) {

@@ -7,12 +7,13 @@ use Prim.Native.Nat.{ℕ, zero, suc, _+_, _-_, _≤_, _<_}
 use native.Mathlib.Omega.{arith}
 use native.Mathlib.Numerals.{add-one}
 use lib.Dec.{eqb, leb, ltb}
-use borrow.Author.Tests.{not-true, not-false, eq-eqb, ne-eqb, eqb-true, eqb-false, le-leb, lt-leb}
+use borrow.Author.Tests.{not-true, not-false, eq-eqb, ne-eqb, eqb-true, eqb-false, ltb-true, ltb-false, le-leb, lt-leb}
 use Rattle.rules.specs.Notation.{_is_, all}
 use Rattle.rules.specs.Tables.{Tables, tables, nodeWord, linkWord, seatWord, nodeCountOf, seatCountOf, startAt, endAt, kindAt, markAt, phaseAt, ownAt, prevAt, curAt}
 use Rattle.rules.specs.Shape.{nodesFit, seatsFit, lengthsFit, isKind, zeroNode, claimNode, names, nodeSound, isPhase, idleOrOwning, restingAtZero, waitingAtCur, seatSound, endsWithin, nodesSound, seatsSound, sound}
-use Rattle.rules.proofs.Logic.{either, all-fails}
-use Rattle.rules.proofs.Shape.{named, name-of, name-small, lengths-fit}
+use Rattle.rules.proofs.Logic.{either, or-case, or-neither, and-left, all-fails}
+use Rattle.rules.proofs.Words.{link-past}
+use Rattle.rules.proofs.Shape.{nodes-fit, named, name-of, name-small, lengths-fit}
 use Rattle.rules.proofs.NodesAlone.{ends-alone, nodes-alone}
 use Rattle.shape.specs.Parts.{busySound, waitingSound, restingSound, listEnds}
 
@@ -257,16 +258,37 @@ unfolding endsWithin
 ends-next t zero a g h = absurd (g refl)
 ends-next t (suc left) a g h = let e : suc left - 1 ≡ left = omega arith in rw (e, ne-eqb a 0 h)
 
+pub within-some : (n a : ℕ) → (eqb a 0 || ltb n a) ≡ false → a ≢ 0
+within-some n a e = eqb-false a 0 (or-neither (eqb a 0) (ltb n a) e .0)
+
 module _ (l : List ℕ) (left a : ℕ) (whole : endsWithin left (tables l []) a ≡ listEnds (tables l [])) where
-  pub ends-again : (x : ℕ) → x ≡ linkWord l a → left ≢ 0 → a ≢ 0 → endsWithin (left - 1) (tables l []) x ≡ listEnds (tables l [])
-  ends-again x p g e = rw p (ends-next (tables l []) left a g e ∙ whole)
+  pub ends-again : (n x : ℕ) → x ≡ linkWord l a → left ≢ 0 → (eqb a 0 || ltb n a) ≡ false → endsWithin (left - 1) (tables l []) x ≡ listEnds (tables l [])
+  ends-again n x p g e = rw p (ends-next (tables l []) left a g (within-some n a e) ∙ whole)
 
   pub ends-left : left ≡ 0 → eqb a 0 ≡ listEnds (tables l [])
   unfolding endsWithin
   ends-left e = rw e at whole
 
-  pub ends-done : a ≡ 0 → true ≡ listEnds (tables l [])
-  ends-done e = sym (ends-zero (tables l []) left a e) ∙ whole
+  -- 0, or past the last node, where the next reads 0
+  pub ends-out : (n : ℕ) → n ≡ nodeCountOf l → nodesFit (tables l []) ≡ true → (eqb a 0 || ltb n a) ≡ true → left ≢ 0 → true ≡ listEnds (tables l [])
+  ends-out n k fit e g = elim (or-case (eqb a 0) (ltb n a) e) [
+    | inl z ↦ sym (ends-zero (tables l []) left a (eqb-true a 0 z)) ∙ whole
+    | inr z ↦
+        let past : nodeCountOf l < a = rw k at (ltb-true n a z) in
+        sym (ends-zero (tables l []) (left - 1) (linkWord l a) (link-past (tables l []) a (nodes-fit (tables l []) fit .0) past))
+        ∙ ends-next (tables l []) left a g (omega arith)
+        ∙ whole
+  ]
+
+pub within-in : (l : List ℕ) (n a : ℕ) → n ≡ nodeCountOf l → (eqb a 0 || ltb n a) ≡ false → a ≤ nodeCountOf l
+within-in l n a k e = rw (← k) (ltb-false n a (or-neither (eqb a 0) (ltb n a) e .1))
+
+pub few-fit : (l : List ℕ) (n : ℕ) → n ≡ nodeCountOf l → nodesFit (tables l []) ≡ true → n ≤ 256
+few-fit l n k fit = rw k (nodes-fit (tables l []) fit .2)
+
+pub nodes-of-fit : (l t : List ℕ) → lengthsFit (tables l t) ≡ true → nodesFit (tables l []) ≡ true
+unfolding lengthsFit nodesFit
+nodes-of-fit l t e = and-left (nodesFit (tables l [])) (seatsFit (tables l t)) e
 
 pub ends-all : (l : List ℕ) (n a : ℕ) → n ≡ nodeCountOf l → a ≡ linkWord l 0 → endsWithin n (tables l []) a ≡ listEnds (tables l [])
 ends-all l n a p q = rw (p, q)

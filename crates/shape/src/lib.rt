@@ -4,7 +4,7 @@ ghost use mathlib.Core.Bool.{true};
 ghost use mathlib.Core.List.{[]};
 ghost use Prim.Native.Nat.{_<_, _≤_};
 ghost use Rattle.rules.specs.Tables.{tables, nodeCountOf, seatCountOf};
-ghost use Rattle.rules.specs.Shape.{lengthsFit, isKind, names, nodeSound, seatSound, nodesSound, seatsSound, sound};
+ghost use Rattle.rules.specs.Shape.{nodesFit, lengthsFit, isKind, names, nodeSound, seatSound, nodesSound, seatsSound, sound};
 ghost use Rattle.shape.specs.Parts.{busySound, waitingSound, restingSound, listEnds};
 
 pub fn lengths_fit(nodes: &[u32], seats: &[u32]) -> bool
@@ -147,17 +147,19 @@ fn seats_sound(nodes: &[u32], seats: &[u32], n: u32, count: u32) -> bool
     true
 }
 
-// From the head, 0 is met after at most N nodes. It may be asked of any nodes: a next past the last node reads 0.
+// From the head, 0 is met after at most N nodes. Nothing is asked of the words: a next past the last node reads 0 and ends the list.
 pub fn list_ends(nodes: &[u32]) -> bool
+    requires { ⌜ nodesFit (tables (now nodes) []) ≡ true ⌝ }
     ensures { λ r. ⌜ r ≡ listEnds (tables (now (nodes .entry)) []) ⌝ }
 {
-    let mut left = words::node_count(nodes);
+    let n = words::node_count(nodes) as u32;
+    let mut left = n;
     let mut a = words::link(nodes, 0);
     while left != 0 {
-        if a == 0 {
+        if (a == 0) | (n < a) {
             return true;
         }
-        a = words::link(nodes, a);
+        a = words::next_within(nodes, a);
         left -= 1;
     }
     a == 0

@@ -6,9 +6,11 @@ use mathlib.Core.Bool.{_&&_}
 use lib.Dec.{eqb, leb}
 use mathlib.Core.Logic.{_≢_}
 use native.Mathlib.Omega.{arith}
+use borrow.Author.Tests.{leb-true, le-leb}
 use lib.ListN.{getD, set, length}
 use Rattle.rules.specs.Tables.{tables, beforeNodes, nodeWidth, seatWidth, nodeCountOf, seatCountOf, headAt, nextAt, nodeWord, putNode, linkWord, putLink}
 use Rattle.rules.specs.Shape.{nodesFit, seatsFit}
+use Rattle.rules.proofs.Logic.{same}
 use Rattle.rules.proofs.Words.{link-node, put-link-node}
 
 before : (m : ℕ) → suc m - 1 ≡ m
@@ -51,9 +53,16 @@ pub nodes-fit-is : (l : List ℕ) (n : ℕ) → n ≡ nodeCountOf l → (eqb (le
 unfolding nodesFit
 nodes-fit-is l n e = rw e
 
-pub seats-fit-is : (l : List ℕ) (n : ℕ) → n ≡ seatCountOf l → (eqb (length l) (seatWidth * n) && leb 1 n && leb n 64) ≡ seatsFit (tables [] l)
+some-seats : (l : List ℕ) → leb seatWidth (length l) ≡ leb 1 (seatCountOf l)
+unfolding seatCountOf
+some-seats l =
+    same (leb seatWidth (length l)) (leb 1 (seatCountOf l))
+    (λ p. let h = leb-true seatWidth (length l) p in le-leb 1 (seatCountOf l) (omega arith))
+    (λ p. let h = leb-true 1 (seatCountOf l) p in le-leb seatWidth (length l) (omega arith))
+
+pub seats-fit-is : (l : List ℕ) (n : ℕ) → n ≡ seatCountOf l → (eqb (length l) (seatWidth * n) && leb seatWidth (length l) && leb n 64) ≡ seatsFit (tables [] l)
 unfolding seatsFit
-seats-fit-is l n e = rw e
+seats-fit-is l n e = rw (e, some-seats l)
 
 -- tables of N nodes and of S seats, by their lengths
 pub nodes-by-length : (l : List ℕ) (n : ℕ) → length l ≡ beforeNodes + nodeWidth * n → nodeCountOf l ≡ n

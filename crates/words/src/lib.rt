@@ -156,11 +156,12 @@ pub fn nodes_fit(nodes: &[u32]) -> bool
     (nodes.len() == BEFORE_NODES + NODE_WIDTH * n) & (1 <= n) & (n <= 256)
 }
 
+// At least one seat is asked of the length, so that what follows need not ask again whether the table is empty.
 pub fn seats_fit(seats: &[u32]) -> bool
     ensures { λ r. ⌜ r ≡ seatsFit (tables [] (now (seats .entry))) ⌝ }
 {
     let s = seat_count(seats);
-    (seats.len() == SEAT_WIDTH * s) & (1 <= s) & (s <= 64)
+    (seats.len() == SEAT_WIDTH * s) & (SEAT_WIDTH <= seats.len()) & (s <= 64)
 }
 
 // How many words the tables of n nodes and of s seats have.

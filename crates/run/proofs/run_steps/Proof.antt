@@ -8,7 +8,7 @@ use Prim.Native.Nat.{_+_, _-_, _*_, _≤_}
 use mathlib.Core.Path.{_≡_, refl}
 use native.Mathlib.Omega.{arith}
 use borrow.Author.Needs.{needs}
-use Rattle.run.proofs.Counting.{plus, left-all, left-again, left-refused, left-budget, left-end, known-again}
+use Rattle.run.proofs.Counting.{plus, left-all, left-again, left-refused, left-budget, left-end, still-fit, known-again}
 use Rattle.run.proofs.run_steps.Statement.{statement}
 use Rattle.run.proofs.run_steps.Tie as tie
 
@@ -45,7 +45,10 @@ seat-word-requires-2 : tie.Need-seat-word-requires-2 Inv-loop μ-loop
 seat-word-requires-2 c κs = search needs
 
 is-kept-sound-requires : tie.Need-is-kept-sound-requires Inv-loop μ-loop
-is-kept-sound-requires c κs = search needs
+is-kept-sound-requires c κs =
+    let e = c .before .before .before .before .before .before .before .before in
+    let l = e .before .before .before .before .before .before .before .before in
+    still-fit _ _ _ (l .before .before .before .before .pre) (search needs)
 
 add-steps : tie.Need-add-steps Inv-loop μ-loop
 add-steps c = omega arith

@@ -6,18 +6,21 @@ use mathlib.Core.Path.{_≡_}
 use native.Mathlib.Omega.{arith}
 use borrow.Author.Needs.{needs}
 use Rattle.shape.specs.Parts.{listEnds}
-use Rattle.shape.proofs.Tests.{ends-all, ends-again, ends-left, ends-done}
+use Rattle.shape.proofs.Tests.{ends-all, ends-again, ends-left, ends-out, within-some, within-in, few-fit}
 use Rattle.shape.proofs.list_ends.Statement.{statement}
 use Rattle.shape.proofs.list_ends.Tie as tie
 
 abbrev Inv-loop : tie.InvT-loop
-Inv-loop nodes left₀ a₀ left a = endsWithin left (tables nodes []) a ≡ listEnds (tables nodes [])
+Inv-loop nodes n left₀ a₀ left a = endsWithin left (tables nodes []) a ≡ listEnds (tables nodes [])
 
 abbrev μ-loop : tie.MeasureT-loop
-μ-loop nodes left₀ a₀ left a = left
+μ-loop nodes n left₀ a₀ left a = left
 
 node-count-requires : tie.Need-node-count-requires Inv-loop μ-loop
 node-count-requires c κs = search needs
+
+cast-n : tie.Need-cast-n Inv-loop μ-loop
+cast-n c = omega (arith, few-fit _ _ (c .node-count .ensures) (c .before .before .pre))
 
 link-requires : tie.Need-link-requires Inv-loop μ-loop
 link-requires c κs = search needs
@@ -26,10 +29,10 @@ loop-holds : tie.Need-loop-holds Inv-loop μ-loop
 loop-holds c = search ends-all
 
 returns : tie.Need-returns Inv-loop μ-loop
-returns c = search ends-done
+returns c = search ends-out
 
-link-requires-2 : tie.Need-link-requires-2 Inv-loop μ-loop
-link-requires-2 c κs = search needs
+next-within-requires : tie.Need-next-within-requires Inv-loop μ-loop
+next-within-requires c κs = search (within-some, within-in)
 
 sub-left : tie.Need-sub-left Inv-loop μ-loop
 sub-left c = omega arith
@@ -50,10 +53,11 @@ list-ends-spec =
     Inv-loop
     μ-loop
     node-count-requires
+    cast-n
     link-requires
     loop-holds
     returns
-    link-requires-2
+    next-within-requires
     sub-left
     loop-less
     loop-again

@@ -1,6 +1,6 @@
 -- `shape::words_sound` meets its promise.
 use native.Mathlib.Omega.{arith}
-use Rattle.shape.proofs.Tests.{few-nodes, few-seats, nodes-not, head-not, seats-not, words-are}
+use Rattle.shape.proofs.Tests.{few-nodes, few-seats, nodes-not, head-not, seats-not, words-are, nodes-of-fit}
 use borrow.Author.Needs.{needs}
 use Rattle.shape.proofs.words_sound.Statement.{statement}
 use Rattle.shape.proofs.words_sound.Tie as tie
@@ -39,7 +39,7 @@ returns-3 : tie.Need-returns-3
 returns-3 c = search seats-not
 
 list-ends-requires : tie.Need-list-ends-requires
-list-ends-requires c κs = search needs
+list-ends-requires c κs = search nodes-of-fit
 
 returns-4 : tie.Need-returns-4
 returns-4 c = search words-are
