@@ -1,16 +1,16 @@
 -- The place of each word as the code works it out (node a, from 1, stands at a - 1), and the lengths.
-use Prim.Native.Nat.{ℕ, zero, suc, _+_, _-_, _*_, _≤_}
+use Prim.Native.Nat.{ℕ, zero, suc, _+_, _-_, _*_, _≤_, _<_}
 use mathlib.Core.Path.{_≡_, refl, sym, _∙_}
 use mathlib.Core.List.{List, []}
-use mathlib.Core.Bool.{_&&_}
-use lib.Dec.{eqb, leb}
+use mathlib.Core.Bool.{true, _&&_}
+use lib.Dec.{eqb, leb, ltb}
 use mathlib.Core.Logic.{_≢_}
 use native.Mathlib.Omega.{arith}
-use borrow.Author.Tests.{leb-true, le-leb}
+use borrow.Author.Tests.{leb-true, le-leb, ltb-true}
 use lib.ListN.{getD, set, length}
 use Rattle.rules.specs.Tables.{tables, beforeNodes, nodeWidth, seatWidth, nodeCountOf, seatCountOf, headAt, nextAt, nodeWord, putNode, linkWord, putLink}
 use Rattle.rules.specs.Shape.{nodesFit, seatsFit}
-use Rattle.rules.proofs.Logic.{same}
+use Rattle.rules.proofs.Logic.{same, and-left, and-right}
 use Rattle.rules.proofs.Words.{link-node, put-link-node}
 
 before : (m : ℕ) → suc m - 1 ≡ m
@@ -48,6 +48,18 @@ nodes-within l n e = omega arith
 pub seats-within : (l : List ℕ) (n : ℕ) → n ≡ seatCountOf l → seatWidth * n ≤ length l
 unfolding seatCountOf
 seats-within l n e = omega arith
+
+-- a seat that the table has, and a word that a seat has
+module _ (l : List ℕ) (s f n : ℕ) (isCount : n ≡ seatCountOf l) (has : (ltb s n && ltb f seatWidth) ≡ true) where
+  pub seat-there : s < seatCountOf l
+  seat-there = rw (← isCount) (ltb-true s n (and-left (ltb s n) (ltb f seatWidth) has))
+
+  pub field-there : f < seatWidth
+  field-there = ltb-true f seatWidth (and-right (ltb s n) (ltb f seatWidth) has)
+
+  pub place-there : seatWidth * s + f < length l
+  unfolding seatCountOf
+  place-there = let h = seat-there in let g = field-there in omega arith
 
 pub nodes-fit-is : (l : List ℕ) (n : ℕ) → n ≡ nodeCountOf l → (eqb (length l) (beforeNodes + nodeWidth * n) && leb 1 n && leb n 256) ≡ nodesFit (tables l [])
 unfolding nodesFit

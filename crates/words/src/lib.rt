@@ -112,12 +112,6 @@ pub fn put_link(nodes: &mut [u32], a: u32, value: u32)
     put_node(nodes, a, NEXT, value);
 }
 
-pub fn seat_word(seats: &[u32], s: u32, field: u32) -> u32
-    ensures { λ r. ⌜ r ≡ seatWord (now (seats .entry)) s field ⌝ }
-{
-    word(seats, SEAT_WIDTH * s as usize + field as usize)
-}
-
 // a word of a seat that the table has
 pub fn seat_word_within(seats: &[u32], s: u32, field: u32) -> u32
     requires { ⌜ s < seatCountOf (now seats) ⌝ }
@@ -127,9 +121,23 @@ pub fn seat_word_within(seats: &[u32], s: u32, field: u32) -> u32
     seats[SEAT_WIDTH * s as usize + field as usize]
 }
 
+// Whether the table has the seat is asked of the seat and not of the word, so that a caller who has asked it already pays for no test here.
+pub fn seat_word(seats: &[u32], s: u32, field: u32) -> u32
+    ensures { λ r. ⌜ r ≡ seatWord (now (seats .entry)) s field ⌝ }
+{
+    if ((s as usize) < seat_count(seats)) & (field < 4) {
+        return seat_word_within(seats, s, field);
+    }
+    word(seats, SEAT_WIDTH * s as usize + field as usize)
+}
+
 pub fn put_seat(seats: &mut [u32], s: u32, field: u32, value: u32)
     ensures { λ r. ⌜ now (seats .exit) ≡ putSeat (now (seats .entry)) s field value ⌝ }
 {
+    if ((s as usize) < seat_count(seats)) & (field < 4) {
+        seats[SEAT_WIDTH * s as usize + field as usize] = value;
+        return;
+    }
     put(seats, SEAT_WIDTH * s as usize + field as usize, value);
 }
 
