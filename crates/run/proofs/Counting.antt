@@ -1,28 +1,28 @@
 -- Run's loop: after k accepted steps, k and what is left of the budget and of the schedule give the whole.
 use Prim.Native.Nat.{ℕ, zero, suc, _+_, _-_, _≤_, _<_}
 use mathlib.Core.Path.{_≡_, refl, sym, ap, _∙_}
-use mathlib.Core.Bool.{Bool, true, false, _&&_}
+use mathlib.Core.Bool.{Bool, true, false, not, _&&_, _||_}
 use mathlib.Core.List.{List, [], _∷_}
-use mathlib.Core.Logic.{_≢_}
+use mathlib.Core.Logic.{_≢_, inl, inr}
 use native.Mathlib.Omega.{arith}
 use native.Mathlib.Numerals.{add-one}
 use lib.ListN.{length, drop, getD}
 use lib.Seq.{drop-cons, drop-length}
-use lib.Dec.{eqb}
-use borrow.Author.Tests.{ne-eqb, eq-eqb}
+use lib.Dec.{eqb, leb}
+use borrow.Author.Tests.{ne-eqb, eq-eqb, eqb-true, eqb-false, leb-true, leb-false, not-true, not-false}
 use Rattle.rules.specs.Tables.{Tables, tables, seatWord, nodeCountOf, linkWord, phaseAt, phase}
 use Rattle.rules.specs.Shape.{nodesFit, seatsFit, lengthsFit, names, endsWithin, nodesSound, seatsSound, sound}
-use Rattle.rules.specs.Answers.{Answer, Done, done}
+use Rattle.rules.specs.Answers.{Answer, refused, Done, done}
 use Rattle.rules.specs.Calls.{step}
 use Rattle.rules.specs.Run.{ran, refusalOf, oneMore, runSteps, run}
 use Rattle.rules.specs.declared.Ran.{Ran}
-use Rattle.rules.proofs.Logic.{and-left, all5}
+use Rattle.rules.proofs.Logic.{branch, clash, not-of, or-case, or-neither, and-left, all5}
+use Rattle.rules.proofs.Shape.{is-sound}
 use Rattle.rules.proofs.Refused.{step-keeps}
-use Rattle.rules.proofs.Accepting.{Stepped, step-refused, step-accepted, stepped}
 use Rattle.rules.proofs.SoundKept.{step-keeps-sound}
 use Rattle.shape.specs.Parts.{listEnds}
 use Rattle.rules.proofs.NodesAlone.{ends-alone}
-use Rattle.run.specs.Parts.{stepEntry, keptSound}
+use Rattle.run.specs.Parts.{keptSound, stopAtDamage}
 
 -- k steps before the others
 abbrev pub plus : ℕ → Done Ran → Done Ran
@@ -33,10 +33,6 @@ plus-more k rest = let e : rest .answer .steps + 1 + k ≡ rest .answer .steps +
 
 plus-none : (k refusal : ℕ) (t : Tables) → done (ran k refusal) t ≡ plus k (done (ran 0 refusal) t)
 plus-none k refusal t = let e : 0 + k ≡ k = omega arith in rw e
-
--- ---- one entry
-pub entry-is : (n n′ t t′ : List ℕ) (s r : ℕ) (a : Answer) → r ≡ refusalOf a → done a (tables n′ t′) ≡ step (tables n t) s → done r (tables n′ t′) ≡ stepEntry (tables n t) s
-entry-is n n′ t t′ s r a p q = rw (p, ← q)
 
 -- ---- the loop
 accepted : (b : ℕ) (t : Tables) (s : ℕ) (rest : List ℕ) → refusalOf (step t s .answer) ≡ 0 → runSteps (suc b) t (s ∷ rest) ≡ oneMore (runSteps b (step t s .after) rest)
@@ -51,6 +47,10 @@ nothing-left : (b : ℕ) (t : Tables) → runSteps b t [] ≡ done (ran 0 0) t
 unfolding runSteps
 nothing-left zero t = refl
 nothing-left (suc b) t = refl
+
+step-damaged : (t : Tables) (s : ℕ) → sound t ≡ false → step t s ≡ done (refused 1) t
+unfolding step
+step-damaged t s e = rw e
 
 budget-used : (t : Tables) (schedule : List ℕ) → runSteps 0 t schedule ≡ done (ran 0 0) t
 unfolding runSteps
@@ -68,25 +68,29 @@ module _ (schedule : List ℕ) (budget : ℕ) (whole : Done Ran) (n t : List ℕ
       let e : budget - k ≡ suc (budget - (k + 1)) = omega arith in
       rw (e, drop-cons schedule k 0 i, ← add-one k)
 
-  pub left-again : (n′ t′ : List ℕ) (k s r : ℕ) → Left k → done r (tables n′ t′) ≡ stepEntry (tables n t) s → r ≡ 0 → s ≡ getD schedule k 0 → k < budget → k < length schedule
-      → plus (k + 1) (runSteps (budget - (k + 1)) (tables n′ t′) (drop (k + 1) schedule)) ≡ whole
-  left-again n′ t′ k s r l w e q h i =
-      let a : r ≡ refusalOf (step (tables n t) s .answer) = ap (λ (x : Done ℕ). x .answer) w in
-      let u : tables n′ t′ ≡ step (tables n t) s .after = ap (λ (x : Done ℕ). x .after) w in
-      rw (u, q) (sym (plus-more k (runSteps (budget - (k + 1)) (step (tables n t) (getD schedule k 0) .after) (drop (k + 1) schedule)))
-      ∙ ap (plus k) (sym (here k h i ∙ accepted (budget - (k + 1)) (tables n t) (getD schedule k 0) (drop (k + 1) schedule) (rw q at (sym a ∙ e))))
-      ∙ l)
+  -- the entry is stepped
+  module _ (n′ t′ : List ℕ) (k s r : ℕ) (a : Answer) (left : Left k) (stepped : done a (tables n′ t′) ≡ step (tables n t) s) (isRefusal : r ≡ refusalOf a)
+      (isEntry : s ≡ getD schedule k 0) (h : k < budget) (i : k < length schedule) where
+    refusal : r ≡ refusalOf (step (tables n t) s .answer)
+    refusal = isRefusal ∙ ap (λ (x : Done Answer). refusalOf (x .answer)) stepped
 
-  pub left-refused : (n′ t′ : List ℕ) (k s r : ℕ) → Left k → done r (tables n′ t′) ≡ stepEntry (tables n t) s → r ≢ 0 → s ≡ getD schedule k 0 → k < budget → k < length schedule
-      → done (ran k r) (tables n′ t′) ≡ whole
-  left-refused n′ t′ k s r l w d q h i =
-      let a : r ≡ refusalOf (step (tables n t) s .answer) = ap (λ (x : Done ℕ). x .answer) w in
-      let u : tables n′ t′ ≡ step (tables n t) s .after = ap (λ (x : Done ℕ). x .after) w in
-      let z : refusalOf (step (tables n t) s .answer) ≢ 0 = λ e. d (a ∙ e) in
-      rw (a, u ∙ step-keeps (tables n t) s z)
-      (plus-none k (refusalOf (step (tables n t) s .answer)) (tables n t)
-      ∙ ap (plus k) (rw q (sym (here k h i ∙ turned-away (budget - (k + 1)) (tables n t) (getD schedule k 0) (drop (k + 1) schedule) (rw q at z))))
-      ∙ l)
+    after : tables n′ t′ ≡ step (tables n t) s .after
+    after = ap (λ (x : Done Answer). x .after) stepped
+
+    pub left-again : r ≡ 0 → plus (k + 1) (runSteps (budget - (k + 1)) (tables n′ t′) (drop (k + 1) schedule)) ≡ whole
+    left-again e =
+        let z : refusalOf (step (tables n t) s .answer) ≡ 0 = sym refusal ∙ e in
+        rw (after, isEntry) (sym (plus-more k (runSteps (budget - (k + 1)) (step (tables n t) (getD schedule k 0) .after) (drop (k + 1) schedule)))
+        ∙ ap (plus k) (sym (here k h i ∙ accepted (budget - (k + 1)) (tables n t) (getD schedule k 0) (drop (k + 1) schedule) (rw isEntry at z)))
+        ∙ left)
+
+    pub left-refused : r ≢ 0 → done (ran k r) (tables n′ t′) ≡ whole
+    left-refused d =
+        let z : refusalOf (step (tables n t) s .answer) ≢ 0 = λ e. d (refusal ∙ e) in
+        rw (refusal, after ∙ step-keeps (tables n t) s z)
+        (plus-none k (refusalOf (step (tables n t) s .answer)) (tables n t)
+        ∙ ap (plus k) (rw isEntry (sym (here k h i ∙ turned-away (budget - (k + 1)) (tables n t) (getD schedule k 0) (drop (k + 1) schedule) (rw isEntry at z))))
+        ∙ left)
 
   pub left-budget : (k : ℕ) → Left k → k ≡ budget → done (ran k 0) (tables n t) ≡ whole
   left-budget k l e =
@@ -97,6 +101,28 @@ module _ (schedule : List ℕ) (budget : ℕ) (whole : Done Ran) (n t : List ℕ
   left-end k l h i =
       let z : k ≡ length schedule = omega arith in
       plus-none k 0 (tables n t) ∙ ap (plus k) (rw (z, drop-length schedule) (sym (nothing-left (budget - length schedule) (tables n t)))) ∙ l
+
+  -- the tables are damaged: an entry that is left is refused 1
+  left-damaged : (k : ℕ) → Left k → sound (tables n t) ≡ false → k ≤ budget → k ≤ length schedule → done (stopAtDamage k (length schedule) budget) (tables n t) ≡ whole
+  left-damaged k l e h i =
+      branch (λ r. done r (tables n t) ≡ whole) (eqb k budget || leb (length schedule) k)
+      (λ z. elim (or-case (eqb k budget) (leb (length schedule) k) z) [
+        | inl q ↦ left-budget k l (eqb-true k budget q)
+        | inr q ↦ left-end k l (leb-true (length schedule) k q) i
+      ])
+      (λ z.
+      let y = or-neither (eqb k budget) (leb (length schedule) k) z in
+      let used = eqb-false k budget (y .0) in
+      let more = leb-false (length schedule) k (y .1) in
+      let s = getD schedule k 0 in
+      let one : refusalOf (step (tables n t) s .answer) ≡ 1 = rw (step-damaged (tables n t) s e) in
+      plus-none k 1 (tables n t)
+      ∙ ap (plus k) (rw one at (sym (here k (omega arith) more ∙ turned-away (budget - (k + 1)) (tables n t) s (drop (k + 1) schedule) (λ q. absurd (omega arith)))))
+      ∙ l)
+
+  pub left-stopped : (k : ℕ) (r : Ran) → Left k → r ≡ stopAtDamage k (length schedule) budget → sound (tables n t) ≡ false → k ≤ budget → k ≤ length schedule
+      → done r (tables n t) ≡ whole
+  left-stopped k r l q e h i = rw q (left-damaged k l e h i)
 
 pub left-all : (schedule : List ℕ) (budget : ℕ) (t : Tables) → plus 0 (runSteps (budget - 0) t (drop 0 schedule)) ≡ runSteps budget t schedule
 left-all schedule budget t =
@@ -114,13 +140,13 @@ pub run-damaged : (n t schedule : List ℕ) (budget : ℕ) (b : Bool) → b ≡ 
 unfolding run
 run-damaged n t schedule budget b p e = rw (sym p ∙ e)
 
--- ---- what is known to be sound
--- a step on damaged tables is refused
-accepted-sound : (t : Tables) (s : ℕ) {d : Done Answer} → Stepped t s d → refusalOf (d .answer) ≡ 0 → sound t ≡ true
-accepted-sound t s (step-refused number r) e = absurd (r .some-number e)
-accepted-sound t s (step-accepted y h b w) e = y
+-- ---- whether the tables are still sound
+pub kept-linked : (n : List ℕ) (before after : ℕ) (r : Bool) → r ≡ listEnds (tables n []) → (eqb before 1 && eqb after 3) ≡ true → r ≡ keptSound (tables n []) before after
+kept-linked n before after r p e = rw e p
 
--- ---- whether they are still sound
+pub kept-other : (n : List ℕ) (before after : ℕ) → (eqb before 1 && eqb after 3) ≡ false → true ≡ keptSound (tables n []) before after
+kept-other n before after e = rw e
+
 -- a step keeps the lengths
 pub still-fit : (n n′ t : List ℕ) → sound (tables n t) ≡ true → length n′ ≡ length n → nodesFit (tables n′ []) ≡ true
 unfolding sound lengthsFit nodesFit nodeCountOf
@@ -128,20 +154,31 @@ still-fit n n′ t e l =
     let w = all5 (lengthsFit (tables n t)) (nodesSound (tables n t)) (names (tables n t) (linkWord n 0)) (seatsSound (tables n t)) (endsWithin (nodeCountOf n) (tables n t) (linkWord n 0)) e in
     rw l (and-left (nodesFit (tables n t)) (seatsFit (tables n t)) (w .0))
 
-pub kept-linked : (n : List ℕ) (before after : ℕ) (r : Bool) → r ≡ listEnds (tables n []) → (eqb before 1 && eqb after 3) ≡ true → r ≡ keptSound (tables n []) before after
-kept-linked n before after r p e = rw e p
+-- of the tables after a step on sound ones
+module _ (n n′ t t′ : List ℕ) (s before after : ℕ) (a : Answer) (k : Bool) (stepped : done a (tables n′ t′) ≡ step (tables n t) s) (isBefore : before ≡ seatWord t s phaseAt)
+    (isAfter : after ≡ seatWord t′ s phaseAt) (isKept : k ≡ keptSound (tables n′ []) before after) where
+  alone : listEnds (tables n′ []) ≡ listEnds (tables n′ t′)
+  alone = ends-alone (nodeCountOf n′) n′ t′ (linkWord n′ 0)
 
-pub kept-other : (n : List ℕ) (before after : ℕ) → (eqb before 1 && eqb after 3) ≡ false → true ≡ keptSound (tables n []) before after
-kept-other n before after e = rw e
+  pub still-sound : not k ≡ false → sound (tables n t) ≡ true → sound (tables n′ t′) ≡ true
+  still-sound e was =
+      let u : tables n′ t′ ≡ step (tables n t) s .after = ap (λ (x : Done Answer). x .after) stepped in
+      let new : after ≡ phase (step (tables n t) s .after) s = isAfter ∙ ap (λ (x : Tables). phase x s) u in
+      rw u (step-keeps-sound (tables n t) s was (λ x y.
+      let linked : keptSound (tables n′ []) before after ≡ listEnds (tables n′ []) = rw (eq-eqb before 1 (isBefore ∙ x), eq-eqb after 3 (new ∙ y)) in
+      rw (← u) (sym alone ∙ sym linked ∙ sym isKept ∙ not-false k e)))
 
--- after an accepted step, if the test says so
-pub known-again : (n n′ t t′ : List ℕ) (s r before after : ℕ) (k : Bool) → done r (tables n′ t′) ≡ stepEntry (tables n t) s → r ≡ 0
-    → before ≡ seatWord t s phaseAt → after ≡ seatWord t′ s phaseAt → k ≡ keptSound (tables n′ []) before after → k ≡ true → sound (tables n′ t′) ≡ true
-known-again n n′ t t′ s r before after k w e p q test passed =
-    let a : r ≡ refusalOf (step (tables n t) s .answer) = ap (λ (x : Done ℕ). x .answer) w in
-    let u : tables n′ t′ ≡ step (tables n t) s .after = ap (λ (x : Done ℕ). x .after) w in
-    let was : sound (tables n t) ≡ true = accepted-sound (tables n t) s (stepped (tables n t) s) (sym a ∙ e) in
-    let new : after ≡ phase (step (tables n t) s .after) s = q ∙ ap (λ (x : Tables). phase x s) u in
-    rw u (step-keeps-sound (tables n t) s was (λ x y.
-    let linked : keptSound (tables n′ []) before after ≡ listEnds (tables n′ []) = rw (eq-eqb before 1 (p ∙ x), eq-eqb after 3 (new ∙ y)) in
-    rw (← u) (sym (ends-alone (nodeCountOf n′) n′ t′ (linkWord n′ 0)) ∙ sym linked ∙ sym test ∙ passed)))
+  pub now-damaged : not k ≡ true → sound (tables n′ t′) ≡ false
+  now-damaged e =
+      not-of (sound (tables n′ t′)) (λ yes-sound.
+      let ends : listEnds (tables n′ []) ≡ true = alone ∙ is-sound (tables n′ t′) yes-sound .ends in
+      clash (keptSound (tables n′ []) before after)
+      (branch (λ b. b ≡ true) (eqb before 1 && eqb after 3) (λ q. ends) (λ q. refl))
+      (sym isKept ∙ not-true k e))
+
+-- ---- the answer at damage
+pub stops-used : (steps entries budget : ℕ) → (eqb steps budget || leb entries steps) ≡ true → ran steps 0 ≡ stopAtDamage steps entries budget
+stops-used steps entries budget e = rw e
+
+pub stops-refused : (steps entries budget : ℕ) → (eqb steps budget || leb entries steps) ≡ false → ran steps 1 ≡ stopAtDamage steps entries budget
+stops-refused steps entries budget e = rw e

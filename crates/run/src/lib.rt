@@ -27,19 +27,6 @@ fn refusal_of(reply: Reply) -> u32
     }
 }
 
-// one entry: 0, or the refusal. The tables are tested for damage unless they are known to be sound.
-fn step_entry(nodes: &mut [u32], seats: &mut [u32], s: u32, known: bool) -> u32
-    requires { ⌜ (known ≡ true → sound (tables (now nodes) (now seats)) ≡ true) ⌝ }
-    ensures { λ r. ⌜ done r (tables (now (nodes .exit)) (now (seats .exit))) ≡ part.stepEntry (tables (now (nodes .entry)) (now (seats .entry))) s ⌝ }
-{
-    if known {
-        let reply = claims::step_known(nodes, seats, s);
-        return refusal_of(reply);
-    }
-    let reply = claims::step(nodes, seats, s);
-    refusal_of(reply)
-}
-
 // After an accepted step by which a seat's phase changed from one to the other. Only the step that links own in, from phase 1 to 3, can
 // leave sound tables damaged, and then it is their list that does not end: no other word is looked at again.
 fn is_kept_sound(nodes: &[u32], before: u32, after: u32) -> bool
@@ -52,12 +39,28 @@ fn is_kept_sound(nodes: &[u32], before: u32, after: u32) -> bool
     true
 }
 
+// The answer of a run whose tables are found damaged after so many steps: its next entry is refused, if there is one.
+fn stop_at_damage(steps: u32, entries: usize, budget: u32) -> Ran
+    ensures { λ r. ⌜ r ≡ part.stopAtDamage steps entries budget ⌝ }
+{
+    if (steps == budget) | (entries <= steps as usize) {
+        return Ran {
+            steps: steps,
+            refusal: 0,
+        };
+    }
+    Ran {
+        steps: steps,
+        refusal: 1,
+    }
+}
+
+// The tables are sound whenever an entry is stepped, so that no entry tests them.
 fn run_steps(nodes: &mut [u32], seats: &mut [u32], schedule: &[u32], budget: u32) -> Ran
     requires { ⌜ sound (tables (now nodes) (now seats)) ≡ true ⌝ }
     ensures { λ r. ⌜ done r (tables (now (nodes .exit)) (now (seats .exit))) ≡ rule.runSteps budget (tables (now (nodes .entry)) (now (seats .entry))) (now (schedule .entry)) ⌝ }
 {
     let mut steps: u32 = 0;
-    let mut known = true;
     loop {
         if steps == budget {
             break Ran {
@@ -73,7 +76,8 @@ fn run_steps(nodes: &mut [u32], seats: &mut [u32], schedule: &[u32], budget: u32
         }
         let s = schedule[steps as usize];
         let before = words::seat_word(seats, s, words::PHASE);
-        let refusal = step_entry(nodes, seats, s, known);
+        let reply = claims::step_known(nodes, seats, s);
+        let refusal = refusal_of(reply);
         if refusal != 0 {
             break Ran {
                 steps: steps,
@@ -81,8 +85,10 @@ fn run_steps(nodes: &mut [u32], seats: &mut [u32], schedule: &[u32], budget: u32
             };
         }
         let after = words::seat_word(seats, s, words::PHASE);
-        known = is_kept_sound(nodes, before, after);
         steps += 1;
+        if !is_kept_sound(nodes, before, after) {
+            break stop_at_damage(steps, schedule.len(), budget);
+        }
     }
 }
 
