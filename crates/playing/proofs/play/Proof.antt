@@ -4,7 +4,7 @@ use mathlib.Core.Path.{_≡_}
 use Rattle.rules.specs.Play.{ascii}
 use Rattle.text.proofs.Lines.{line-reaches}
 use native.Mathlib.Omega.{arith}
-use Rattle.playing.proofs.Whole.{script-bounded, play-bad, play-good, whole}
+use Rattle.playing.proofs.Whole.{script-bounded, script-playable, play-bad, play-good, whole}
 use borrow.Author.Needs.{needs}
 use Rattle.playing.proofs.play.Statement.{statement}
 use Rattle.playing.proofs.play.Tie as tie
@@ -30,7 +30,7 @@ returns c =
     whole _ _ _ _ _ (c .put-line .ensures) (play-bad _ _ (read .read .ensures) (c .before .before .before .before .if1 .taken)) (omega arith) n
 
 play-script-requires : tie.Need-play-script-requires
-play-script-requires c κs = search script-bounded
+play-script-requires c κs = (search script-bounded, search script-playable)
 
 returns-2 : tie.Need-returns-2
 returns-2 c =
