@@ -1,5 +1,6 @@
 -- The rows' text, seat by seat.
-use Prim.Native.Nat.{ℕ, _+_, _≤_}
+use Prim.Native.Nat.{ℕ, _+_, _*_, _≤_}
+use native.Mathlib.Omega.{arith}
 use mathlib.Core.List.{List, [], _∷_, _++_, append-nil, append-assoc}
 use mathlib.Core.Logic.{_≢_}
 use mathlib.Core.Path.{_≡_, refl}
@@ -35,6 +36,9 @@ text-start t p = refl
 
 pub text-again : (t : Tables) (s : ℕ) (p q r : Page) → q ≡ puts p (rowsText (rowsBelow s t)) → r ≡ puts q (rowsText (heldBy t s)) → r ≡ puts p (rowsText (rowsBelow (s + 1) t))
 text-again t s p q r e f = rw (rows-again t s, rows-text-append) (joined p q r _ _ e f)
+
+pub rows-reach : (at s next r : ℕ) → r ≤ next + 49 → next ≤ at + 49 * s → r ≤ at + 49 * (s + 1)
+rows-reach at s next r h i = omega arith
 
 -- after the last seat
 pub text-done : (t : Tables) (p q : Page) (s n : ℕ) → q ≡ puts p (rowsText (rowsBelow s t)) → n ≡ seatCount t → s ≤ n → n ≤ s → q ≡ puts p (rowsText (holders t))

@@ -32,18 +32,27 @@ take-same (suc m) (suc n) h = ap (λ (l : List ℕ). 0 ∷ l) (take-same m n (om
 take-zeros : (m n : ℕ) (l : List ℕ) → l ≡ zeros m → n ≤ m → take n l ≡ zeros n
 take-zeros m n l e h = rw e (take-same m n h)
 
-pub length-zeros : (m n : ℕ) (l : List ℕ) → l ≡ zeros m → n ≤ m → n ≡ length (take n l)
+length-zeros : (m n : ℕ) (l : List ℕ) → l ≡ zeros m → n ≤ m → n ≡ length (take n l)
 length-zeros m n l e h = rw (e, take-same m n h) (sym (length-replicate n 0))
 
 -- the tables that are lent are fresh ones of N nodes and S seats
 module _ (script : Script) (w v : ℕ) (nodes seats : List ℕ) (bounded : Bounded script) (noNodes : nodes ≡ zeros (beforeNodes + nodeWidth * 256))
     (isNodes : w ≡ beforeNodes + nodeWidth * script .n) (noSeats : seats ≡ zeros (seatWidth * 64)) (isSeats : v ≡ seatWidth * script .s) where
+  few-nodes : w ≤ beforeNodes + nodeWidth * 256
+  few-nodes = let n = bounded .nodes in omega arith
+
+  few-seats : v ≤ seatWidth * 64
+  few-seats = let s = bounded .seats in omega arith
+
+  pub nodes-lent : w ≡ length (take w nodes)
+  nodes-lent = length-zeros (beforeNodes + nodeWidth * 256) w nodes noNodes few-nodes
+
+  pub seats-lent : v ≡ length (take v seats)
+  seats-lent = length-zeros (seatWidth * 64) v seats noSeats few-seats
+
   lent-fresh : tables (take w nodes) (take v seats) ≡ fresh (script .n) (script .s)
   unfolding fresh
-  lent-fresh =
-      let n = bounded .nodes in
-      let s = bounded .seats in
-      rw (take-zeros (beforeNodes + nodeWidth * 256) w nodes noNodes (omega arith), take-zeros (seatWidth * 64) v seats noSeats (omega arith), isNodes, isSeats)
+  lent-fresh = rw (take-zeros (beforeNodes + nodeWidth * 256) w nodes noNodes few-nodes, take-zeros (seatWidth * 64) v seats noSeats few-seats, isNodes, isSeats)
 
   pub lent-reached : Playable script → Reached (script .n) (script .s) (tables (take w nodes) (take v seats))
   lent-reached some = rw lent-fresh (cleared (some .some-nodes) (bounded .nodes) (some .some-seats) (bounded .seats))

@@ -2,6 +2,7 @@
 ghost use mathlib.Core.Path.{_≡_};
 ghost use Prim.Native.Nat.{_+_, _≤_};
 ghost use mathlib.Core.List.{[], _∷_, _++_};
+ghost use lib.ListN.{length};
 ghost use Rattle.rules.specs.Play.{ascii, decimal, answerText, rowText};
 ghost use Rattle.text.specs.Page.{page, puts};
 ghost use Rattle.replies.specs.Codes.{answerBy};
@@ -59,6 +60,7 @@ pub fn put_next(out: &mut [u8], at: usize, n: u32) -> usize
 // A line of a word and a number: `bad L`, `covered n`.
 pub fn put_line(out: &mut [u8], at: usize, word: &[u8], n: u64) -> usize
     ensures { λ r. ⌜ page (now (out .exit)) r ≡ puts (page (now (out .entry)) at) (now (word .entry) ++ decimal n ++ ascii "\n") ⌝ }
+    ensures { λ r. ⌜ r ≤ at + length (now (word .entry)) + 21 ⌝ }
 {
     let next = put_named(out, at, word, n);
     put_byte(out, next, b'\n')

@@ -1,8 +1,5 @@
 -- `playing::play_script` meets its contract: the parts lent are the fresh tables of N nodes and S seats.
-use Prim.Native.Nat.{_+_, _*_}
-use Rattle.rules.specs.Tables.{beforeNodes, nodeWidth, seatWidth}
-use native.Mathlib.Omega.{arith}
-use Rattle.playing.proofs.Whole.{length-zeros, lent-reached, script-played}
+use Rattle.playing.proofs.Whole.{nodes-lent, seats-lent, lent-reached, script-played}
 use borrow.Author.Needs.{needs}
 use Rattle.playing.proofs.play_script.Statement.{statement}
 use Rattle.playing.proofs.play_script.Tie as tie
@@ -23,13 +20,13 @@ array-borrow-prefix-nodes : tie.Need-array-borrow-prefix-nodes
 array-borrow-prefix-nodes c = search needs
 
 slice-aggregate-play-tables : tie.Need-slice-aggregate-play-tables
-slice-aggregate-play-tables c = length-zeros (beforeNodes + nodeWidth * 256) _ _ (c .before .before .before .before .fresh-nodes .ensures) (omega arith)
+slice-aggregate-play-tables c = search nodes-lent
 
 array-borrow-prefix-seats : tie.Need-array-borrow-prefix-seats
 array-borrow-prefix-seats c = search needs
 
 slice-aggregate-play-tables-2 : tie.Need-slice-aggregate-play-tables-2
-slice-aggregate-play-tables-2 c = length-zeros (seatWidth * 64) _ _ (c .before .before .before .before .fresh-seats .ensures) (omega arith)
+slice-aggregate-play-tables-2 c = search seats-lent
 
 play-tables-requires : tie.Need-play-tables-requires
 play-tables-requires c κs = (search needs, search lent-reached)

@@ -2,7 +2,7 @@
 -- measure is the number of seats left.
 use borrow.Author.Needs.{needs}
 use native.Mathlib.Omega.{arith}
-use Rattle.playing.proofs.Holding.{text-start, text-again, text-done}
+use Rattle.playing.proofs.Holding.{text-start, text-again, rows-reach, text-done}
 use Rattle.holders.proofs.Owned.{few-seats}
 use Rattle.text.specs.Page.{page, puts}
 use Rattle.rules.specs.Play.{rowsText}
@@ -39,7 +39,7 @@ loop-less : tie.Need-loop-less Inv-loop μ-loop
 loop-less c = omega arith
 
 loop-again : tie.Need-loop-again Inv-loop μ-loop
-loop-again c = (omega arith, omega arith, omega arith, omega (arith, c .before .before .put-held .ensures .1), search text-again)
+loop-again c = (omega arith, omega arith, omega arith, search rows-reach, search text-again)
 
 same-length : tie.Need-same-length Inv-loop μ-loop
 same-length c = search needs
