@@ -11,7 +11,6 @@ use borrow.Author.Tests.{eq-eqb, ne-eqb}
 use Rattle.rules.specs.Notation.{if_then_else_, _is_, count}
 use Rattle.rules.specs.Tables.{Tables, seatWord, seatCount, phaseAt, phase}
 use Rattle.rules.specs.Board.{rowOf, rowsBelow, holders, coveredBy}
-use Rattle.rules.specs.Demands.{Holds}
 use Rattle.rules.specs.declared.Row.{Row}
 use Rattle.holders.specs.Holding.{holding, heldBy}
 
@@ -24,10 +23,6 @@ module _ (t : Tables) (s w : ℕ) (isPhase : w ≡ phase t s) where
   pub held-one : w ≡ 5 → heldBy t s ≡ rowOf t s ∷ []
   unfolding heldBy
   held-one h = rw (← isPhase, eq-eqb w 5 h)
-
-  -- a caller asks for the row of a seat whose phase it has read
-  pub holds-now : w ≡ 5 → Holds t s
-  holds-now h = sym isPhase ∙ h
 
 -- ---- one seat more
 rows-by : (t : Tables) (s : ℕ) (b : Bool) → (if b then rowsBelow s t ++ (rowOf t s ∷ []) else rowsBelow s t) ≡ rowsBelow s t ++ (if b then rowOf t s ∷ [] else [])
