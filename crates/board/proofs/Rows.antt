@@ -1,89 +1,25 @@
 -- The rows as they are written one by one: what is written so far, followed by what was lent, is the board so far.
-use Prim.Native.Nat.{ℕ, zero, suc, _+_, _-_, _*_, _/_, _≤_, _<_}
+use Prim.Native.Nat.{ℕ, suc, _+_, _*_, _/_, _≤_, _<_}
 use mathlib.Core.Path.{_≡_, refl, sym, ap, _∙_}
-use mathlib.Core.Bool.{Bool, true, false, not}
+use mathlib.Core.Bool.{Bool, true, false}
 use mathlib.Core.List.{List, [], _∷_, _++_, append-assoc}
 use mathlib.Core.Logic.{_≢_}
 use native.Mathlib.Omega.{arith}
-use native.Mathlib.Numerals.{add-one}
-use lib.Dec.{eqb, ltb}
-use lib.ListN.{length, drop, set, getD, length-append, length-drop, length-set}
+use lib.Dec.{leb}
+use lib.ListN.{length, drop, set, getD, length-append}
 use lib.Seq.{drop-cons}
-use borrow.Author.Tests.{eq-eqb, ne-eqb, lt-ltb, le-ltb}
-use Rattle.rules.specs.Notation.{if_then_else_, _is_, count}
-use Rattle.rules.specs.Tables.{Tables, tables, nodeWord, seatWord, seatCountOf, phaseAt, ownAt, startAt, endAt, kindAt}
+use borrow.Author.Tests.{eq-eqb, ne-eqb, eqb-true, eqb-false, lt-ltb, le-ltb, le-leb, leb-true, leb-false}
+use Rattle.rules.specs.Notation.{_is_, _≤?_}
+use Rattle.rules.specs.Tables.{Tables, tables, seatCountOf, phase}
 use Rattle.rules.specs.Shape.{sound}
-use Rattle.rules.specs.Board.{rowOf, rowsBelow, holders, coveredBy, numbersOf, rowWidth, Boarded, Shown, shown, boardNumbers}
+use Rattle.rules.specs.Board.{rowOf, rowsBelow, holders, coveredBy, numbersOf, rowWidth, Boarded, shown, boardNumbers}
 use Rattle.rules.specs.declared.Row.{Row}
-use Rattle.rules.proofs.Shape.{is-sound}
-use Rattle.board.specs.Filling.{holding, putRow, Filled, filling, fillBoard, FilledUp, filledUp, fillAll, showHolders}
+use Rattle.holders.specs.Holding.{holding}
+use Rattle.holders.proofs.Rows.{rows-more, rows-same, rows-upto, rows-at-most, rows-counted}
+use Rattle.holders.proofs.Owned.{few-seats}
+use Rattle.board.specs.Filling.{putRow, Filled, filled, fillSeat, fillBelow, showHolders}
 
--- ---- counting the holders
-pub holding-none : (t : List ℕ) → 0 ≡ holding t 0
-unfolding holding count
-holding-none t = refl
-
-pub holding-more : (t : List ℕ) (s p n : ℕ) → n ≡ holding t s → p ≡ seatWord t s phaseAt → p ≡ 5 → n + 1 ≡ holding t (s + 1)
-unfolding holding count
-holding-more t s p n h q e = rw (add-one s, sym q ∙ e) (ap (λ (m : ℕ). m + 1) h)
-
-pub holding-same : (t : List ℕ) (s p n : ℕ) → n ≡ holding t s → p ≡ seatWord t s phaseAt → p ≢ 5 → n ≡ holding t (s + 1)
-unfolding holding count
-holding-same t s p n h q d = rw (add-one s, ne-eqb (seatWord t s phaseAt) 5 (λ e. d (q ∙ e))) (h ∙ omega arith)
-
-pub holding-done : (t : List ℕ) (s k n : ℕ) → n ≡ holding t s → k ≤ s → s ≤ k → n ≡ holding t k
-holding-done t s k n h a b = let e : s ≡ k = omega arith in rw (← e) h
-
--- ---- the rows of one more seat
-module _ (t : Tables) (s : ℕ) where
-  rows-more : seatWord (t .seats) s phaseAt ≡ 5 → rowsBelow (s + 1) t ≡ rowsBelow s t ++ (rowOf t s ∷ [])
-  unfolding rowsBelow
-  rows-more e = rw (add-one s, e)
-
-  rows-same : seatWord (t .seats) s phaseAt ≢ 5 → rowsBelow (s + 1) t ≡ rowsBelow s t
-  unfolding rowsBelow
-  rows-same d = rw (add-one s, ne-eqb (seatWord (t .seats) s phaseAt) 5 d)
-
-  rows-length : length (rowsBelow s t) ≤ length (rowsBelow (s + 1) t)
-  unfolding rowsBelow
-  rows-length = rw (add-one s) (go (eqb (seatWord (t .seats) s phaseAt) 5))
-    where
-      go : (b : Bool) → length (rowsBelow s t) ≤ length (if b then rowsBelow s t ++ (rowOf t s ∷ []) else rowsBelow s t)
-      go true = simp length-append (omega arith)
-      go false = omega arith
-
-rows-rise : (t : Tables) (k s : ℕ) → length (rowsBelow s t) ≤ length (rowsBelow (s + k) t)
-rows-rise t zero s = let e : s + 0 ≡ s = omega arith in rw e (omega arith)
-rows-rise t (suc k) s = let e : s + suc k ≡ s + k + 1 = omega arith in let h = rows-rise t k s in let i = rows-length t (s + k) in rw e (omega arith)
-
-rows-upto : (t : Tables) (s n : ℕ) → s ≤ n → length (rowsBelow s t) ≤ length (rowsBelow n t)
-rows-upto t s n h = let e : s + (n - s) ≡ n = omega arith in rw e at (rows-rise t (n - s) s)
-
-rows-counted : (t : Tables) (n : ℕ) → length (rowsBelow n t) ≡ holding (t .seats) n
-unfolding rowsBelow holding count
-rows-counted t zero = refl
-rows-counted t (suc n) = go (eqb (seatWord (t .seats) n phaseAt) 5) (rows-counted t n)
-  where
-    go : (b : Bool) → length (rowsBelow n t) ≡ holding (t .seats) n
-        → length (if b then rowsBelow n t ++ (rowOf t n ∷ []) else rowsBelow n t) ≡ holding (t .seats) n + (if b then 1 else 0)
-    go true h = length-append (rowsBelow n t) (rowOf t n ∷ []) ∙ rw h
-    go false h = h ∙ omega arith
-
-rows-at-most : (t : Tables) (n : ℕ) → length (rowsBelow n t) ≤ n
-unfolding rowsBelow
-rows-at-most t zero = omega arith
-rows-at-most t (suc n) = go (eqb (seatWord (t .seats) n phaseAt) 5) (rows-at-most t n)
-  where
-    go : (b : Bool) → length (rowsBelow n t) ≤ n → length (if b then rowsBelow n t ++ (rowOf t n ∷ []) else rowsBelow n t) ≤ suc n
-    go true h = simp length-append (omega arith)
-    go false h = omega arith
-
--- ---- what one row more covers, and its numbers
-covered-more : (rows : List Row) (row : Row) → coveredBy (rows ++ (row ∷ [])) ≡ coveredBy rows + (row .end - row .first)
-unfolding coveredBy
-covered-more [] row = omega arith
-covered-more (r ∷ rows) row = rw (covered-more rows row) (omega arith)
-
+-- ---- one row more, in numbers
 numbers-more : (rows : List Row) (row : Row) → numbersOf (rows ++ (row ∷ [])) ≡ numbersOf rows ++ (row .seat ∷ row .first ∷ row .end ∷ row .kind ∷ [])
 unfolding numbersOf
 numbers-more [] row = refl
@@ -99,9 +35,13 @@ set-behind : (x l : List ℕ) (k v : ℕ) → set (x ++ l) (length x + k) v ≡ 
 set-behind [] l k v = let e : 0 + k ≡ k = omega arith in rw e
 set-behind (a ∷ x) l k v = let e : length (a ∷ x) + k ≡ suc (length x + k) = omega arith in rw e (ap (λ (m : List ℕ). a ∷ m) (set-behind x l k v))
 
-row-behind : (x : List ℕ) (a b c d e f g h : ℕ) (l : List ℕ) → putRow (x ++ (a ∷ b ∷ c ∷ d ∷ l)) (length x) e f g h ≡ (x ++ (e ∷ f ∷ g ∷ h ∷ [])) ++ l
+row-behind : (x : List ℕ) (a b c d : ℕ) (row : Row) (l : List ℕ) → putRow (x ++ (a ∷ b ∷ c ∷ d ∷ l)) (length x) row ≡ (x ++ (row .seat ∷ row .first ∷ row .end ∷ row .kind ∷ [])) ++ l
 unfolding putRow
-row-behind x a b c d e f g h l =
+row-behind x a b c d row l =
+    let e = row .seat in
+    let f = row .first in
+    let g = row .end in
+    let h = row .kind in
     let z : length x + 0 ≡ length x = omega arith in
     ap (λ (m : List ℕ). set (set (set m (length x + 1) f) (length x + 2) g) (length x + 3) h) (rw z at (set-behind x (a ∷ b ∷ c ∷ d ∷ l) 0 e))
     ∙ ap (λ (m : List ℕ). set (set m (length x + 2) g) (length x + 3) h) (set-behind x (e ∷ b ∷ c ∷ d ∷ l) 1 f)
@@ -122,109 +62,103 @@ four l k h =
       one l (k + 3) (k + 4) (omega arith) (omega arith),
     )
 
-put-row-behind : (x l : List ℕ) (k e f g h : ℕ) → length x ≡ k → k + 4 ≤ length l → putRow (x ++ drop k l) k e f g h ≡ (x ++ (e ∷ f ∷ g ∷ h ∷ [])) ++ drop (k + 4) l
-put-row-behind x l k e f g h p r =
-    rw (four l k r) (rw p at (row-behind x (getD l k 0) (getD l (k + 1) 0) (getD l (k + 2) 0) (getD l (k + 3) 0) e f g h (drop (k + 4) l)))
+put-row-behind : (x l : List ℕ) (k : ℕ) (row : Row) → length x ≡ k → k + 4 ≤ length l → putRow (x ++ drop k l) k row ≡ (x ++ (row .seat ∷ row .first ∷ row .end ∷ row .kind ∷ [])) ++ drop (k + 4) l
+put-row-behind x l k row p r =
+    rw (four l k r) (rw p at (row-behind x (getD l k 0) (getD l (k + 1) 0) (getD l (k + 2) 0) (getD l (k + 3) 0) row (drop (k + 4) l)))
 
--- ---- filling
-pub row-is : (n t l l′ : List ℕ) (at s o a e k r : ℕ) → r ≡ e - a → l′ ≡ putRow l at s a e k → k ≡ nodeWord n o kindAt → e ≡ nodeWord n o endAt → a ≡ nodeWord n o startAt
-    → o ≡ seatWord t s ownAt → filling r l′ ≡ fillBoard l at (rowOf (tables n t) s)
-unfolding fillBoard
-row-is n t l l′ at s o a e k r pr pl pk pe pa po = rw (pr, pl, pk, pe, pa, po)
+-- ---- a seat
+module _ (t : Tables) (out : List ℕ) (s rows p : ℕ) where
+  pub seat-filled : (out′ : List ℕ) (row : Row) → out′ ≡ putRow out (rowWidth * rows) row → row ≡ rowOf t s → p ≡ phase t s → p ≡ 5 → filled (rows + 1) out′ ≡ fillSeat t s (filled rows out)
+  unfolding fillSeat
+  seat-filled out′ row e isRow q h = rw (← q, eq-eqb p 5 h, ← isRow, ← e)
 
--- after the first s seats: the rows written, what they cover, and the board
-pub record Filling (t : Tables) (lent : List ℕ) (s rows covered : ℕ) (out : List ℕ) : Type 0 where
-  pub written : rows ≡ length (rowsBelow s t)
-  pub covers : covered ≡ coveredBy (rowsBelow s t)
-  pub bounded : covered ≤ 4294967295 * s
-  pub shows : out ≡ numbersOf (rowsBelow s t) ++ drop (rowWidth * length (rowsBelow s t)) lent
+  pub seat-skipped : p ≡ phase t s → p ≢ 5 → filled rows out ≡ fillSeat t s (filled rows out)
+  unfolding fillSeat
+  seat-skipped q d = rw (← q, ne-eqb p 5 d)
 
-pub filling-start : (t : Tables) (lent : List ℕ) → Filling t lent 0 0 0 lent
-unfolding rowsBelow coveredBy numbersOf
-filling-start t lent = record { written = refl; covers = refl; bounded = omega arith; shows = refl }
+  -- there is room for the row of a seat that holds
+  pub room : rows ≡ length (rowsBelow s t) → rowWidth * length (rowsBelow (s + 1) t) ≤ length out → p ≡ phase t s → p ≡ 5 → rowWidth * rows + 4 ≤ length out
+  room w r q h = let k = ap length (rows-more t s p q h) ∙ length-append (rowsBelow s t) (rowOf t s ∷ []) in omega arith
 
-pub filling-skip : (t : Tables) (lent out : List ℕ) (s rows covered p : ℕ) → Filling t lent s rows covered out → p ≡ seatWord (t .seats) s phaseAt → p ≢ 5 → Filling t lent (s + 1) rows covered out
-filling-skip t lent out s rows covered p f q d =
-    let e = rows-same t s (λ z. d (q ∙ z)) in
-    let b = f .bounded in
-    record {
-      written = rw e (f .written);
-      covers = rw e (f .covers);
-      bounded = omega arith;
-      shows = rw e (f .shows);
-    }
+-- ---- from seat to seat
+pub fill-start : (t : Tables) (lent : List ℕ) → filled 0 lent ≡ fillBelow 0 t lent
+unfolding fillBelow rowsBelow numbersOf
+fill-start t lent = refl
 
--- there is room for the row of a seat that holds
-pub room : (t : Tables) (lent out : List ℕ) (s n rows covered p : ℕ) → Filling t lent s rows covered out → p ≡ seatWord (t .seats) s phaseAt → p ≡ 5 → s < n
-    → rowWidth * length (rowsBelow n t) ≤ length lent → length out ≡ length lent → rowWidth * rows + 4 ≤ length out
-room t lent out s n rows covered p f q e h r l =
-    let a = ap length (rows-more t s (sym q ∙ e)) ∙ length-append (rowsBelow s t) (rowOf t s ∷ []) in
-    let b = rows-upto t (s + 1) n (omega arith) in
-    let w = f .written in
-    omega arith
+module _ (t : Tables) (lent out : List ℕ) (s n rows : ℕ) (sofar : filled rows out ≡ fillBelow s t lent) where
+  pub fill-counted : rows ≡ length (rowsBelow s t)
+  unfolding fillBelow
+  fill-counted = ap (λ (x : Filled). x .rows) sofar
 
-pub filling-row : (t : Tables) (lent out out′ : List ℕ) (s rows covered p more : ℕ) → Filling t lent s rows covered out
-    → filling more out′ ≡ fillBoard out (rowWidth * rows) (rowOf t s) → p ≡ seatWord (t .seats) s phaseAt → p ≡ 5 → more ≤ 4294967295 → rowWidth * rows + 4 ≤ length out → length out ≡ length lent
-    → Filling t lent (s + 1) (rows + 1) (covered + more) out′
-unfolding fillBoard
-filling-row t lent out out′ s rows covered p more f g q e m r l =
-    let w = f .written in
-    let b = f .bounded in
-    let d = rows-more t s (sym q ∙ e) in
-    let row = rowOf t s in
-    let n = numbers-length (rowsBelow s t) in
-    let k = length-append (rowsBelow s t) (row ∷ []) in
-    let x : more ≡ row .end - row .first = ap (λ (y : Filled). y .frames) g in
-    let y : out′ ≡ putRow out (rowWidth * rows) (row .seat) (row .first) (row .end) (row .kind) = ap (λ (y : Filled). y .board) g in
-    let z : rowWidth * length (rowsBelow s t) + 4 ≡ rowWidth * length (rowsBelow s t ++ (row ∷ [])) = omega arith in
-    record {
-      written = rw d (omega arith);
-      covers = rw (d, covered-more (rowsBelow s t) row) (rw (f .covers, x));
-      bounded = omega arith;
-      shows = rw (d, numbers-more (rowsBelow s t) row, ← z)
-          (y ∙ rw (w, f .shows)
-          (put-row-behind (numbersOf (rowsBelow s t)) lent (rowWidth * length (rowsBelow s t)) (row .seat) (row .first) (row .end) (row .kind) n (omega arith)));
-    }
+  pub fill-small : rows ≤ s
+  fill-small = let w = fill-counted in let k = rows-at-most t s in omega arith
 
-pub filling-done : (t : Tables) (lent out : List ℕ) (s n rows covered : ℕ) → Filling t lent s rows covered out → n ≤ s → s ≤ n → filledUp rows covered out ≡ fillAll n t lent
-unfolding fillAll
-filling-done t lent out s n rows covered f a b =
-    let e : s ≡ n = omega arith in
-    rw (← e, f .written, f .covers, f .shows)
+  pub fill-done : n ≤ s → s ≤ n → filled rows out ≡ fillBelow n t lent
+  fill-done a b = let e : s ≡ n = omega arith in rw (← e) sofar
+
+-- what is lent for all has room for the first of them
+pub fill-fits : (t : Tables) (lent out : List ℕ) (s n : ℕ) → rowWidth * length (rowsBelow n t) ≤ length lent → s < n → length out ≡ length lent → rowWidth * length (rowsBelow (s + 1) t) ≤ length out
+fill-fits t lent out s n r h l = let k = rows-upto t (s + 1) n (omega arith) in omega arith
+
+pub fill-again : (t : Tables) (lent out out′ : List ℕ) (s n rows rows′ : ℕ) → filled rows′ out′ ≡ fillSeat t s (filled rows out) → filled rows out ≡ fillBelow s t lent
+    → rowWidth * length (rowsBelow n t) ≤ length lent → s < n → filled rows′ out′ ≡ fillBelow (s + 1) t lent
+unfolding fillSeat fillBelow
+fill-again t lent out out′ s n rows rows′ e sofar r h = e ∙ ap (fillSeat t s) sofar ∙ by (phase t s is 5) refl
+  where
+    by : (b : Bool) → (phase t s is 5) ≡ b → fillSeat t s (fillBelow s t lent) ≡ fillBelow (s + 1) t lent
+    by true q =
+        let holds = eqb-true (phase t s) 5 q in
+        let more = rows-more t s (phase t s) refl holds in
+        let k = length-append (rowsBelow s t) (rowOf t s ∷ []) in
+        let m = numbers-length (rowsBelow s t) in
+        let below = ap length more in
+        let fits = rows-upto t (s + 1) n (omega arith) in
+        let z : rowWidth * length (rowsBelow s t) + 4 ≡ rowWidth * length (rowsBelow s t ++ (rowOf t s ∷ [])) = omega arith in
+        let one : length (rowsBelow s t) + 1 ≡ length (rowsBelow s t ++ (rowOf t s ∷ [])) = omega arith in
+        rw (q, more, numbers-more (rowsBelow s t) (rowOf t s), ← z, ← one, put-row-behind (numbersOf (rowsBelow s t)) lent (rowWidth * length (rowsBelow s t)) (rowOf t s) m (omega arith))
+    by false q = rw (q, rows-same t s (phase t s) refl (eqb-false (phase t s) 5 q))
+
+-- ---- room for every row
+pub room-for-each : (t : List ℕ) (n room : ℕ) → n ≤ room → true ≡ (holding t n ≤? room)
+room-for-each t n room h =
+    let a = rows-at-most (tables [] t) n in
+    let b = rows-counted (tables [] t) n in
+    sym (le-leb (holding t n) room (omega arith))
+
+pub room-counted : (t : List ℕ) (n room k : ℕ) → k ≡ holding t n → leb k room ≡ (holding t n ≤? room)
+room-counted t n room k e = rw e
 
 -- ---- the call
-pub few-seats : (n t : List ℕ) (c : ℕ) → c ≡ seatCountOf t → sound (tables n t) ≡ true → c ≤ 64
-few-seats n t c e s = let w = is-sound (tables n t) s in let f = w .few-seats in omega arith
+module _ (n t l : List ℕ) (c : ℕ) (b : Bool) (isRoom : b ≡ (holding t c ≤? (length l / rowWidth))) where
+  pub long-enough : b ≡ true → rowWidth * length (rowsBelow c (tables n t)) ≤ length l
+  long-enough e = let k = rows-counted (tables n t) c in let h = leb-true (holding t c) (length l / rowWidth) (sym isRoom ∙ e) in omega arith
 
-module _ (n t l : List ℕ) (c k : ℕ) (isCount : c ≡ seatCountOf t) (isHolding : k ≡ holding t c) where
-  holders-counted : length (holders (tables n t)) ≡ k
-  unfolding holders
-  holders-counted = rows-counted (tables n t) (seatCountOf t) ∙ rw (← isCount) (sym isHolding)
+  module _ (isCount : c ≡ seatCountOf t) where
+    holders-counted : length (holders (tables n t)) ≡ holding t c
+    unfolding holders
+    holders-counted = rows-counted (tables n t) (seatCountOf t) ∙ rw isCount
 
-  pub too-short : length l / rowWidth < k → shown (Boarded.refused 9) l ≡ showHolders (tables n t) l
-  unfolding showHolders
-  too-short h = rw (holders-counted, lt-ltb (length l / rowWidth) k h)
+    pub too-short : b ≡ false → shown (Boarded.refused 9) l ≡ showHolders (tables n t) l
+    unfolding showHolders
+    too-short e = rw (holders-counted, lt-ltb (length l / rowWidth) (holding t c) (leb-false (holding t c) (length l / rowWidth) (sym isRoom ∙ e)))
 
-  pub long-enough : k ≤ length l / rowWidth → rowWidth * length (rowsBelow c (tables n t)) ≤ length l
-  long-enough h = let e = rows-counted (tables n t) c in omega arith
+    pub holders-shown : (l′ : List ℕ) (a v : ℕ) → filled a l′ ≡ fillBelow c (tables n t) l → v ≡ coveredBy (holders (tables n t)) → b ≡ true → shown (Boarded.filled a v) l′ ≡ showHolders (tables n t) l
+    unfolding showHolders fillBelow holders
+    holders-shown l′ a v f isSum e =
+        let all : fillBelow c (tables n t) l ≡ fillBelow (seatCountOf t) (tables n t) l = rw isCount in
+        let g = f ∙ all in
+        rw (
+          le-ltb (length l / rowWidth) (length (rowsBelow (seatCountOf t) (tables n t))) (rw holders-counted (leb-true (holding t c) (length l / rowWidth) (sym isRoom ∙ e))),
+          ap (λ (x : Filled). x .rows) g,
+          isSum,
+          ap (λ (x : Filled). x .board) g,
+        )
 
-  pub holders-shown : (l′ : List ℕ) (a b : ℕ) → filledUp a b l′ ≡ fillAll c (tables n t) l → k ≤ length l / rowWidth → shown (Boarded.filled a b) l′ ≡ showHolders (tables n t) l
-  unfolding showHolders fillAll holders
-  holders-shown l′ a b f h =
-      let e : fillAll c (tables n t) l ≡ fillAll (seatCountOf t) (tables n t) l = rw isCount in
-      let g = f ∙ e in
-      rw (
-        le-ltb (length l / rowWidth) (length (rowsBelow (seatCountOf t) (tables n t))) (rw holders-counted h),
-        ap (λ (x : FilledUp). x .rows) g,
-        ap (λ (x : FilledUp). x .covered) g,
-        ap (λ (x : FilledUp). x .board) g,
-      )
-
-pub few-rows : (n t l l′ : List ℕ) (c a b : ℕ) → filledUp a b l′ ≡ fillAll c (tables n t) l → c ≤ 64 → a ≤ 64
-unfolding fillAll
-few-rows n t l l′ c a b f h =
-    let e = ap (λ (x : FilledUp). x .rows) f in
-    let g = rows-at-most (tables n t) c in
+-- the number of rows fits a u32
+pub rows-fit : (n t l l′ : List ℕ) (c a : ℕ) → filled a l′ ≡ fillBelow c (tables n t) l → c ≡ seatCountOf t → sound (tables n t) ≡ true → a < 4294967296
+rows-fit n t l l′ c a f e h =
+    let k = fill-small (tables n t) l l′ c c a f in
+    let m = few-seats n t c e h in
     omega arith
 
 pub shown-sound : (n t l l′ : List ℕ) (b : Bool) (r : Boarded) → shown r l′ ≡ showHolders (tables n t) l → b ≡ sound (tables n t) → b ≡ true → shown r l′ ≡ boardNumbers (tables n t) l

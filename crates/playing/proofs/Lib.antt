@@ -2,5 +2,6 @@ pub mod Listing
 pub mod Holding
 pub mod Ending
 pub mod Turns
+pub mod Playable
 pub mod Whole
 pub mod OneAnswer

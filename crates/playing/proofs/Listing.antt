@@ -1,14 +1,17 @@
 -- The list, node by node: one law for each way through put_listed.
-use Prim.Native.Nat.{ℕ, zero, suc, _-_}
+use Prim.Native.Nat.{ℕ, zero, suc, _+_, _-_, _*_, _≤_}
 use native.Mathlib.Omega.{arith}
 use mathlib.Core.List.{List, [], _++_}
 use mathlib.Core.Path.{_≡_, refl}
 use borrow.Author.Tests.{eq-eqb, ne-eqb}
+use mir.Syntax.{w32}
+use mir.Val.{Fits}
 use Rattle.rules.specs.Tables.{Tables, tables, next, linkWord, nodeCountOf}
 use Rattle.rules.specs.Reach.{nodesFrom, listOf}
 use Rattle.rules.specs.Play.{ascii, decimal, numbersText, listText}
-use Rattle.text.specs.Page.{Page, puts}
+use Rattle.text.specs.Page.{Page, page, puts}
 use Rattle.text.proofs.Pages.{joined}
+use Rattle.text.proofs.Lines.{next-reaches}
 
 module _ (t : Tables) (left a : ℕ) (p : Page) where
   pub listed-none : left ≡ 0 → p ≡ puts p (numbersText (nodesFrom left t a))
@@ -32,6 +35,9 @@ module _ (t : Tables) (left a : ℕ) (p : Page) where
       go (suc left) n e =
           let z : suc left - 1 ≡ left = omega arith in
           rw (ne-eqb a 0 m) (joined p q r _ _ f (rw (z, g) at e))
+
+pub listed-reach : (l l′ : List ℕ) (left a at next r : ℕ) → r ≤ next + 11 * (left - 1) → page l′ next ≡ puts (page l at) (ascii " " ++ decimal a) → Fits w32 a → (left ≡ 0 → ⊥) → r ≤ at + 11 * left
+listed-reach l l′ left a at next r h e i n = let k = next-reaches l l′ at next a e (let b = i .fits in omega arith) in omega arith
 
 -- seats do not matter to the list
 nodes-from-nodes : (nodes seats other : List ℕ) (left a : ℕ) → nodesFrom left (tables nodes seats) a ≡ nodesFrom left (tables nodes other) a

@@ -1,29 +1,27 @@
 -- From the bytes of a script to everything that is printed: fresh tables, the calls, the end; or `bad L`.
 use Prim.Native.Nat.{ℕ, zero, suc, _+_, _*_, _≤_, _<_}
 use native.Mathlib.Omega.{arith}
-use mathlib.Core.List.{List, [], _∷_, _++_}
+use mathlib.Core.Bool.{true}
+use mathlib.Core.List.{List, _∷_, _++_}
 use mathlib.Core.Path.{_≡_, refl, sym, ap, _∙_}
 use lib.ListN.{length, take, drop, replicate, length-replicate}
 use lib.Seq.{length-take-le}
 use borrow.Author.Tests.{eq-eqb, ne-eqb}
 use Rattle.rules.specs.Tables.{Tables, tables, beforeNodes, nodeWidth, seatWidth, zeros, fresh, nodeCountOf, seatCountOf}
-use Rattle.rules.proofs.Words.{same-node-count, same-seat-count}
+use Rattle.rules.specs.Shape.{sound}
+use Rattle.rules.specs.Reached.{Reached, cleared}
+use Rattle.rules.proofs.Shape.{is-sound}
+use Rattle.rules.proofs.RunSteps.{calls-reached}
+use Rattle.rules.proofs.Apart.{always-sound}
 use Rattle.rules.specs.Script.{readScript}
-use Rattle.rules.specs.Play.{Call, callsOf, trace, afterAll, turnsText, endText, ascii, decimal, scriptText, play}
+use Rattle.rules.specs.Play.{callsOf, trace, afterAll, turnsText, endText, ascii, decimal, scriptText, play}
 use Rattle.rules.specs.declared.Script.{Script}
-use Rattle.words.proofs.Places.{nodes-by-length, seats-by-length}
 use Rattle.script.specs.Bounded.{Bounded}
 use Rattle.script.proofs.Bounds.{read-bounded}
 use Rattle.text.specs.Page.{Page, page, puts}
 use Rattle.text.proofs.Pages.{joined, written}
-use Rattle.playing.specs.Played.{Played, played, playFrom, playedText}
-
--- ---- a table that keeps its length keeps its count
-pub same-nodes : (l l′ : List ℕ) (m : ℕ) → nodeCountOf l ≤ m → length l′ ≡ length l → nodeCountOf l′ ≤ m
-same-nodes l l′ m h e = rw (same-node-count (tables l []) (tables l′ []) e) h
-
-pub same-seats : (l l′ : List ℕ) (m : ℕ) → seatCountOf l ≤ m → length l′ ≡ length l → seatCountOf l′ ≤ m
-same-seats l l′ m h e = rw (same-seat-count (tables [] l) (tables [] l′) e) h
+use Rattle.playing.proofs.Playable.{read-playable}
+use Rattle.playing.specs.Played.{Played, played, playFrom, playedText, Playable}
 
 -- ---- the part of a fresh table that is lent
 take-same : (m n : ℕ) → n ≤ m → take {A = ℕ} n (replicate m 0) ≡ replicate n 0
@@ -34,42 +32,64 @@ take-same (suc m) (suc n) h = ap (λ (l : List ℕ). 0 ∷ l) (take-same m n (om
 take-zeros : (m n : ℕ) (l : List ℕ) → l ≡ zeros m → n ≤ m → take n l ≡ zeros n
 take-zeros m n l e h = rw e (take-same m n h)
 
-pub length-zeros : (m n : ℕ) (l : List ℕ) → l ≡ zeros m → n ≤ m → n ≡ length (take n l)
+length-zeros : (m n : ℕ) (l : List ℕ) → l ≡ zeros m → n ≤ m → n ≡ length (take n l)
 length-zeros m n l e h = rw (e, take-same m n h) (sym (length-replicate n 0))
 
-pub lent-nodes : (m w n : ℕ) (l : List ℕ) → l ≡ zeros m → w ≡ beforeNodes + nodeWidth * n → w ≤ m → nodeCountOf (take w l) ≡ n
-lent-nodes m w n l e f h = nodes-by-length (take w l) n (sym (length-zeros m w l e h) ∙ f)
+-- the tables that are lent are fresh ones of N nodes and S seats
+module _ (script : Script) (w v : ℕ) (nodes seats : List ℕ) (bounded : Bounded script) (noNodes : nodes ≡ zeros (beforeNodes + nodeWidth * 256))
+    (isNodes : w ≡ beforeNodes + nodeWidth * script .n) (noSeats : seats ≡ zeros (seatWidth * 64)) (isSeats : v ≡ seatWidth * script .s) where
+  few-nodes : w ≤ beforeNodes + nodeWidth * 256
+  few-nodes = let n = bounded .nodes in omega arith
 
-pub lent-seats : (m w s : ℕ) (l : List ℕ) → l ≡ zeros m → w ≡ seatWidth * s → w ≤ m → seatCountOf (take w l) ≡ s
-lent-seats m w s l e f h = seats-by-length (take w l) s (sym (length-zeros m w l e h) ∙ f)
+  few-seats : v ≤ seatWidth * 64
+  few-seats = let s = bounded .seats in omega arith
+
+  pub nodes-lent : w ≡ length (take w nodes)
+  nodes-lent = length-zeros (beforeNodes + nodeWidth * 256) w nodes noNodes few-nodes
+
+  pub seats-lent : v ≡ length (take v seats)
+  seats-lent = length-zeros (seatWidth * 64) v seats noSeats few-seats
+
+  lent-fresh : tables (take w nodes) (take v seats) ≡ fresh (script .n) (script .s)
+  unfolding fresh
+  lent-fresh = rw (take-zeros (beforeNodes + nodeWidth * 256) w nodes noNodes few-nodes, take-zeros (seatWidth * 64) v seats noSeats few-seats, isNodes, isSeats)
+
+  pub lent-reached : Playable script → Reached (script .n) (script .s) (tables (take w nodes) (take v seats))
+  lent-reached some = rw lent-fresh (cleared (some .some-nodes) (bounded .nodes) (some .some-seats) (bounded .seats))
+
+  pub script-played : (p q : Page) → q ≡ puts p (playedText (tables (take w nodes) (take v seats)) (callsOf script)) → q ≡ puts p (scriptText script)
+  unfolding playedText scriptText
+  script-played p q e = rw lent-fresh at e
 
 -- ---- the calls, then the end
-pub tables-played : (t : Tables) (calls : List Call) (n s : List ℕ) (p q r : Page) → r ≡ puts q (endText (tables n s)) → played (tables n s) q ≡ playFrom 1 calls t p → r ≡ puts p (playedText t calls)
-unfolding playFrom playedText
-tables-played t calls n s p q r e f =
-    let a : tables n s ≡ afterAll t calls = ap (λ (x : Played). x .after) f in
-    let b : q ≡ puts p (turnsText 1 (trace t calls)) = ap (λ (x : Played). x .printed) f in
-    joined p q r _ _ b (rw (← a) e)
+module _ (t : Tables) (script : Script) (n s : List ℕ) (p q : Page) (isPlayed : played (tables n s) q ≡ playFrom 1 (callsOf script) t p) where
+  pub tables-played : (r : Page) → r ≡ puts q (endText (tables n s)) → r ≡ puts p (playedText t (callsOf script))
+  unfolding playFrom playedText
+  tables-played r e =
+      let a : tables n s ≡ afterAll t (callsOf script) = ap (λ (x : Played). x .after) isPlayed in
+      let b : q ≡ puts p (turnsText 1 (trace t (callsOf script))) = ap (λ (x : Played). x .printed) isPlayed in
+      joined p q r _ _ b (rw (← a) e)
 
-pub script-played : (script : Script) (m k w v : ℕ) (nodes seats : List ℕ) (p q : Page) →
-    q ≡ puts p (playedText (tables (take w nodes) (take v seats)) (callsOf script)) →
-    nodes ≡ zeros m →
-    w ≡ beforeNodes + nodeWidth * script .n →
-    w ≤ m →
-    seats ≡ zeros k →
-    v ≡ seatWidth * script .s →
-    v ≤ k →
-    q ≡ puts p (scriptText script)
-unfolding playedText scriptText fresh
-script-played script m k w v nodes seats p q e f g h f′ g′ h′ =
-    let a = take-zeros m w nodes f h in
-    let b = take-zeros k v seats f′ h′ in
-    rw (a, b, g, g′) at e
+  pub played-sound : Reached (script .n) (script .s) t → sound (tables n s) ≡ true
+  unfolding playFrom
+  played-sound r = rw (ap (λ (x : Played). x .after) isPlayed) (always-sound (calls-reached r (callsOf script)))
+
+  -- what is printed of 1,000 calls on the longest tables
+  pub played-short : (at end : ℕ) → end ≤ at + 11 * nodeCountOf n + 49 * seatCountOf s + 34 → at ≤ 0 + 21 * script .k → Reached (script .n) (script .s) t → Bounded script → end ≤ 26986
+  played-short at end e a r b =
+      let w = is-sound (tables n s) (played-sound r) in
+      let k = b .calls in
+      let x = w .few-nodes in
+      let y = w .few-seats in
+      omega arith
 
 -- ---- the bytes
 module _ (src : List ℕ) (script : Script) (isScript : script ≡ readScript src) where
   pub script-bounded : Bounded script
   script-bounded = rw isScript (read-bounded src)
+
+  pub script-playable : script .refusal ≡ 0 → Playable script
+  script-playable h = rw isScript (read-playable src (rw isScript at h))
 
   pub play-bad : (script .refusal ≡ 0 → ⊥) → play src ≡ ascii "bad " ++ decimal (script .wrong) ++ ascii "\n"
   unfolding play

@@ -1,12 +1,10 @@
 -- What the functions of this crate hand on while a script is played. Nothing here need be believed: the promise of `play` is that of the
 -- rules alone.
-use Prim.Native.Nat.{ℕ}
-use mathlib.Core.List.{List, [], _∷_, _++_}
-use Rattle.rules.specs.Notation.{if_then_else_, _is_}
-use Rattle.rules.specs.Tables.{Tables, phase}
-use Rattle.rules.specs.Board.{rowOf}
+use Prim.Native.Nat.{ℕ, _≤_}
+use mathlib.Core.List.{List, _++_}
+use Rattle.rules.specs.Tables.{Tables}
 use Rattle.rules.specs.Play.{Call, afterAll, trace, turnsText, endText}
-use Rattle.rules.specs.declared.Row.{Row}
+use Rattle.rules.specs.declared.Script.{Script}
 use Rattle.text.specs.Page.{Page, puts}
 
 -- the tables after some calls, and the page with their lines
@@ -25,8 +23,7 @@ playFrom number calls t p = played (afterAll t calls) (puts p (turnsText number 
 unfoldable pub playedText : Tables → List Call → List ℕ
 playedText t calls = turnsText 1 (trace t calls) ++ endText (afterAll t calls)
 
--- a seat's part of the board
-unfoldable pub heldBy : Tables → ℕ → List Row
-heldBy t s =
-    if phase t s is 5 then rowOf t s ∷ []
-    else []
+-- a script's tables have a node and a seat, which those of a script that is not refused have
+pub record Playable (script : Script) : Type 0 where
+  pub some-nodes : 1 ≤ script .n
+  pub some-seats : 1 ≤ script .s

@@ -1,11 +1,14 @@
 // A script played, from its bytes to every byte that is printed, in a lent buffer.
 ghost use mathlib.Core.Path.{_≡_};
+ghost use mathlib.Core.Bool.{true};
 ghost use mathlib.Core.List.{[]};
-ghost use Prim.Native.Nat.{_+_, _*_, _≤_};
+ghost use Prim.Native.Nat.{_+_, _*_, _<_, _≤_};
 ghost use lib.ListN.{length, take, drop};
 ghost use Rattle.rules.specs.Tables.{tables, nodeCountOf, seatCountOf};
 ghost use Rattle.rules.specs.Reach.{nodesFrom};
-ghost use Rattle.rules.specs.Board.{holders, coveredBy};
+ghost use Rattle.rules.specs.Shape.{sound};
+ghost use Rattle.rules.specs.Reached.{Reached};
+ghost use Rattle.rules.specs.Board as rule;
 ghost use Rattle.rules.specs.Answers.{done};
 ghost use Rattle.rules.specs.Means.{means};
 ghost use Rattle.rules.specs.Play.{call, callOf, callsOf, numbersText, listText, rowsText, endText, scriptText};
@@ -13,7 +16,8 @@ ghost use Rattle.rules.specs.Play.{play as Play·play};
 ghost use Rattle.script.specs.Bounded.{Bounded};
 ghost use Rattle.text.specs.Page.{page, puts};
 ghost use Rattle.replies.specs.Codes.{answerBy};
-ghost use Rattle.playing.specs.Played.{played, playFrom, playedText, heldBy};
+ghost use Rattle.holders.specs.Holding.{heldBy};
+ghost use Rattle.playing.specs.Played.{played, playFrom, playedText, Playable};
 use rules::Line;
 use rules::Reply;
 use rules::Script;
@@ -102,23 +106,21 @@ fn put_list(nodes: &[u32], out: &mut [u8], at: usize) -> usize
 
 // The seat's row, if it holds.
 fn put_held(nodes: &[u32], seats: &[u32], out: &mut [u8], at: usize, s: u32) -> usize
+    requires { ⌜ sound (tables (now nodes) (now seats)) ≡ true ⌝ }
+    requires { ⌜ s < seatCountOf (now seats) ⌝ }
     ensures { λ r. ⌜ page (now (out .exit)) r ≡ puts (page (now (out .entry)) at) (rowsText (heldBy (tables (now (nodes .entry)) (now (seats .entry))) s)) ⌝ }
     ensures { λ r. ⌜ r ≤ at + 49 ⌝ }
 {
-    let phase = words::seat_word(seats, s, words::PHASE);
-    if phase != 5 {
-        return at;
+    if words::seat_word_within(seats, s, words::PHASE) == 5 {
+        let row = holders::row_of(nodes, seats, s);
+        return text::put_row(out, at, row.seat, row.first, row.end, row.kind);
     }
-    let own = words::seat_word(seats, s, words::OWN);
-    let first = words::node_word(nodes, own, words::START);
-    let end = words::node_word(nodes, own, words::END);
-    let kind = words::node_word(nodes, own, words::KIND);
-    text::put_row(out, at, s, first, end, kind)
+    at
 }
 
 fn put_rows(nodes: &[u32], seats: &[u32], out: &mut [u8], at: usize) -> usize
-    requires { ⌜ seatCountOf (now seats) ≤ 64 ⌝ }
-    ensures { λ r. ⌜ page (now (out .exit)) r ≡ puts (page (now (out .entry)) at) (rowsText (holders (tables (now (nodes .entry)) (now (seats .entry))))) ⌝ }
+    requires { ⌜ sound (tables (now nodes) (now seats)) ≡ true ⌝ }
+    ensures { λ r. ⌜ page (now (out .exit)) r ≡ puts (page (now (out .entry)) at) (rowsText (rule.holders (tables (now (nodes .entry)) (now (seats .entry))))) ⌝ }
     ensures { λ r. ⌜ r ≤ at + 49 * seatCountOf (now (seats .entry)) ⌝ }
 {
     let count = words::seat_count(seats) as u32;
@@ -131,54 +133,22 @@ fn put_rows(nodes: &[u32], seats: &[u32], out: &mut [u8], at: usize) -> usize
     next
 }
 
-// The frames that the seat covers: none if it does not hold.
-fn frames(nodes: &[u32], seats: &[u32], s: u32) -> u32
-    ensures { λ r. ⌜ r ≡ coveredBy (heldBy (tables (now (nodes .entry)) (now (seats .entry))) s) ⌝ }
-{
-    let phase = words::seat_word(seats, s, words::PHASE);
-    if phase != 5 {
-        return 0;
-    }
-    let own = words::seat_word(seats, s, words::OWN);
-    let first = words::node_word(nodes, own, words::START);
-    let end = words::node_word(nodes, own, words::END);
-    if end <= first {
-        return 0;
-    }
-    end - first
-}
-
-fn covered(nodes: &[u32], seats: &[u32]) -> u64
-    requires { ⌜ seatCountOf (now seats) ≤ 64 ⌝ }
-    ensures { λ r. ⌜ r ≡ coveredBy (holders (tables (now (nodes .entry)) (now (seats .entry)))) ⌝ }
-{
-    let count = words::seat_count(seats) as u32;
-    let mut sum: u64 = 0;
-    let mut s: u32 = 0;
-    while s < count {
-        let more = frames(nodes, seats, s);
-        sum += more as u64;
-        s += 1;
-    }
-    sum
-}
-
 // What is printed after the calls: the list, the rows and the covered frames.
 fn put_end(nodes: &[u32], seats: &[u32], out: &mut [u8], at: usize) -> usize
-    requires { ⌜ seatCountOf (now seats) ≤ 64 ⌝ }
+    requires { ⌜ sound (tables (now nodes) (now seats)) ≡ true ⌝ }
     ensures { λ r. ⌜ page (now (out .exit)) r ≡ puts (page (now (out .entry)) at) (endText (tables (now (nodes .entry)) (now (seats .entry)))) ⌝ }
     ensures { λ r. ⌜ r ≤ at + 11 * nodeCountOf (now (nodes .entry)) + 49 * seatCountOf (now (seats .entry)) + 34 ⌝ }
 {
     let list = put_list(nodes, out, at);
     let rows = put_rows(nodes, seats, out, list);
-    let sum = covered(nodes, seats);
+    let sum = holders::covered(nodes, seats);
     text::put_line(out, rows, b"covered ", sum)
 }
 
-// The calls, and what follows them, on the tables given.
+// The calls, and what follows them, on the tables given. They are reached, so that those after the calls are sound.
 fn play_tables(nodes: &mut [u32], seats: &mut [u32], out: &mut [u8], script: Script) -> usize
     requires { ⌜ Bounded script ⌝ }
-    requires { ⌜ (nodeCountOf (now nodes) ≤ 256) × (seatCountOf (now seats) ≤ 64) ⌝ }
+    requires { ⌜ Reached (script .n) (script .s) (tables (now nodes) (now seats)) ⌝ }
     ensures { λ r. ⌜ page (now (out .exit)) r ≡ puts (page (now (out .entry)) 0) (playedText (tables (now (nodes .entry)) (now (seats .entry))) (callsOf script)) ⌝ }
     ensures { λ r. ⌜ r ≤ 26986 ⌝ }
 {
@@ -189,6 +159,7 @@ fn play_tables(nodes: &mut [u32], seats: &mut [u32], out: &mut [u8], script: Scr
 // The same on fresh tables.
 fn play_script(out: &mut [u8], script: Script) -> usize
     requires { ⌜ Bounded script ⌝ }
+    requires { ⌜ Playable script ⌝ }
     ensures { λ r. ⌜ page (now (out .exit)) r ≡ puts (page (now (out .entry)) 0) (scriptText script) ⌝ }
     ensures { λ r. ⌜ r ≤ 26986 ⌝ }
 {

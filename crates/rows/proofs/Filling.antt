@@ -11,7 +11,7 @@ use lib.ListN.{length, drop, set, length-set, length-append}
 use lib.Seq.{drop-cons, drop-set-lt, getD-set-same}
 use borrow.Author.Tests.{ne-eqb, lt-ltb, le-ltb, ltb-false}
 use Rattle.rules.specs.Notation.{if_then_else_}
-use Rattle.rules.specs.Tables.{Tables, tables, seatWord, nodeWord, seatCount, seatCountOf, phaseAt, ownAt, startAt, endAt, kindAt}
+use Rattle.rules.specs.Tables.{Tables, tables, seatWord, nodeWord, seatCount, phaseAt, ownAt, startAt, endAt, kindAt}
 use Rattle.rules.specs.Shape.{sound}
 use Rattle.rules.specs.Board.{rowWidth, rowOf, rowsBelow, holders, coveredBy, Boarded, Shown, shown, board, boardNumbers}
 use Rattle.rules.specs.Means.{meansBoard}
@@ -20,8 +20,7 @@ use Rattle.rules.specs.declared.BoardReply.{BoardReply}
 use Rattle.rules.specs.declared.BoardReply.the-variants.{Rows, Refused}
 use Rattle.rules.proofs.Shape.{is-sound}
 use Rattle.rules.proofs.Words.{seat-past}
-use Rattle.board.specs.Filling.{fillAll}
-use Rattle.board.proofs.Rows.{few-rows, few-seats}
+use Rattle.holders.proofs.Owned.{few-holders, row-is}
 use Rattle.rows.specs.Filling.{narrow, answerFor, rowsIn, lastBelow, lastRow, fillDown}
 
 -- ---- the answer
@@ -37,10 +36,6 @@ pub narrow-refused : (r : BoardReply) (room number : ℕ) → r ≡ Refused numb
 unfolding narrow
 narrow-refused r room number e = rw e
 
-few-holders : (n t : List ℕ) → sound (tables n t) ≡ true → length (holders (tables n t)) ≤ 64
-unfolding fillAll holders
-few-holders n t p = few-rows n t [] _ (seatCountOf t) _ _ refl (few-seats n t (seatCountOf t) refl p)
-
 -- the board of numbers with room for every seat's row answers as the board of rows, but for refusal 9
 pub answer-is : (n t l l′ : List ℕ) (room : ℕ) (r r′ : BoardReply) → meansBoard r′ ≡ narrow room (meansBoard r) → shown (meansBoard r) l′ ≡ boardNumbers (tables n t) l → length l ≡ 256
     → meansBoard r′ ≡ answerFor (tables n t) room
@@ -49,7 +44,7 @@ answer-is n t l l′ room r r′ e f h = e ∙ ap (narrow room) (ap (λ (x : Sho
   where
     go : (b : Bool) → sound (tables n t) ≡ b → narrow room (boardNumbers (tables n t) l .answer) ≡ answerFor (tables n t) room
     go false p = rw p
-    go true p = let k = few-holders n t p in rw (p, le-ltb (length l / rowWidth) (length (holders (tables n t))) (omega arith))
+    go true p = let k = few-holders (tables n t) p in rw (p, le-ltb (length l / rowWidth) (length (holders (tables n t))) (omega arith))
 
 pub rows-filled : (r : BoardReply) (rows covered : ℕ) → r ≡ Rows rows covered → rows ≡ rowsIn (meansBoard r)
 unfolding rowsIn
@@ -91,7 +86,7 @@ last-at-most t (suc s) = go (eqb (seatWord t s phaseAt) 5) (last-at-most t s)
 pub last-row-is : (n t : List ℕ) (below s o a e k : ℕ) → k ≡ nodeWord n o kindAt → e ≡ nodeWord n o endAt → a ≡ nodeWord n o startAt → o ≡ seatWord t s ownAt → s ≡ lastBelow t below
     → record { seat = s; first = a; end = e; kind = k } ≡ lastRow (tables n t) below
 unfolding lastRow
-last-row-is n t below s o a e k pk pe pa po ps = rw (pk, pe, pa, po, ps)
+last-row-is n t below s o a e k pk pe pa po ps = row-is n t s o a e k pk pe pa po ∙ ap (rowOf (tables n t)) ps
 
 -- ---- the rows
 rows-none : (t : Tables) (s : ℕ) → length (rowsBelow s t) ≡ 0 → rowsBelow s t ≡ []

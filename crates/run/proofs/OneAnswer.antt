@@ -1,12 +1,11 @@
--- Run's promise settles its count, its refusal and both tables: two results that meet it are equal.
-use mathlib.Core.Path.{_≡_}
-use mathlib.Core.List.{List}
-use Prim.Native.Nat.{ℕ}
-use Rattle.rules.specs.Tables.{Tables}
-use Rattle.rules.specs.Answers.{done}
-use Rattle.rules.specs.Run.{run}
-use Rattle.rules.specs.declared.Ran.{Ran}
+-- Run's promise settles its count, its refusal and both tables: two results that meet it on the same arguments are equal. It is the
+-- promise itself that is cited, as the checker reads it from the source.
+use denote.Ref.{now}
+use Rattle.rules.specs.Tables.{tables}
 use Rattle.rules.proofs.OneAnswer.{one-result}
+use Rattle.claims.proofs.OneAnswer.{Settles}
+use Rattle.run.proofs.run.Reads as run
+use Rattle.run.proofs.run.Kinds as kinds
 
-pub one-run : (t u u′ : Tables) (schedule : List ℕ) (budget : ℕ) (r r′ : Ran) → done r u ≡ run t schedule budget → done r′ u′ ≡ run t schedule budget → (r ≡ r′) × (u ≡ u′)
-one-run t u u′ schedule budget r r′ = one-result (run t schedule budget) r r′ u u′
+pub one-run : Settles kinds.ps kinds.r run.Post (λ κs s. tables (now (s .0)) (now (s .1 .0)))
+one-run κs args a b s t = one-result _ a b _ _

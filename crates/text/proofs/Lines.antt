@@ -2,9 +2,11 @@
 use Prim.Native.Nat.{ℕ, _+_, _<_, _≤_}
 use native.Mathlib.Omega.{arith}
 use mathlib.Core.List.{List, _++_}
-use mathlib.Core.Path.{_≡_, refl}
+use mathlib.Core.Path.{_≡_}
 use lib.ListN.{length, length-append}
 use borrow.Author.Tests.{ne-eqb}
+use mir.Syntax.{w64}
+use mir.Val.{Fits}
 use Rattle.rules.specs.Notation.{_is_}
 use Rattle.rules.specs.Answers.{Answer}
 use Rattle.rules.specs.Play.{ascii, decimal, answerText, rowText}
@@ -12,7 +14,7 @@ use Rattle.rules.proofs.Logic.{branch}
 use Rattle.text.specs.Page.{Page, page, puts}
 use Rattle.replies.specs.Codes.{answerBy}
 use Rattle.text.specs.Lines.{answerLine, row}
-use Rattle.text.proofs.Pages.{reached}
+use Rattle.text.proofs.Pages.{joined, reached}
 use Rattle.text.proofs.Decimals.{decimal-length}
 
 -- ---- the ways through put_answer: a code that is matched, and any other
@@ -81,3 +83,7 @@ module _ (l l′ : List ℕ) (at r : ℕ) where
       let a = reached l l′ _ at r e in
       let b = decimal-length 19 n (omega arith) in
       omega (arith, simp length-append at a)
+
+-- a line's parts, as put_line puts them
+pub line-put : (k l m : List ℕ) (at a r n : ℕ) (word : List ℕ) → page m r ≡ puts (page l a) (ascii "\n") → page l a ≡ puts (page k at) (word ++ decimal n) → Fits w64 n → r ≤ at + length word + 21
+line-put k l m at a r n word e f h = line-reaches k m at r word n (joined (page k at) (page l a) (page m r) _ _ f e) (let b = h .fits in omega arith)

@@ -1,6 +1,8 @@
 // Text into a lent buffer, and the lines that the program prints. A byte that finds no room is left out, so every function is total.
 ghost use mathlib.Core.Path.{_≡_};
+ghost use Prim.Native.Nat.{_+_, _≤_};
 ghost use mathlib.Core.List.{[], _∷_, _++_};
+ghost use lib.ListN.{length};
 ghost use Rattle.rules.specs.Play.{ascii, decimal, answerText, rowText};
 ghost use Rattle.text.specs.Page.{page, puts};
 ghost use Rattle.replies.specs.Codes.{answerBy};
@@ -58,6 +60,7 @@ pub fn put_next(out: &mut [u8], at: usize, n: u32) -> usize
 // A line of a word and a number: `bad L`, `covered n`.
 pub fn put_line(out: &mut [u8], at: usize, word: &[u8], n: u64) -> usize
     ensures { λ r. ⌜ page (now (out .exit)) r ≡ puts (page (now (out .entry)) at) (now (word .entry) ++ decimal n ++ ascii "\n") ⌝ }
+    ensures { λ r. ⌜ r ≤ at + length (now (word .entry)) + 21 ⌝ }
 {
     let next = put_named(out, at, word, n);
     put_byte(out, next, b'\n')
@@ -66,6 +69,7 @@ pub fn put_line(out: &mut [u8], at: usize, word: &[u8], n: u64) -> usize
 // `hold seat start end kind`
 pub fn put_row(out: &mut [u8], at: usize, seat: u32, first: u32, end: u32, kind: u32) -> usize
     ensures { λ r. ⌜ page (now (out .exit)) r ≡ puts (page (now (out .entry)) at) (rowText (row seat first end kind)) ⌝ }
+    ensures { λ r. ⌜ r ≤ at + 49 ⌝ }
 {
     let a = put_named(out, at, b"hold ", seat as u64);
     let b = put_next(out, a, first);

@@ -1,6 +1,8 @@
 -- `board::show_holders` meets its promise.
 use native.Mathlib.Omega.{arith}
-use Rattle.board.proofs.Rows.{few-seats, too-short, long-enough, holders-shown, few-rows}
+use Prim.Native.Nat.{_≤_}
+use Rattle.holders.proofs.Owned.{few-seats}
+use Rattle.board.proofs.Rows.{rows-fit, long-enough, too-short, holders-shown}
 use borrow.Author.Needs.{needs}
 use Rattle.board.proofs.show_holders.Statement.{statement}
 use Rattle.board.proofs.show_holders.Tie as tie
@@ -9,33 +11,28 @@ seat-count-requires : tie.Need-seat-count-requires
 seat-count-requires c κs = search needs
 
 cast-count : tie.Need-cast-count
-cast-count c = omega (arith, few-seats _ _ _ (c .seat-count .ensures) (c .before .before .before .before .pre))
+cast-count c = let few : c .seat-count .result ≤ 64 = search few-seats in omega arith
 
-count-holders-requires : tie.Need-count-holders-requires
-count-holders-requires c κs = search needs
-
-returns : tie.Need-returns
-returns c = search too-short
+has-room-requires : tie.Need-has-room-requires
+has-room-requires c κs = search needs
 
 fill-requires : tie.Need-fill-requires
-fill-requires c κs = search long-enough
+fill-requires c κs = (search needs, (omega arith, search long-enough))
 
-cast-t12 : tie.Need-cast-t12
-cast-t12 c =
-    let f = c .before .before .before in
-    let n = f .before .before .before .before in
-    omega (arith, few-rows _ _ _ _ _ _ _ (f .fill .ensures) (few-seats _ _ _ (n .seat-count .ensures) (n .before .before .before .before .pre)))
+cast-rows : tie.Need-cast-rows
+cast-rows c = search (rows-fit, needs)
+
+covered-requires : tie.Need-covered-requires
+covered-requires c κs = search needs
 
 same-length : tie.Need-same-length
 same-length c = search needs
 
+returns : tie.Need-returns
+returns c = search holders-shown
+
 returns-2 : tie.Need-returns-2
-returns-2 c =
-    let f = c .before .before .before in
-    let e = f .before .before in
-    let k = e .before in
-    let n = k .before in
-    holders-shown _ _ _ _ _ (n .seat-count .ensures) (k .count-holders .ensures) _ _ _ (f .fill .ensures) (e .if1 .left)
+returns-2 c = search too-short
 
 pub show-holders-spec : {M : Type 1} → statement M
 show-holders-spec =
@@ -43,9 +40,10 @@ show-holders-spec =
     (tie.spec
     seat-count-requires
     cast-count
-    count-holders-requires
-    returns
+    has-room-requires
     fill-requires
-    cast-t12
+    cast-rows
+    covered-requires
     same-length
+    returns
     returns-2)

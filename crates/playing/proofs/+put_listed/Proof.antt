@@ -1,8 +1,7 @@
 -- `playing::put_listed` meets its contract. The measure is the number of nodes that may still follow.
 use borrow.Author.Needs.{needs}
 use native.Mathlib.Omega.{arith}
-use Rattle.text.proofs.Lines.{next-reaches}
-use Rattle.playing.proofs.Listing.{listed-none, listed-end, listed-more}
+use Rattle.playing.proofs.Listing.{listed-none, listed-end, listed-more, listed-reach}
 use Prim.Native.Nat.{ℕ, _<_}
 use borrow.Fn.Kinds.{In}
 use borrow.Fn.PlainCycle.{Measures, is, falls, and}
@@ -103,11 +102,7 @@ put-listed-returns-3 : (t : ℕ) → put-listed-lts.Need-returns-3 (
   put-listed-below t,
   put-listed.Post,
 ) (put-listed-at t) put-listed.Post
-put-listed-returns-3 t c =
-    let rest = c .before .before in
-    let first = rest .before .before .before .before .before in
-    let h = next-reaches _ _ _ _ _ (first .put-next .ensures) (omega arith) in
-    (search listed-more, omega (arith, rest .put-listed .ensures .1))
+put-listed-returns-3 t c = (search listed-more, search listed-reach)
 
 pub +put-listed-spec : {M : Type 1} → statement M
 +put-listed-spec = close μ-put-listed λ t. put-listed-lts.spec (

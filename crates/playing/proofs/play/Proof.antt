@@ -1,10 +1,8 @@
 -- `playing::play` meets its contract: what is printed ends before the buffer does, so it stands whole in it.
 use lib.ListN.{length}
 use mathlib.Core.Path.{_≡_}
-use Rattle.rules.specs.Play.{ascii}
-use Rattle.text.proofs.Lines.{line-reaches}
 use native.Mathlib.Omega.{arith}
-use Rattle.playing.proofs.Whole.{script-bounded, play-bad, play-good, whole}
+use Rattle.playing.proofs.Whole.{script-bounded, script-playable, play-bad, play-good, whole}
 use borrow.Author.Needs.{needs}
 use Rattle.playing.proofs.play.Statement.{statement}
 use Rattle.playing.proofs.play.Tie as tie
@@ -26,11 +24,10 @@ returns c =
     let n : length (c .put-line .last .0) ≡ length (c .before .before .before .before .before .before .before .args .out .now) = search needs in
     let m : length (c .before .before .before .before .before .before .before .args .out .now) ≡ 32768 = search needs in
     let read = c .before .before .before .before .before in
-    let h = line-reaches _ _ _ _ (ascii "bad ") (read .read .result .wrong) (c .put-line .ensures) (omega arith) in
-    whole _ _ _ _ _ (c .put-line .ensures) (play-bad _ _ (read .read .ensures) (c .before .before .before .before .if1 .taken)) (omega arith) n
+    whole _ _ _ _ _ (c .put-line .ensures .0) (play-bad _ _ (read .read .ensures) (c .before .before .before .before .if1 .taken)) (omega (arith, c .put-line .ensures .1)) n
 
 play-script-requires : tie.Need-play-script-requires
-play-script-requires c κs = search script-bounded
+play-script-requires c κs = (search script-bounded, search script-playable)
 
 returns-2 : tie.Need-returns-2
 returns-2 c =

@@ -1,8 +1,5 @@
 -- `playing::play_script` meets its contract: the parts lent are the fresh tables of N nodes and S seats.
-use Prim.Native.Nat.{_+_, _*_}
-use Rattle.rules.specs.Tables.{beforeNodes, nodeWidth, seatWidth}
-use native.Mathlib.Omega.{arith}
-use Rattle.playing.proofs.Whole.{length-zeros, lent-nodes, lent-seats, script-played}
+use Rattle.playing.proofs.Whole.{nodes-lent, seats-lent, lent-reached, script-played}
 use borrow.Author.Needs.{needs}
 use Rattle.playing.proofs.play_script.Statement.{statement}
 use Rattle.playing.proofs.play_script.Tie as tie
@@ -23,37 +20,22 @@ array-borrow-prefix-nodes : tie.Need-array-borrow-prefix-nodes
 array-borrow-prefix-nodes c = search needs
 
 slice-aggregate-play-tables : tie.Need-slice-aggregate-play-tables
-slice-aggregate-play-tables c = length-zeros (beforeNodes + nodeWidth * 256) _ _ (c .before .before .before .before .fresh-nodes .ensures) (omega arith)
+slice-aggregate-play-tables c = search nodes-lent
 
 array-borrow-prefix-seats : tie.Need-array-borrow-prefix-seats
 array-borrow-prefix-seats c = search needs
 
 slice-aggregate-play-tables-2 : tie.Need-slice-aggregate-play-tables-2
-slice-aggregate-play-tables-2 c = length-zeros (seatWidth * 64) _ _ (c .before .before .before .before .fresh-seats .ensures) (omega arith)
+slice-aggregate-play-tables-2 c = search seats-lent
 
 play-tables-requires : tie.Need-play-tables-requires
-play-tables-requires c κs =
-    let words = c .before .before .before in
-    let cleared = words .before .before in (
-      search needs,
-      (
-        omega (arith, lent-nodes (beforeNodes + nodeWidth * 256) _ _ _ (cleared .before .fresh-nodes .ensures) (words .before .node-words .ensures) (omega arith)),
-        omega (arith, lent-seats (seatWidth * 64) _ _ _ (cleared .fresh-seats .ensures) (words .seat-words .ensures) (omega arith)),
-      ),
-    )
+play-tables-requires c κs = (search needs, search lent-reached)
 
 same-length : tie.Need-same-length
 same-length c = search needs
 
 returns : tie.Need-returns
-returns c =
-    let played = c .before .before .before .before in
-    let words = played .before .before .before .before in
-    let cleared = words .before .before in (
-      script-played _ (beforeNodes + nodeWidth * 256) (seatWidth * 64) _ _ _ _ _ _ (played .play-tables .ensures .0) (cleared .before .fresh-nodes .ensures)
-          (words .before .node-words .ensures) (omega arith) (cleared .fresh-seats .ensures) (words .seat-words .ensures) (omega arith),
-      played .play-tables .ensures .1,
-    )
+returns c = (search script-played, search needs)
 
 pub play-script-spec : {M : Type 1} → statement M
 play-script-spec =

@@ -1,8 +1,5 @@
 -- `playing::play_tables` meets its contract.
-use Rattle.rules.specs.Tables.{nodeCountOf, seatCountOf}
-use Prim.Native.Nat.{_≤_}
-use native.Mathlib.Omega.{arith}
-use Rattle.playing.proofs.Whole.{same-nodes, same-seats, tables-played}
+use Rattle.playing.proofs.Whole.{tables-played, played-sound, played-short}
 use borrow.Author.Needs.{needs}
 use Rattle.playing.proofs.play_tables.Statement.{statement}
 use Rattle.playing.proofs.play_tables.Tie as tie
@@ -11,7 +8,7 @@ play-calls-requires : tie.Need-play-calls-requires
 play-calls-requires c κs = search needs
 
 put-end-requires : tie.Need-put-end-requires
-put-end-requires c κs = search same-seats
+put-end-requires c κs = search played-sound
 
 same-length : tie.Need-same-length
 same-length c = search needs
@@ -23,14 +20,7 @@ same-length-3 : tie.Need-same-length-3
 same-length-3 c = search needs
 
 returns : tie.Need-returns
-returns c =
-    let end = c .before .before in
-    let calls = end .before .before .before .before .before .before .before .before .before .before in
-    let nodes : nodeCountOf (calls .play-calls .last .0) ≤ 256 = search same-nodes in
-    let seats : seatCountOf (calls .play-calls .last .1 .0) ≤ 64 = search same-seats in (
-      tables-played _ _ _ _ _ _ _ (end .put-end .ensures .0) (calls .play-calls .ensures .0),
-      omega (arith, end .put-end .ensures .1, calls .play-calls .ensures .1),
-    )
+returns c = (search tables-played, search played-short)
 
 pub play-tables-spec : {M : Type 1} → statement M
 play-tables-spec =

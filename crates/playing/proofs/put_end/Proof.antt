@@ -1,8 +1,5 @@
 -- `playing::put_end` meets its contract: its parts, one after another.
-use Rattle.rules.specs.Play.{ascii}
-use native.Mathlib.Omega.{arith}
-use Rattle.text.proofs.Lines.{line-reaches}
-use Rattle.playing.proofs.Ending.{end-is}
+use Rattle.playing.proofs.Ending.{end-is, end-reach}
 use borrow.Author.Needs.{needs}
 use Rattle.playing.proofs.put_end.Statement.{statement}
 use Rattle.playing.proofs.put_end.Tie as tie
@@ -26,15 +23,7 @@ same-length : tie.Need-same-length
 same-length c = search needs
 
 returns : tie.Need-returns
-returns c =
-    let line = c .before .before in
-    let sum = line .before .before .before in
-    let rows = sum .before .before .before in
-    let list = rows .before .before .before .before in
-    let h = line-reaches _ _ _ _ (ascii "covered ") (sum .covered .result) (line .put-line .ensures) (omega arith) in (
-      end-is _ _ _ _ _ _ _ (line .put-line .ensures) (sum .covered .ensures) (rows .put-rows .ensures .0) (list .put-list .ensures .0),
-      omega (arith, rows .put-rows .ensures .1, list .put-list .ensures .1),
-    )
+returns c = (search end-is, search end-reach)
 
 pub put-end-spec : {M : Type 1} → statement M
 put-end-spec =

@@ -2,7 +2,8 @@
 -- measure is the number of seats left.
 use borrow.Author.Needs.{needs}
 use native.Mathlib.Omega.{arith}
-use Rattle.playing.proofs.Holding.{text-start, text-again, text-done}
+use Rattle.playing.proofs.Holding.{text-start, text-again, rows-reach, text-done}
+use Rattle.holders.proofs.Owned.{few-seats}
 use Rattle.text.specs.Page.{page, puts}
 use Rattle.rules.specs.Play.{rowsText}
 use Rattle.rules.specs.Board.{rowsBelow}
@@ -14,7 +15,7 @@ use Rattle.playing.proofs.put_rows.Statement.{statement}
 use Rattle.playing.proofs.put_rows.Tie as tie
 
 abbrev Inv-loop : tie.InvT-loop
-Inv-loop nodes seats out₀ at count next₀ s₀ out next s = (length out ≡ length out₀) × (s ≤ count) × (next ≤ at + 49 * s) × (page out next ≡ puts (page out₀ at) (rowsText (rowsBelow s (tables nodes seats))))
+Inv-loop nodes seats out₀ at count next₀ s₀ out next s = (count ≤ 64) × (length out ≡ length out₀) × (s ≤ count) × (next ≤ at + 49 * s) × (page out next ≡ puts (page out₀ at) (rowsText (rowsBelow s (tables nodes seats))))
 
 abbrev μ-loop : tie.MeasureT-loop
 μ-loop nodes seats out₀ at count next₀ s₀ out next s = count - s
@@ -23,10 +24,10 @@ seat-count-requires : tie.Need-seat-count-requires Inv-loop μ-loop
 seat-count-requires c κs = search needs
 
 cast-count : tie.Need-cast-count Inv-loop μ-loop
-cast-count c = omega arith
+cast-count c = let few : c .seat-count .result ≤ 64 = search few-seats in omega arith
 
 loop-holds : tie.Need-loop-holds Inv-loop μ-loop
-loop-holds c = (refl, omega arith, omega arith, text-start _ _)
+loop-holds c = (search few-seats, refl, omega arith, omega arith, text-start _ _)
 
 put-held-requires : tie.Need-put-held-requires Inv-loop μ-loop
 put-held-requires c κs = search needs
@@ -38,7 +39,7 @@ loop-less : tie.Need-loop-less Inv-loop μ-loop
 loop-less c = omega arith
 
 loop-again : tie.Need-loop-again Inv-loop μ-loop
-loop-again c = (omega arith, omega arith, omega (arith, c .before .before .put-held .ensures .1), search text-again)
+loop-again c = (omega arith, omega arith, omega arith, search rows-reach, search text-again)
 
 same-length : tie.Need-same-length Inv-loop μ-loop
 same-length c = search needs

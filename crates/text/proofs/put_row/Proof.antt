@@ -1,6 +1,8 @@
--- `text::put_row` meets its contract: its five calls put five texts, one after another.
+-- `text::put_row` meets its contract: its five calls put five texts, one after another, of 49 bytes at most.
 use Rattle.rules.specs.Play.{rowText}
 use Rattle.text.proofs.Pages.{joined, joined-two}
+use Rattle.text.proofs.Lines.{row-reaches}
+use native.Mathlib.Omega.{arith}
 use borrow.Author.Needs.{needs}
 use Rattle.text.proofs.put_row.Statement.{statement}
 use Rattle.text.proofs.put_row.Tie as tie
@@ -34,11 +36,13 @@ returns c =
     let last = kind .before .before .before .before in
     let first = last .before .before .before .before in
     let seat = first .before .before .before .before in
+    let put =
     joined _ _ _ _ _
     (joined-two _ _ _ _ _ _
     (joined-two _ _ _ _ _ _ (joined-two _ _ _ _ _ _ (seat .put-named .ensures) (first .put-next .ensures)) (last .put-next2 .ensures))
     (kind .put-next3 .ensures))
-    (end .put-byte .ensures)
+    (end .put-byte .ensures) in
+    (put, row-reaches _ _ _ _ _ _ _ _ put (omega arith) (omega arith) (omega arith) (omega arith))
 
 pub put-row-spec : {M : Type 1} → statement M
 put-row-spec =

@@ -1,27 +1,27 @@
--- `board::count_holders` meets its promise.
-use Rattle.board.specs.Filling.{holding}
-use Prim.Native.Nat.{_+_, _-_, _*_, _≤_}
-use mathlib.Core.Path.{_≡_, refl}
+-- `holders::count` meets its promise.
+use Rattle.holders.specs.Holding.{holding}
+use Prim.Native.Nat.{_-_, _≤_}
+use mathlib.Core.Path.{_≡_}
 use native.Mathlib.Omega.{arith}
 use borrow.Author.Needs.{needs}
-use Rattle.board.proofs.Rows.{holding-none, holding-more, holding-same, holding-done}
-use Rattle.board.proofs.count_holders.Statement.{statement}
-use Rattle.board.proofs.count_holders.Tie as tie
+use Rattle.holders.proofs.Rows.{holding-none, holding-more, holding-same, holding-done}
+use Rattle.holders.proofs.count.Statement.{statement}
+use Rattle.holders.proofs.count.Tie as tie
 
 abbrev Inv-loop : tie.InvT-loop
-Inv-loop seats count rows₀ s₀ rows s = (s ≤ count) × (rows ≤ s) × (rows ≡ holding seats s)
+Inv-loop seats below found₀ s₀ found s = (s ≤ below) × (found ≤ s) × (found ≡ holding seats s)
 
 abbrev μ-loop : tie.MeasureT-loop
-μ-loop seats count rows₀ s₀ rows s = count - s
+μ-loop seats below found₀ s₀ found s = below - s
 
 loop-holds : tie.Need-loop-holds Inv-loop μ-loop
 loop-holds c = (omega arith, omega arith, holding-none _)
 
-seat-word-requires : tie.Need-seat-word-requires Inv-loop μ-loop
-seat-word-requires c κs = search needs
+seat-word-within-requires : tie.Need-seat-word-within-requires Inv-loop μ-loop
+seat-word-within-requires c κs = search needs
 
-add-rows : tie.Need-add-rows Inv-loop μ-loop
-add-rows c = omega arith
+add-found : tie.Need-add-found Inv-loop μ-loop
+add-found c = omega arith
 
 add-s : tie.Need-add-s Inv-loop μ-loop
 add-s c = omega arith
@@ -44,15 +44,15 @@ loop-again-2 c = (omega arith, omega arith, search holding-same)
 returns : tie.Need-returns Inv-loop μ-loop
 returns c = search holding-done
 
-pub count-holders-spec : {M : Type 1} → statement M
-count-holders-spec =
+pub count-spec : {M : Type 1} → statement M
+count-spec =
     tie.close
     (tie.spec
     Inv-loop
     μ-loop
     loop-holds
-    seat-word-requires
-    add-rows
+    seat-word-within-requires
+    add-found
     add-s
     loop-less
     loop-again

@@ -1,17 +1,18 @@
--- `playing::covered` meets its contract. The loop's invariant: the sum is over the rows of the seats passed, so it stays small. The measure
+-- `holders::covered` meets its promise. The loop's invariant: the sum is over the rows of the seats passed, so it stays small. The measure
 -- is the number of seats left.
 use borrow.Author.Needs.{needs}
 use native.Mathlib.Omega.{arith}
-use Rattle.playing.proofs.Holding.{frames-start, frames-again, frames-done}
+use Rattle.holders.proofs.Rows.{covered-start, covered-again, covered-done}
+use Rattle.holders.proofs.Owned.{few-seats}
 use Rattle.rules.specs.Board.{rowsBelow, coveredBy}
 use Rattle.rules.specs.Tables.{tables}
 use mathlib.Core.Path.{_≡_}
 use Prim.Native.Nat.{_*_, _-_, _≤_}
-use Rattle.playing.proofs.covered.Statement.{statement}
-use Rattle.playing.proofs.covered.Tie as tie
+use Rattle.holders.proofs.covered.Statement.{statement}
+use Rattle.holders.proofs.covered.Tie as tie
 
 abbrev Inv-loop : tie.InvT-loop
-Inv-loop nodes seats count sum₀ s₀ sum s = (s ≤ count) × (sum ≤ 4294967295 * s) × (sum ≡ coveredBy (rowsBelow s (tables nodes seats)))
+Inv-loop nodes seats count sum₀ s₀ sum s = (count ≤ 64) × (s ≤ count) × (sum ≤ 4294967295 * s) × (sum ≡ coveredBy (rowsBelow s (tables nodes seats)))
 
 abbrev μ-loop : tie.MeasureT-loop
 μ-loop nodes seats count sum₀ s₀ sum s = count - s
@@ -20,10 +21,10 @@ seat-count-requires : tie.Need-seat-count-requires Inv-loop μ-loop
 seat-count-requires c κs = search needs
 
 cast-count : tie.Need-cast-count Inv-loop μ-loop
-cast-count c = omega arith
+cast-count c = let few : c .seat-count .result ≤ 64 = search few-seats in omega arith
 
 loop-holds : tie.Need-loop-holds Inv-loop μ-loop
-loop-holds c = (omega arith, omega arith, frames-start _)
+loop-holds c = (search few-seats, omega arith, omega arith, covered-start _)
 
 frames-requires : tie.Need-frames-requires Inv-loop μ-loop
 frames-requires c κs = search needs
@@ -41,10 +42,10 @@ loop-less : tie.Need-loop-less Inv-loop μ-loop
 loop-less c = omega arith
 
 loop-again : tie.Need-loop-again Inv-loop μ-loop
-loop-again c = (omega arith, omega arith, search frames-again)
+loop-again c = (omega arith, omega arith, omega arith, search covered-again)
 
 returns : tie.Need-returns Inv-loop μ-loop
-returns c = search frames-done
+returns c = search covered-done
 
 pub covered-spec : {M : Type 1} → statement M
 covered-spec =

@@ -1,0 +1,17 @@
+-- The holders among the first seats. The board's own definitions, rows and covered frames, are those of the rules.
+use Prim.Native.Nat.{ℕ}
+use mathlib.Core.List.{List, [], _∷_}
+use Rattle.rules.specs.Notation.{if_then_else_, _is_, count}
+use Rattle.rules.specs.Tables.{Tables, seatWord, phaseAt, phase}
+use Rattle.rules.specs.Board.{rowOf}
+use Rattle.rules.specs.declared.Row.{Row}
+
+-- how many of the first n seats hold
+unfoldable pub holding : List ℕ → ℕ → ℕ
+holding seats n = count n (λ s. seatWord seats s phaseAt is 5)
+
+-- a seat's part of the board
+unfoldable pub heldBy : Tables → ℕ → List Row
+heldBy t s =
+    if phase t s is 5 then rowOf t s ∷ []
+    else []

@@ -1,0 +1,77 @@
+// The holders of tables that are known to be sound: how many there are, the row of each, and the frames that they cover. The board and
+// the program's closing lines walk over them. A holder of sound tables owns a node of the table, so no read is tested.
+ghost use mathlib.Core.Path.{_≡_};
+ghost use mathlib.Core.Bool.{true};
+ghost use Prim.Native.Nat.{_<_, _≤_};
+ghost use Rattle.rules.specs.Tables.{tables, seatCountOf};
+ghost use Rattle.rules.specs.Shape.{sound};
+ghost use Rattle.rules.specs.Board.{rowOf, coveredBy};
+ghost use Rattle.rules.specs.Board as rule;
+ghost use Rattle.rules.specs.Demands.{Holds};
+ghost use Rattle.holders.specs.Holding.{holding, heldBy};
+use rules::Row;
+
+// how many of the first seats hold
+pub fn count(seats: &[u32], below: u32) -> u32
+    requires { ⌜ below ≤ seatCountOf (now seats) ⌝ }
+    ensures { λ r. ⌜ r ≡ holding (now (seats .entry)) below ⌝ }
+{
+    let mut found: u32 = 0;
+    let mut s: u32 = 0;
+    while s < below {
+        if words::seat_word_within(seats, s, words::PHASE) == 5 {
+            found += 1;
+            s += 1;
+        } else {
+            s += 1;
+        }
+    }
+    found
+}
+
+// the row of a holder
+pub fn row_of(nodes: &[u32], seats: &[u32], s: u32) -> Row
+    requires { ⌜ sound (tables (now nodes) (now seats)) ≡ true ⌝ }
+    requires { ⌜ Holds (tables (now nodes) (now seats)) s ⌝ }
+    ensures { λ r. ⌜ r ≡ rowOf (tables (now (nodes .entry)) (now (seats .entry))) s ⌝ }
+{
+    let own = words::seat_word_within(seats, s, words::OWN);
+    let first = words::node_word_within(nodes, own, words::START);
+    let end = words::node_word_within(nodes, own, words::END);
+    let kind = words::node_word_within(nodes, own, words::KIND);
+    Row {
+        seat: s,
+        first: first,
+        end: end,
+        kind: kind,
+    }
+}
+
+// the frames that a seat covers: none if it does not hold
+fn frames(nodes: &[u32], seats: &[u32], s: u32) -> u32
+    requires { ⌜ sound (tables (now nodes) (now seats)) ≡ true ⌝ }
+    requires { ⌜ s < seatCountOf (now seats) ⌝ }
+    ensures { λ r. ⌜ r ≡ coveredBy (heldBy (tables (now (nodes .entry)) (now (seats .entry))) s) ⌝ }
+{
+    if words::seat_word_within(seats, s, words::PHASE) == 5 {
+        let row = row_of(nodes, seats, s);
+        return row.end - row.first;
+    }
+    0
+}
+
+// the frames that the holders cover
+pub fn covered(nodes: &[u32], seats: &[u32]) -> u64
+    requires { ⌜ sound (tables (now nodes) (now seats)) ≡ true ⌝ }
+    ensures { λ r. ⌜ r ≡ coveredBy (rule.holders (tables (now (nodes .entry)) (now (seats .entry)))) ⌝ }
+{
+    let count = words::seat_count(seats) as u32;
+    let mut sum: u64 = 0;
+    let mut s: u32 = 0;
+    while s < count {
+        let more = frames(nodes, seats, s);
+        sum += more as u64;
+        s += 1;
+    }
+    sum
+}
