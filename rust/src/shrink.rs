@@ -159,7 +159,7 @@ fn without_bodies(script: &[u8], from: usize, count: usize) -> Vec<u8> {
     [contents, kept[1..].concat()].concat()
 }
 
-/// The script with parts left out where the machines still differ: first all of it, then halves, quarters, down to single pieces.
+/// The script with parts left out where the machines still differ: first all of it, then halves, down to single pieces.
 fn leave_out(
     mut script: Vec<u8>,
     pieces: fn(&[u8]) -> usize,
