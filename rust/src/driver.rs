@@ -1,7 +1,9 @@
-//! Calls two machines on copies of the same tables and compares the answer and every word afterwards, also of the board.
-//! Both machines are behind the functions that `library.rs` names. Nothing is assumed of the tables.
+//! Calls two machines on copies of the same tables and compares the answer and every word afterwards, also of the board;
+//! `reading.rs` does so with scripts. Both machines are behind the functions that `library.rs` names. Nothing is assumed
+//! of the tables.
 
 use crate::generate;
+use crate::library::{Numbers, Printed};
 use crate::machine;
 use crate::random::Random;
 use crate::script::{read_script, BEGIN, STEP};
@@ -18,6 +20,8 @@ pub struct Library {
     pub run: fn(&mut [u32], &mut [u32], &[u32], u32) -> u64,
     pub board: fn(&[u32], &[u32], &mut [u32], &mut u64) -> u64,
     pub free_count: fn(&[u32], &[u32]) -> u64,
+    pub read: fn(&[u8], &mut Numbers) -> u64,
+    pub play: fn(&[u8], &mut Printed) -> u64,
 }
 
 /// The functions of a module as a `Library`.
@@ -33,6 +37,8 @@ macro_rules! library_of {
             run: side::run,
             board: side::board,
             free_count: side::free_count,
+            read: side::read,
+            play: side::play,
         }
     }};
 }
@@ -55,37 +61,44 @@ pub struct Case {
     pub call: Call,
 }
 
+/// What the machines do not agree on: a call on tables, or a script to read and play.
+pub enum Difference {
+    Call(Case),
+    Script(Vec<u8>),
+}
+
 /// What a call gives back and leaves behind. The slices lie in longer ones, whose other words must stay as well.
 #[derive(PartialEq)]
 pub struct Outcome {
     pub answer: u64,
     pub covered: u64,
-    pub nodes: Guarded,
-    pub seats: Guarded,
-    pub rows: Guarded,
+    pub nodes: Guarded<u32>,
+    pub seats: Guarded<u32>,
+    pub rows: Guarded<u32>,
 }
 
-/// Words to lend, between words that are not lent.
+/// Words or bytes to lend, between ones that are not lent.
 #[derive(PartialEq)]
-pub struct Guarded(Vec<u32>);
+pub struct Guarded<Word>(Vec<Word>);
 
-const GUARD: [u32; 2] = [0xdead_0001, 0xdead_0002];
+const GUARD_LENGTH: usize = 2;
+pub const GUARD: [u32; GUARD_LENGTH] = [0xdead_0001, 0xdead_0002];
 
-impl Guarded {
-    fn new(words: &[u32]) -> Guarded {
-        Guarded([&GUARD, words, &GUARD].concat())
+impl<Word: Copy> Guarded<Word> {
+    pub fn new(words: &[Word], guard: [Word; GUARD_LENGTH]) -> Guarded<Word> {
+        Guarded([&guard, words, &guard].concat())
     }
 
     fn range(&self) -> std::ops::Range<usize> {
-        GUARD.len()..self.0.len() - GUARD.len()
+        GUARD_LENGTH..self.0.len() - GUARD_LENGTH
     }
 
-    fn lend(&mut self) -> &mut [u32] {
+    pub fn lend(&mut self) -> &mut [Word] {
         let range = self.range();
         &mut self.0[range]
     }
 
-    pub fn words(&self) -> &[u32] {
+    pub fn words(&self) -> &[Word] {
         &self.0[self.range()]
     }
 }
@@ -112,9 +125,9 @@ pub fn make(
 
 pub fn outcome(library: &Library, case: &Case) -> Outcome {
     let mut covered = 0xdead_0003;
-    let mut nodes = Guarded::new(&case.nodes);
-    let mut seats = Guarded::new(&case.seats);
-    let mut rows = Guarded::new(if let Call::Board { rows } = &case.call { rows } else { &[] });
+    let mut nodes = Guarded::new(&case.nodes, GUARD);
+    let mut seats = Guarded::new(&case.seats, GUARD);
+    let mut rows = Guarded::new(if let Call::Board { rows } = &case.call { rows } else { &[] }, GUARD);
     let answer = make(library, &case.call, nodes.lend(), seats.lend(), rows.lend(), &mut covered);
     Outcome { answer, covered, nodes, seats, rows }
 }
@@ -131,18 +144,18 @@ impl Driver {
         outcome(&self.ours, case) != outcome(&self.theirs, case)
     }
 
-    /// The tables after the call, on which both machines agree, or the case on which they do not.
-    fn compare(&mut self, case: Case) -> Result<Tables, Case> {
+    /// The tables after the call, on which both machines agree, or that they do not.
+    fn compare(&mut self, case: Case) -> Result<Tables, Difference> {
         let ours = outcome(&self.ours, &case);
         if ours != outcome(&self.theirs, &case) {
-            return Err(case);
+            return Err(Difference::Call(case));
         }
         self.agreed += 1;
         Ok((ours.nodes.words().to_vec(), ours.seats.words().to_vec()))
     }
 
     /// The rows of a generated script as calls, with run, board, free count and rarely clear in between.
-    pub fn history(&mut self, random: &mut Random) -> Result<(), Case> {
+    pub fn history(&mut self, random: &mut Random) -> Result<(), Difference> {
         let script = read_script(&generate::good(random)).expect("a good script");
         let (mut nodes, mut seats) = machine::fresh(script.nodes, script.seats);
         for &row in &script.rows[..script.count as usize] {
@@ -161,7 +174,7 @@ impl Driver {
     }
 
     /// Each call once on the tables, and a run of several steps.
-    fn every_call(&mut self, random: &mut Random, tables: Tables) -> Result<(), Case> {
+    fn every_call(&mut self, random: &mut Random, tables: Tables) -> Result<(), Difference> {
         let (nodes, seats) = tables;
         let seat_count = (seats.len() / machine::SEAT_WORDS) as u32;
         let calls = [
@@ -180,17 +193,17 @@ impl Driver {
         Ok(())
     }
 
-    pub fn any_words(&mut self, random: &mut Random) -> Result<(), Case> {
+    pub fn any_words(&mut self, random: &mut Random) -> Result<(), Difference> {
         let tables = any_words(random);
         self.every_call(random, tables)
     }
 
-    pub fn sound_words(&mut self, random: &mut Random) -> Result<(), Case> {
+    pub fn sound_words(&mut self, random: &mut Random) -> Result<(), Difference> {
         let tables = sound_words(random);
         self.every_call(random, tables)
     }
 
-    pub fn damages(&mut self, random: &mut Random) -> Result<(), Case> {
+    pub fn damages(&mut self, random: &mut Random) -> Result<(), Difference> {
         for damage in DAMAGES {
             let tables = damaged(random, damage);
             self.every_call(random, tables)?;

@@ -203,7 +203,7 @@ pub fn good(random: &mut Random) -> Vec<u8> {
 }
 
 /// A script of this many bytes, about 16,384, with nothing wrong in it but perhaps its length.
-fn of_length(random: &mut Random, bytes: usize) -> Vec<u8> {
+pub fn of_length(random: &mut Random, bytes: usize) -> Vec<u8> {
     let mut left = bytes - "3 2 999\n".len();
     let mut rows = Vec::new();
     while left > 0 {
@@ -281,6 +281,7 @@ type Flaw = (&'static str, fn(&mut Random, &mut Vec<u8>));
 pub const FLAWS: &[Flaw] = &[
     ("a byte too long", |random, script| *script = of_length(random, MOST_BYTES + 1)),
     ("far too long", |random, script| *script = of_length(random, MOST_BYTES + 3000)),
+    ("too long, and wrong from the first line on", |_, script| *script = vec![b' '; MOST_BYTES + 1]),
     ("empty", |_, script| script.clear()),
     ("a line end alone", |_, script| *script = b"\n".to_vec()),
     ("cut off before the last line end", |_, script| script.truncate(script.len() - 1)),
@@ -324,6 +325,39 @@ pub const FLAWS: &[Flaw] = &[
         }
     }),
 ];
+
+/// One byte becomes another, goes, or comes in.
+pub fn put_change(random: &mut Random, script: &mut Vec<u8>) {
+    let byte = if random.percent(50) { random.word() as u8 } else { random.pick(b"0123456789 bsr\n") };
+    match random.below(3) {
+        0 => put_for(random, script, any_byte, &[byte]),
+        1 => put_for(random, script, any_byte, b""),
+        _ => put_in(random, script, any_byte, &[byte]),
+    }
+}
+
+/// Lines and parts of lines, good ones and others.
+const PIECES: &str =
+    "s 0\n|r 1\n|b 0 1 2 2\n|b 0 4294967295 0 9\n|b |s |v | |\n|\r\n|\t|0|1|01|64|65|256|257|1001|4294967295|4294967296";
+
+/// Any bytes, or pieces of scripts in any order; half of them behind a first line for as many. Some are good.
+pub fn any_text(random: &mut Random) -> Vec<u8> {
+    let count = random.pick(&[0, 1, 2, 3, 5, 9, 200, 5000]);
+    let mut text = Vec::new();
+    if random.percent(50) {
+        text.extend(format!("{} {} {count}\n", random.between(1, 256), random.between(1, 64)).bytes());
+    }
+    let pieces: Vec<&str> = PIECES.split('|').collect();
+    let any_bytes = random.percent(20);
+    for _ in 0..count {
+        if any_bytes {
+            text.push(random.word() as u8);
+        } else {
+            text.extend(random.pick(&pieces).bytes());
+        }
+    }
+    text
+}
 
 /// A script by seed and number, and what is wrong with it: of ten, six are good, one is as long as a script may be, three
 /// have a flaw, and the flaws take turns.

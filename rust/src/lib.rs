@@ -9,6 +9,7 @@ pub mod machine;
 #[cfg(feature = "proved")]
 pub mod proved;
 pub mod random;
+pub mod reading;
 pub mod script;
 pub mod shrink;
 pub mod tables;

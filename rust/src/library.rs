@@ -3,6 +3,14 @@
 //! A machine that stands in for this one offers the same functions under the same names; `proved.rs` does.
 
 use crate::machine::{self, Answer};
+use crate::script;
+
+/// A script's numbers: N, S and K, then five for each of 1,000 rows.
+pub const CONTENTS_WORDS: usize = 3;
+pub type Numbers = [u32; CONTENTS_WORDS + 5 * script::MOST_ROWS];
+
+/// Room for what the program prints.
+pub type Printed = [u8; 32768];
 
 fn answer_word(answer: Result<Answer, u32>) -> u64 {
     let (kind, number) = match answer {
@@ -59,4 +67,23 @@ pub fn board(nodes: &[u32], seats: &[u32], rows: &mut [u32], covered: &mut u64) 
 
 pub fn free_count(nodes: &[u32], seats: &[u32]) -> u64 {
     count_word(machine::free_count(nodes, seats))
+}
+
+/// 0; or 10 in the high 32 bits and the first wrong line below, and the numbers stay.
+pub fn read(bytes: &[u8], numbers: &mut Numbers) -> u64 {
+    match script::read_script(bytes) {
+        Ok(script) => {
+            let contents = [script.nodes, script.seats, script.count];
+            numbers.copy_from_slice(&[&contents, script.rows.concat().as_slice()].concat());
+            0
+        }
+        Err(line) => 10 << 32 | u64::from(line),
+    }
+}
+
+/// How many bytes the program prints; those behind them stay.
+pub fn play(bytes: &[u8], printed: &mut Printed) -> u64 {
+    let text = script::play(bytes);
+    printed[..text.len()].copy_from_slice(text.as_bytes());
+    text.len() as u64
 }

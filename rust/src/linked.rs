@@ -10,6 +10,7 @@
 //! release(&mut nodes, &mut seats, 0)?;
 //! ```
 
+use crate::library::Numbers;
 use crate::proved;
 
 /// The claim reads its frames, and may share them with others that read.
@@ -130,7 +131,7 @@ pub struct Bad(pub u32);
 
 /// The numbers of a script: N, S, K, then five for each of 1,000 rows, a code (b 1, s 2, r 3), seat, start, end and kind; 0 where the
 /// script has none. Of a script that is not well formed the numbers stay as they were.
-pub fn read(script: &[u8], numbers: &mut [u32; 5003]) -> Result<(), Bad> {
+pub fn read(script: &[u8], numbers: &mut Numbers) -> Result<(), Bad> {
     match proved::read(script, numbers) {
         0 => Ok(()),
         word => Err(Bad(lower(word))),

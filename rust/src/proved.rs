@@ -1,8 +1,12 @@
 //! The proved library behind the same functions as `library.rs`: its archive is linked, and this file says how it is called.
-//! Compiled only with the feature `proved`. A slice crosses as its address and its count of words.
+//! Compiled only with the feature `proved`. A slice crosses as its address and its count of words, an array as its address.
+
+use crate::library::{Numbers, Printed};
 
 #[allow(improper_ctypes)]
 mod archive {
+    use super::{Numbers, Printed};
+
     extern "C" {
         pub fn soodhiqune_clear(nodes: &mut [u32], seats: &mut [u32]) -> u64;
         pub fn soodhiqune_begin(
@@ -18,7 +22,8 @@ mod archive {
         pub fn soodhiqune_run(nodes: &mut [u32], seats: &mut [u32], entries: &[u32], budget: u32) -> u64;
         pub fn soodhiqune_board(nodes: &[u32], seats: &[u32], rows: &mut [u32], covered: &mut u64) -> u64;
         pub fn soodhiqune_free_count(nodes: &[u32], seats: &[u32]) -> u64;
-        pub fn soodhiqune_read(bytes: &[u8], numbers: &mut [u32; 5003]) -> u64;
+        pub fn soodhiqune_read(bytes: &[u8], numbers: &mut Numbers) -> u64;
+        pub fn soodhiqune_play(bytes: &[u8], printed: &mut Printed) -> u64;
     }
 }
 
@@ -52,6 +57,10 @@ pub fn free_count(nodes: &[u32], seats: &[u32]) -> u64 {
     unsafe { archive::soodhiqune_free_count(nodes, seats) }
 }
 
-pub fn read(bytes: &[u8], numbers: &mut [u32; 5003]) -> u64 {
+pub fn read(bytes: &[u8], numbers: &mut Numbers) -> u64 {
     unsafe { archive::soodhiqune_read(bytes, numbers) }
+}
+
+pub fn play(bytes: &[u8], printed: &mut Printed) -> u64 {
+    unsafe { archive::soodhiqune_play(bytes, printed) }
 }

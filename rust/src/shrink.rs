@@ -1,10 +1,12 @@
-//! A smaller case on which two machines still differ: fewer nodes, seats, entries and rows, and smaller words.
-//! Nothing is assumed of the tables; what does not fit the layout is shortened word by word.
+//! A smaller case on which two machines still differ: fewer nodes, seats, entries and rows, and smaller words; or a shorter
+//! script. Nothing is assumed of the tables; what does not fit the layout is shortened word by word.
 
-use crate::driver::{outcome, Call, Case, Library};
+use crate::driver::{outcome, Call, Case, Difference, Driver, Library};
+use crate::library::CONTENTS_WORDS;
 use crate::machine::{CUR, HEAD, HEAD_WORDS, NEXT, NODE_WORDS, OWN, ROW_WORDS, SEAT_WORDS};
+use crate::reading::reading;
 
-fn without(words: &[u32], from: usize, count: usize) -> Vec<u32> {
+fn without<Word: Copy>(words: &[Word], from: usize, count: usize) -> Vec<Word> {
     [&words[..from], &words[from + count..]].concat()
 }
 
@@ -132,10 +134,58 @@ impl<Differs: Fn(&Case) -> bool> Search<Differs> {
 }
 
 /// The smallest case found on which the machines differ, from one on which they do.
-pub fn shrink(case: Case, differs: impl Fn(&Case) -> bool) -> Case {
+fn shrink(case: Case, differs: impl Fn(&Case) -> bool) -> Case {
     let mut search = Search { smallest: case, differs };
     while search.pass() {}
     search.smallest
+}
+
+fn lines(script: &[u8]) -> Vec<&[u8]> {
+    script.split_inclusive(|&byte| byte == b'\n').collect()
+}
+
+fn body_count(script: &[u8]) -> usize {
+    lines(script).len().saturating_sub(1)
+}
+
+/// The script without some of its bodies, K lowered by as many if the first line ends in a number.
+fn without_bodies(script: &[u8], from: usize, count: usize) -> Vec<u8> {
+    let kept = without(&lines(script), 1 + from, count);
+    let first = String::from_utf8_lossy(kept[0]);
+    let contents = match first.trim_end().rsplit_once(' ').map(|(tables, rows)| (tables, rows.parse::<usize>())) {
+        Some((tables, Ok(rows))) => format!("{tables} {}\n", rows.saturating_sub(count)).into_bytes(),
+        _ => kept[0].to_vec(),
+    };
+    [contents, kept[1..].concat()].concat()
+}
+
+/// The script with parts left out where the machines still differ: first all of it, then halves, down to single pieces.
+fn leave_out(
+    mut script: Vec<u8>,
+    pieces: fn(&[u8]) -> usize,
+    without: fn(&[u8], usize, usize) -> Vec<u8>,
+    differs: &impl Fn(&[u8]) -> bool,
+) -> Vec<u8> {
+    let mut part = pieces(&script);
+    while part > 0 {
+        let mut from = 0;
+        while from + part <= pieces(&script) {
+            let shorter = without(&script, from, part);
+            if differs(&shorter) {
+                script = shorter;
+            } else {
+                from += part;
+            }
+        }
+        part /= 2;
+    }
+    script
+}
+
+/// The shortest script found on which the machines differ, from one on which they do.
+fn shrink_script(script: Vec<u8>, differs: impl Fn(&[u8]) -> bool) -> Vec<u8> {
+    let fewer_bodies = leave_out(script, body_count, without_bodies, &differs);
+    leave_out(fewer_bodies, <[u8]>::len, without, &differs)
 }
 
 fn table_text(words: &[u32], first: usize, width: usize) -> String {
@@ -147,7 +197,7 @@ fn table_text(words: &[u32], first: usize, width: usize) -> String {
 }
 
 /// The case, what each machine answered, and the tables each left behind.
-pub fn difference_text(case: &Case, ours: &Library, theirs: &Library) -> String {
+fn case_text(case: &Case, ours: &Library, theirs: &Library) -> String {
     let mut text = format!(
         "nodes   {}\nseats   {}\ncall    {:?}\n",
         table_text(&case.nodes, HEAD_WORDS, NODE_WORDS),
@@ -165,4 +215,30 @@ pub fn difference_text(case: &Case, ours: &Library, theirs: &Library) -> String 
         }
     }
     text
+}
+
+/// The script, and what each machine read and printed.
+fn script_text(script: &[u8], ours: &Library, theirs: &Library) -> String {
+    let mut text = format!("script  \"{}\"\n", script.escape_ascii());
+    for (name, library) in [("second", ours), ("other", theirs)] {
+        let after = reading(library, script);
+        let (numbers, printed) = (after.numbers.words(), after.printed.words());
+        let rows = script.iter().filter(|&&byte| byte == b'\n').count();
+        let shown = numbers.len().min(CONTENTS_WORDS + 5 * rows);
+        text += &format!("{name}: answer {} {}\n", after.answer >> 32, after.answer as u32);
+        text += &format!("  numbers {} ...\n", table_text(&numbers[..shown], CONTENTS_WORDS, 5));
+        text += &format!("  printed {} bytes: \"{}\"\n", after.length, printed[..after.length as usize].escape_ascii());
+    }
+    text
+}
+
+/// The smallest tables or the shortest script found on which the machines differ, and what each of them does.
+pub fn smallest_text(driver: &Driver, difference: Difference) -> String {
+    let (ours, theirs) = (&driver.ours, &driver.theirs);
+    match difference {
+        Difference::Call(case) => case_text(&shrink(case, |case| driver.differs(case)), ours, theirs),
+        Difference::Script(script) => {
+            script_text(&shrink_script(script, |script| !driver.reads_alike(script)), ours, theirs)
+        }
+    }
 }

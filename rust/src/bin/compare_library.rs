@@ -1,10 +1,11 @@
-//! compare_library SEED ROUNDS: calls the second machine and another one on the same tables and compares every word. The
-//! other is the proved library (feature `proved`), another crate of this shape (feature `other`), or the same machine.
-//! At the first difference it prints the smallest tables found that show it. The last line is 'N passed, M failed'.
+//! compare_library SEED ROUNDS: calls the second machine and another one on the same tables and scripts and compares every
+//! word. The other is the proved library (feature `proved`), another crate of this shape (feature `other`), or the same
+//! machine. At the first difference it prints the smallest tables or the shortest script found that show it. The last line
+//! is 'N passed, M failed'.
 
-use second::driver::{Case, Driver, Library};
+use second::driver::{Difference, Driver, Library};
 use second::random::Random;
-use second::shrink::{difference_text, shrink};
+use second::shrink::smallest_text;
 use std::process::exit;
 
 #[cfg(feature = "proved")]
@@ -22,14 +23,15 @@ fn other_machine() -> Library {
     second::library_of!(second::library)
 }
 
-type Family = (&'static str, u32, fn(&mut Driver, &mut Random) -> Result<(), Case>);
+type Family = (&'static str, u32, fn(&mut Driver, &mut Random) -> Result<(), Difference>);
 
 /// What one round compares, and how often.
-const FAMILIES: [Family; 4] = [
+const FAMILIES: [Family; 5] = [
     ("histories from fresh tables", 2, Driver::history),
     ("any words", 200, Driver::any_words),
     ("sound words", 400, Driver::sound_words),
     ("each clause of sound shape broken", 2, Driver::damages),
+    ("scripts read and played", 1, Driver::scripts),
 ];
 
 fn number(argument: Option<String>) -> u64 {
@@ -45,10 +47,9 @@ fn main() {
     for round in 1..=rounds {
         for (name, times, compare) in FAMILIES {
             for _ in 0..times {
-                if let Err(case) = compare(&mut driver, &mut random) {
-                    let smallest = shrink(case, |case| driver.differs(case));
+                if let Err(difference) = compare(&mut driver, &mut random) {
                     println!("difference on {name}, after {} calls alike:", driver.agreed);
-                    print!("{}", difference_text(&smallest, &driver.ours, &driver.theirs));
+                    print!("{}", smallest_text(&driver, difference));
                     println!("{passed} passed, 1 failed");
                     exit(1);
                 }

@@ -1,6 +1,7 @@
 //! Each bad line by itself, and what the generated scripts reach.
 
-use crate::generate::{script, FLAWS};
+use crate::generate::{any_text, good, put_change, script, FLAWS};
+use crate::random::Random;
 use crate::script::read_script;
 use crate::tally::Tally;
 
@@ -87,4 +88,21 @@ fn the_generated_scripts_reach_every_rule() {
     for line in ["bad 0", "bad 1", "bad 2", "bad, a later line"] {
         assert!(tally.of(line) >= 3, "{line}");
     }
+}
+
+#[test]
+fn scripts_with_a_byte_changed_and_any_texts_are_good_and_bad() {
+    let mut random = Random::new(5);
+    let original = good(&mut random);
+    let changed = |random: &mut Random| {
+        let mut script = original.clone();
+        put_change(random, &mut script);
+        script
+    };
+    let both = |scripts: Vec<Vec<u8>>| {
+        let good = scripts.iter().filter(|script| read_script(script).is_ok()).count();
+        assert!(good >= 20 && scripts.len() - good >= 20, "{good} of {}", scripts.len());
+    };
+    both((0..400).map(|_| changed(&mut random)).collect());
+    both((0..400).map(|_| any_text(&mut random)).collect());
 }
