@@ -10,7 +10,7 @@
 //! release(&mut nodes, &mut seats, 0)?;
 //! ```
 
-use crate::library::Numbers;
+use crate::library::{Numbers, Printed};
 use crate::proved;
 
 /// The claim reads its frames, and may share them with others that read.
@@ -136,4 +136,9 @@ pub fn read(script: &[u8], numbers: &mut Numbers) -> Result<(), Bad> {
         0 => Ok(()),
         word => Err(Bad(lower(word))),
     }
+}
+
+/// What the program prints for a script, `bad L` if it is not well formed: so many bytes of `printed`. The others stay as they were.
+pub fn play(script: &[u8], printed: &mut Printed) -> usize {
+    proved::play(script, printed) as usize
 }

@@ -2,6 +2,5 @@ pub mod Listing
 pub mod Holding
 pub mod Ending
 pub mod Turns
-pub mod Playable
 pub mod Whole
 pub mod OneAnswer

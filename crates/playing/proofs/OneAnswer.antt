@@ -4,11 +4,8 @@ use mathlib.Core.Path.{_≡_, sym, ap, _∙_}
 use mathlib.Core.List.{List, _++_}
 use Prim.Native.Nat.{ℕ}
 use lib.ListN.{length, take, drop, take-append-drop}
-use borrow.Fn.Kinds.{Dens, resT, endedOf}
-use contract.Lifetimes.{Lfts}
 use denote.Ref.{now}
-use denote.Triple.Clauses.{AtExit}
-use Rattle.script.proofs.OneAnswer.{one-value}
+use Rattle.rules.proofs.OneAnswer.{Settles, one-value}
 use Rattle.playing.proofs.play.Reads as play
 use Rattle.playing.proofs.play.Kinds as kinds
 
@@ -22,11 +19,7 @@ split-is text rest m a p r = rw (← p, ← r) (sym (take-append-drop a m))
 one-buffer : (text l m n : List ℕ) (a b : ℕ) → a ≡ b → take a m ≡ text → take b n ≡ text → drop a m ≡ drop a l → drop b n ≡ drop b l → m ≡ n
 one-buffer text l m n a b e p q r s = one-value (split-is text (drop b l) m a p (rw (← e) r)) (split-is text (drop b l) n b q s)
 
-pub one-playing :
-    (κs : Lfts 2) (args : Dens κs kinds.ps) (a b : resT kinds.r κs .Denot) (s t : AtExit (endedOf 2 kinds.ps kinds.r) κs) →
-    play.Post κs args a s →
-    play.Post κs args b t →
-    (a ≡ b) × (now (s .1 .0) ≡ now (t .1 .0))
+pub one-playing : Settles kinds.ps kinds.r play.Post (λ κs s. now (s .1 .0))
 one-playing κs args a b s t p q =
     let e : a ≡ b = one-count _ _ _ a b (p .0) (q .0) (p .1 .1 .1) (q .1 .1 .1) in
     (e, one-buffer _ _ _ _ a b e (p .0) (q .0) (p .1 .0) (q .1 .0))

@@ -20,8 +20,7 @@ use Rattle.script.specs.Bounded.{Bounded}
 use Rattle.script.proofs.Bounds.{read-bounded}
 use Rattle.text.specs.Page.{Page, page, puts}
 use Rattle.text.proofs.Pages.{joined, written}
-use Rattle.playing.proofs.Playable.{read-playable}
-use Rattle.playing.specs.Played.{Played, played, playFrom, playedText, Playable}
+use Rattle.playing.specs.Played.{Played, played, playFrom, playedText}
 
 -- ---- the part of a fresh table that is lent
 take-same : (m n : ℕ) → n ≤ m → take {A = ℕ} n (replicate m 0) ≡ replicate n 0
@@ -54,8 +53,8 @@ module _ (script : Script) (w v : ℕ) (nodes seats : List ℕ) (bounded : Bound
   unfolding fresh
   lent-fresh = rw (take-zeros (beforeNodes + nodeWidth * 256) w nodes noNodes few-nodes, take-zeros (seatWidth * 64) v seats noSeats few-seats, isNodes, isSeats)
 
-  pub lent-reached : Playable script → Reached (script .n) (script .s) (tables (take w nodes) (take v seats))
-  lent-reached some = rw lent-fresh (cleared (some .some-nodes) (bounded .nodes) (some .some-seats) (bounded .seats))
+  pub lent-reached : script .refusal ≡ 0 → Reached (script .n) (script .s) (tables (take w nodes) (take v seats))
+  lent-reached e = rw lent-fresh (cleared (bounded .some-nodes e) (bounded .nodes) (bounded .some-seats e) (bounded .seats))
 
   pub script-played : (p q : Page) → q ≡ puts p (playedText (tables (take w nodes) (take v seats)) (callsOf script)) → q ≡ puts p (scriptText script)
   unfolding playedText scriptText
@@ -87,9 +86,6 @@ module _ (t : Tables) (script : Script) (n s : List ℕ) (p q : Page) (isPlayed 
 module _ (src : List ℕ) (script : Script) (isScript : script ≡ readScript src) where
   pub script-bounded : Bounded script
   script-bounded = rw isScript (read-bounded src)
-
-  pub script-playable : script .refusal ≡ 0 → Playable script
-  script-playable h = rw isScript (read-playable src (rw isScript at h))
 
   pub play-bad : (script .refusal ≡ 0 → ⊥) → play src ≡ ascii "bad " ++ decimal (script .wrong) ++ ascii "\n"
   unfolding play

@@ -1,10 +1,9 @@
 -- What the functions of this crate hand on while a script is played. Nothing here need be believed: the promise of `play` is that of the
 -- rules alone.
-use Prim.Native.Nat.{ℕ, _≤_}
+use Prim.Native.Nat.{ℕ}
 use mathlib.Core.List.{List, _++_}
 use Rattle.rules.specs.Tables.{Tables}
 use Rattle.rules.specs.Play.{Call, afterAll, trace, turnsText, endText}
-use Rattle.rules.specs.declared.Script.{Script}
 use Rattle.text.specs.Page.{Page, puts}
 
 -- the tables after some calls, and the page with their lines
@@ -22,8 +21,3 @@ playFrom number calls t p = played (afterAll t calls) (puts p (turnsText number 
 -- everything that is printed of calls made on tables
 unfoldable pub playedText : Tables → List Call → List ℕ
 playedText t calls = turnsText 1 (trace t calls) ++ endText (afterAll t calls)
-
--- a script's tables have a node and a seat, which those of a script that is not refused have
-pub record Playable (script : Script) : Type 0 where
-  pub some-nodes : 1 ≤ script .n
-  pub some-seats : 1 ≤ script .s

@@ -17,7 +17,7 @@ ghost use Rattle.script.specs.Bounded.{Bounded};
 ghost use Rattle.text.specs.Page.{page, puts};
 ghost use Rattle.replies.specs.Codes.{answerBy};
 ghost use Rattle.holders.specs.Holding.{heldBy};
-ghost use Rattle.playing.specs.Played.{played, playFrom, playedText, Playable};
+ghost use Rattle.playing.specs.Played.{played, playFrom, playedText};
 use rules::Line;
 use rules::Reply;
 use rules::Script;
@@ -159,7 +159,7 @@ fn play_tables(nodes: &mut [u32], seats: &mut [u32], out: &mut [u8], script: Scr
 // The same on fresh tables.
 fn play_script(out: &mut [u8], script: Script) -> usize
     requires { ⌜ Bounded script ⌝ }
-    requires { ⌜ Playable script ⌝ }
+    requires { ⌜ script .refusal ≡ 0 ⌝ }
     ensures { λ r. ⌜ page (now (out .exit)) r ≡ puts (page (now (out .entry)) 0) (scriptText script) ⌝ }
     ensures { λ r. ⌜ r ≤ 26986 ⌝ }
 {

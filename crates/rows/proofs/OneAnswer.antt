@@ -1,7 +1,6 @@
 -- The promises settle the answer and every row of the board: two results that meet one on the same arguments are equal. It is the promise
 -- itself that is cited, as the checker reads it from the source.
 use mathlib.Core.Path.{_≡_, refl}
-use borrow.Fn.Kinds.{Dens, resT, endedOf}
 use contract.Lifetimes.{Lfts}
 use contract.Monad.{Fun}
 use contract.Notation.{connectives}
@@ -35,11 +34,7 @@ module _ (κs : Lfts 3) (args : Args show.signature κs) where
   one-board a b s t = law.one-board _ a b _ _
 
 -- ---- the board by value
-pub one-board-by-value :
-    (κs : Lfts 2) (args : Dens κs kinds.ps) (a b : resT kinds.r κs .Denot) (s t : AtExit (endedOf 2 kinds.ps kinds.r) κs) →
-    show-all.Post κs args a s →
-    show-all.Post κs args b t →
-    a ≡ b
+pub one-board-by-value : law.SettlesAnswer kinds.ps kinds.r show-all.Post
 one-board-by-value κs args a b s t p q =
     let e = law.one-board _ (a .reply) (b .reply) (a .rows) (b .rows) p q in
     λ i. record { rows = e .1 i; reply = e .0 i }

@@ -1,8 +1,11 @@
--- Two results that meet one promise are equal: the law that every public call cites. Each case of an enum means something else, so the
--- enum can be read back from what it means.
+-- Two results that meet one promise are equal: what every public call says of its own promise, as the checker reads that from the source,
+-- and the laws by which it does. Each case of an enum means something else, so the enum can be read back from what it means.
 use mathlib.Core.Path.{_≡_, refl, sym, ap, _∙_}
 use mathlib.Core.List.{List}
 use Prim.Native.Nat.{ℕ}
+use borrow.Fn.Kinds.{PK, RK, Out as Promise, Dens, resT, endedOf}
+use contract.Lifetimes.{Lfts}
+use denote.Triple.Clauses.{AtExit}
 use Rattle.rules.specs.Tables.{Tables}
 use Rattle.rules.specs.Answers.{Answer, node, out, on, wait, held, back, refused, Done, done}
 use Rattle.rules.specs.FreeCount.{Counted}
@@ -14,6 +17,26 @@ use Rattle.rules.specs.declared.CountReply.{CountReply}
 use Rattle.rules.specs.declared.CountReply.the-variants.{Count, Refused as CountRefused}
 use Rattle.rules.specs.declared.BoardReply.{BoardReply}
 use Rattle.rules.specs.declared.BoardReply.the-variants.{Rows, Refused as BoardRefused}
+
+-- on the same arguments, results that meet a promise are equal, and so is what they leave
+abbrev pub Settles : {n : ℕ} (ps : List (PK n)) (r : RK n) {B : Type 0} → Promise n ps r → ((κs : Lfts n) → AtExit (endedOf n ps r) κs → B) → Type 0
+Settles {n} ps r promise left =
+    (κs : Lfts n) (args : Dens κs ps) (a b : resT r κs .Denot) (s t : AtExit (endedOf n ps r) κs) →
+    promise κs args a s →
+    promise κs args b t →
+    (a ≡ b) × (left κs s ≡ left κs t)
+
+-- of a call that changes nothing lent
+abbrev pub SettlesAnswer : {n : ℕ} (ps : List (PK n)) (r : RK n) → Promise n ps r → Type 0
+SettlesAnswer {n} ps r promise =
+    (κs : Lfts n) (args : Dens κs ps) (a b : resT r κs .Denot) (s t : AtExit (endedOf n ps r) κs) →
+    promise κs args a s →
+    promise κs args b t →
+    a ≡ b
+
+-- two things that are equal to a third
+pub one-value : {A : Type 0} {a b c : A} → a ≡ c → b ≡ c → a ≡ b
+one-value p q = p ∙ sym q
 
 -- the enum that means an answer
 replyOf : Answer → Reply

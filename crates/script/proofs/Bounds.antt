@@ -15,7 +15,9 @@ use Rattle.script.specs.Bounded.{Bounded}
 
 -- line 1 found right
 record Top (n s k : ℕ) : Type 0 where
+  some-nodes : 1 ≤ n
   nodes : n ≤ 256
+  some-seats : 1 ≤ s
   seats : s ≤ 64
   calls : k ≤ 1000
 
@@ -23,7 +25,13 @@ in-bounds : (n s k next : ℕ) (b : Bool) → inBounds n s k ≡ b → ((if b th
 unfolding inBounds
 in-bounds n s k next true e h =
     let w = all5 (1 ≤? n) (n ≤? 256) (1 ≤? s) (s ≤? 64) (k ≤? 1000) e in
-    record { nodes = leb-true n 256 (w .1); seats = leb-true s 64 (w .3); calls = leb-true k 1000 (w .4) }
+    record {
+      some-nodes = leb-true 1 n (w .0);
+      nodes = leb-true n 256 (w .1);
+      some-seats = leb-true 1 s (w .2);
+      seats = leb-true s 64 (w .3);
+      calls = leb-true k 1000 (w .4);
+    }
 in-bounds n s k next false e h = absurd (h refl)
 
 contents-bounded : (src : List ℕ) → (contentsOf src .next ≡ 0 → ⊥) → Top (contentsOf src .n) (contentsOf src .s) (contentsOf src .k)
@@ -39,11 +47,25 @@ no-lines-length = length-replicate 1000 noLine
 
 bad-bounded : (wrong : ℕ) → Bounded (badAt wrong)
 unfolding badAt
-bad-bounded wrong = record { nodes = omega arith; seats = omega arith; calls = omega arith; rows = no-lines-length }
+bad-bounded wrong = record {
+  nodes = omega arith;
+  seats = omega arith;
+  calls = omega arith;
+  rows = no-lines-length;
+  some-nodes = λ e. absurd (omega arith);
+  some-seats = λ e. absurd (omega arith);
+}
 
 good-bounded : (top : Contents) (rows : List Line) → Top (top .n) (top .s) (top .k) → length rows ≡ 1000 → Bounded (goodScript top rows)
 unfolding goodScript
-good-bounded top rows h e = record { nodes = h .nodes; seats = h .seats; calls = h .calls; rows = e }
+good-bounded top rows h e = record {
+  nodes = h .nodes;
+  seats = h .seats;
+  calls = h .calls;
+  rows = e;
+  some-nodes = λ z. h .some-nodes;
+  some-seats = λ z. h .some-seats;
+}
 
 bodies-bounded : (src : List ℕ) (top : Contents) (left i at : ℕ) (rows : List Line) → Top (top .n) (top .s) (top .k) → length rows ≡ 1000 → Bounded (bodiesFrom src top left i at rows)
 unfolding bodiesFrom

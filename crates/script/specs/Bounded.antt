@@ -9,3 +9,6 @@ pub record Bounded (script : Script) : Type 0 where
   pub seats : script .s ≤ 64
   pub calls : script .k ≤ 1000
   pub rows : length (script .rows) ≡ 1000
+  -- a script that is not refused has a node and a seat
+  pub some-nodes : script .refusal ≡ 0 → 1 ≤ script .n
+  pub some-seats : script .refusal ≡ 0 → 1 ≤ script .s

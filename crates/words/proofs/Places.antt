@@ -75,12 +75,3 @@ some-seats l =
 pub seats-fit-is : (l : List ℕ) (n : ℕ) → n ≡ seatCountOf l → (eqb (length l) (seatWidth * n) && leb seatWidth (length l) && leb n 64) ≡ seatsFit (tables [] l)
 unfolding seatsFit
 seats-fit-is l n e = rw (e, some-seats l)
-
--- tables of N nodes and of S seats, by their lengths
-pub nodes-by-length : (l : List ℕ) (n : ℕ) → length l ≡ beforeNodes + nodeWidth * n → nodeCountOf l ≡ n
-unfolding nodeCountOf
-nodes-by-length l n e = omega arith
-
-pub seats-by-length : (l : List ℕ) (s : ℕ) → length l ≡ seatWidth * s → seatCountOf l ≡ s
-unfolding seatCountOf
-seats-by-length l s e = omega arith

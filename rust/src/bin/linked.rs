@@ -37,6 +37,10 @@ fn main() {
     check("a bad line", read(b"4 3 1\ns 00\n", &mut numbers) == Err(Bad(2)) && numbers == [9; 5003]);
     check("a good script", read(b"4 3 2\nb 0 10 20 2\ns 0\n", &mut numbers) == Ok(()));
     check("its numbers", numbers[..13] == [4, 3, 2, 1, 0, 10, 20, 2, 2, 0, 0, 0, 0] && numbers[13..] == [0; 4990]);
+    let mut printed = [9; 32768];
+    check("a bad line is printed", play(b"4 3 1\ns 00\n", &mut printed) == 6 && printed[..8] == *b"bad 2\n\t\t");
+    check("a script is played", play(b"4 3 2\nb 0 10 20 2\ns 0\n", &mut printed) == 31);
+    check("its lines", printed[..32] == *b"1 node 1\n2 on\nlist 1\ncovered 0\n\t");
     println!("{passed} passed, {failed} failed");
     std::process::exit(i32::from(failed != 0));
 }

@@ -2,7 +2,7 @@
 use lib.ListN.{length}
 use mathlib.Core.Path.{_≡_}
 use native.Mathlib.Omega.{arith}
-use Rattle.playing.proofs.Whole.{script-bounded, script-playable, play-bad, play-good, whole}
+use Rattle.playing.proofs.Whole.{script-bounded, play-bad, play-good, whole}
 use borrow.Author.Needs.{needs}
 use Rattle.playing.proofs.play.Statement.{statement}
 use Rattle.playing.proofs.play.Tie as tie
@@ -27,7 +27,7 @@ returns c =
     whole _ _ _ _ _ (c .put-line .ensures .0) (play-bad _ _ (read .read .ensures) (c .before .before .before .before .if1 .taken)) (omega (arith, c .put-line .ensures .1)) n
 
 play-script-requires : tie.Need-play-script-requires
-play-script-requires c κs = (search script-bounded, search script-playable)
+play-script-requires c κs = search script-bounded
 
 returns-2 : tie.Need-returns-2
 returns-2 c =
