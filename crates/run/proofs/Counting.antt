@@ -10,7 +10,7 @@ use lib.ListN.{length, drop, getD}
 use lib.Seq.{drop-cons, drop-length}
 use lib.Dec.{eqb, leb}
 use borrow.Author.Tests.{ne-eqb, eq-eqb, eqb-true, eqb-false, leb-true, leb-false, not-true, not-false}
-use Rattle.rules.specs.Tables.{Tables, tables, seatWord, nodeCountOf, linkWord, phaseAt, phase}
+use Rattle.rules.specs.Tables.{Tables, tables, seatWord, nodeCountOf, seatCountOf, linkWord, phaseAt, phase}
 use Rattle.rules.specs.Shape.{nodesFit, seatsFit, lengthsFit, names, endsWithin, nodesSound, seatsSound, sound}
 use Rattle.rules.specs.Answers.{Answer, refused, Done, done}
 use Rattle.rules.specs.Calls.{step}
@@ -21,6 +21,7 @@ use Rattle.rules.proofs.Shape.{is-sound}
 use Rattle.rules.proofs.Refused.{step-keeps}
 use Rattle.rules.proofs.SoundKept.{step-keeps-sound}
 use Rattle.shape.specs.Parts.{listEnds}
+use Rattle.claims.proofs.Ways.{step-past}
 use Rattle.rules.proofs.NodesAlone.{ends-alone}
 use Rattle.run.specs.Parts.{keptSound, stopAtDamage}
 
@@ -33,6 +34,18 @@ plus-more k rest = let e : rest .answer .steps + 1 + k ≡ rest .answer .steps +
 
 plus-none : (k refusal : ℕ) (t : Tables) → done (ran k refusal) t ≡ plus k (done (ran 0 refusal) t)
 plus-none k refusal t = let e : 0 + k ≡ k = omega arith in rw e
+
+-- ---- one entry: a seat that there is
+pub few-seats : (n t : List ℕ) (c : ℕ) → c ≡ seatCountOf t → sound (tables n t) ≡ true → c ≤ 64
+few-seats n t c p e = rw p (is-sound (tables n t) e .few-seats)
+
+module _ (t : List ℕ) (s c : ℕ) (isCount : c ≡ seatCountOf t) (there : s < c) where
+  pub seat-there : s < seatCountOf t
+  seat-there = rw (← isCount) there
+
+  pub still-there : (t′ : List ℕ) → length t′ ≡ length t → s < seatCountOf t′
+  unfolding seatCountOf
+  still-there t′ e = rw e seat-there
 
 -- ---- the loop
 accepted : (b : ℕ) (t : Tables) (s : ℕ) (rest : List ℕ) → refusalOf (step t s .answer) ≡ 0 → runSteps (suc b) t (s ∷ rest) ≡ oneMore (runSteps b (step t s .after) rest)
@@ -91,6 +104,11 @@ module _ (schedule : List ℕ) (budget : ℕ) (whole : Done Ran) (n t : List ℕ
         (plus-none k (refusalOf (step (tables n t) s .answer)) (tables n t)
         ∙ ap (plus k) (rw isEntry (sym (here k h i ∙ turned-away (budget - (k + 1)) (tables n t) (getD schedule k 0) (drop (k + 1) schedule) (rw isEntry at z))))
         ∙ left)
+
+  -- there is no such seat
+  pub left-past : (k s c : ℕ) → Left k → sound (tables n t) ≡ true → c ≡ seatCountOf t → c ≤ s → s ≡ getD schedule k 0 → k < budget → k < length schedule
+      → done (ran k 2) (tables n t) ≡ whole
+  left-past k s c l e p h q i j = left-refused n t k s 2 (refused 2) l (step-past n t s c p e h) refl q i j (omega arith)
 
   pub left-budget : (k : ℕ) → Left k → k ≡ budget → done (ran k 0) (tables n t) ≡ whole
   left-budget k l e =

@@ -55,7 +55,8 @@ fn stop_at_damage(steps: u32, entries: usize, budget: u32) -> Ran
     }
 }
 
-// The tables are sound whenever an entry is stepped, so that no entry tests them.
+// The tables are sound whenever an entry is stepped, so that no entry tests them. The seat is, so that its phase can be read on both sides of
+// the step without a test.
 fn run_steps(nodes: &mut [u32], seats: &mut [u32], schedule: &[u32], budget: u32) -> Ran
     requires { ⌜ sound (tables (now nodes) (now seats)) ≡ true ⌝ }
     ensures { λ r. ⌜ done r (tables (now (nodes .exit)) (now (seats .exit))) ≡ rule.runSteps budget (tables (now (nodes .entry)) (now (seats .entry))) (now (schedule .entry)) ⌝ }
@@ -75,7 +76,14 @@ fn run_steps(nodes: &mut [u32], seats: &mut [u32], schedule: &[u32], budget: u32
             };
         }
         let s = schedule[steps as usize];
-        let before = words::seat_word(seats, s, words::PHASE);
+        let count = words::seat_count(seats) as u32;
+        if count <= s {
+            break Ran {
+                steps: steps,
+                refusal: 2,
+            };
+        }
+        let before = words::seat_word_within(seats, s, words::PHASE);
         let reply = claims::step_known(nodes, seats, s);
         let refusal = refusal_of(reply);
         if refusal != 0 {
@@ -84,7 +92,7 @@ fn run_steps(nodes: &mut [u32], seats: &mut [u32], schedule: &[u32], budget: u32
                 refusal: refusal,
             };
         }
-        let after = words::seat_word(seats, s, words::PHASE);
+        let after = words::seat_word_within(seats, s, words::PHASE);
         steps += 1;
         if !is_kept_sound(nodes, before, after) {
             break stop_at_damage(steps, schedule.len(), budget);

@@ -8,7 +8,7 @@ use Prim.Native.Nat.{_+_, _-_, _*_, _≤_}
 use mathlib.Core.Path.{_≡_, refl}
 use native.Mathlib.Omega.{arith}
 use borrow.Author.Needs.{needs}
-use Rattle.run.proofs.Counting.{plus, left-all, left-again, left-refused, left-budget, left-end, left-stopped, still-fit, still-sound, now-damaged}
+use Rattle.run.proofs.Counting.{plus, few-seats, seat-there, still-there, left-all, left-again, left-refused, left-past, left-budget, left-end, left-stopped, still-fit, still-sound, now-damaged}
 use Rattle.run.proofs.run_steps.Statement.{statement}
 use Rattle.run.proofs.run_steps.Tie as tie
 
@@ -35,8 +35,16 @@ mul-s c = search needs
 shared-slice-read-s : tie.Need-shared-slice-read-s Inv-loop μ-loop
 shared-slice-read-s c = search needs
 
-seat-word-requires : tie.Need-seat-word-requires Inv-loop μ-loop
-seat-word-requires c κs = search needs
+seat-count-requires : tie.Need-seat-count-requires Inv-loop μ-loop
+seat-count-requires c κs = search needs
+
+cast-count : tie.Need-cast-count Inv-loop μ-loop
+cast-count c = omega (arith, few-seats _ _ _ (c .seat-count .ensures) (c .before .before .before .before .before .loop .inv .4))
+
+seat-word-within-requires : tie.Need-seat-word-within-requires Inv-loop μ-loop
+seat-word-within-requires c κs =
+    let seat = c .before in
+    (seat-there _ _ _ (seat .before .seat-count .ensures) (seat .if3 .left), search needs)
 
 step-known-requires : tie.Need-step-known-requires Inv-loop μ-loop
 step-known-requires c κs = search needs
@@ -44,8 +52,10 @@ step-known-requires c κs = search needs
 refusal-of-requires : tie.Need-refusal-of-requires Inv-loop μ-loop
 refusal-of-requires c κs = search needs
 
-seat-word-requires-2 : tie.Need-seat-word-requires-2 Inv-loop μ-loop
-seat-word-requires-2 c κs = search needs
+seat-word-within-requires-2 : tie.Need-seat-word-within-requires-2 Inv-loop μ-loop
+seat-word-within-requires-2 c κs =
+    let seat = c .before .before .before .before .before .before .before .before .before .before .before .before in
+    (still-there _ _ _ (seat .before .seat-count .ensures) (seat .if3 .left) _ (search needs), search needs)
 
 add-steps : tie.Need-add-steps Inv-loop μ-loop
 add-steps c = omega arith
@@ -67,13 +77,19 @@ loop-again c =
     let refusal = accepted .before in
     let step = refusal .before .before .before .before .before in
     let before = step .before .before .before in
-    let loop = before .before .before .before .before .before in (
+    let seat = before .before .before in
+    let more = seat .before .before .before .before in
+    let unused = more .before in
+    let loop = unused .before in
+    let h = loop .loop .inv .2 in
+    let i = loop .loop .inv .3 in
+    let stepped = step .step-known .ensures in (
       search needs,
       search needs,
-      omega arith,
-      omega arith,
-      still-sound _ _ _ _ _ _ _ _ _ (step .step-known .ensures) (before .seat-word .ensures) (after .seat-word2 .ensures) (kept .is-kept-sound .ensures) (c .if4 .left) (loop .loop .inv .4),
-      left-again _ _ _ _ _ _ _ _ _ _ _ (loop .loop .inv .5) (step .step-known .ensures) (refusal .refusal-of .ensures) refl (omega arith) (omega arith) (accepted .if3 .left),
+      omega (arith, h, unused .if1 .left),
+      omega (arith, i, more .if2 .left),
+      still-sound _ _ _ _ _ _ _ _ _ stepped (before .seat-word-within .ensures) (after .seat-word-within2 .ensures) (kept .is-kept-sound .ensures) (c .if5 .left) (loop .loop .inv .4),
+      left-again _ _ _ _ _ _ _ _ _ _ _ (loop .loop .inv .5) stepped (refusal .refusal-of .ensures) refl (omega (arith, h, unused .if1 .left)) (omega (arith, i, more .if2 .left)) (accepted .if4 .left),
     )
 
 same-length : tie.Need-same-length Inv-loop μ-loop
@@ -102,10 +118,12 @@ same-length-6 c = search needs
 
 returns-3 : tie.Need-returns-3 Inv-loop μ-loop
 returns-3 c =
-    let refusal = c .before in
-    let step = refusal .before .before .before .before .before in
-    let loop = step .before .before .before .before .before .before .before .before in
-    left-refused _ _ _ _ _ _ _ _ _ _ _ (loop .loop .inv .5) (step .step-known .ensures) (refusal .refusal-of .ensures) refl (omega arith) (omega arith) (c .if3 .taken)
+    let more = c .before .before .before .before in
+    let unused = more .before in
+    let loop = unused .before in
+    let h = loop .loop .inv .2 in
+    let i = loop .loop .inv .3 in
+    left-past _ _ _ _ _ _ _ _ (loop .loop .inv .5) (loop .loop .inv .4) (c .before .seat-count .ensures) (c .if3 .taken) refl (omega (arith, h, unused .if1 .left)) (omega (arith, i, more .if2 .left))
 
 same-length-7 : tie.Need-same-length-7 Inv-loop μ-loop
 same-length-7 c = search needs
@@ -115,6 +133,25 @@ same-length-8 c = search needs
 
 returns-4 : tie.Need-returns-4 Inv-loop μ-loop
 returns-4 c =
+    let refusal = c .before in
+    let step = refusal .before .before .before .before .before in
+    let seat = step .before .before .before .before .before in
+    let more = seat .before .before .before .before in
+    let unused = more .before in
+    let loop = unused .before in
+    let h = loop .loop .inv .2 in
+    let i = loop .loop .inv .3 in
+    let stepped = step .step-known .ensures in
+    left-refused _ _ _ _ _ _ _ _ _ _ _ (loop .loop .inv .5) stepped (refusal .refusal-of .ensures) refl (omega (arith, h, unused .if1 .left)) (omega (arith, i, more .if2 .left)) (c .if4 .taken)
+
+same-length-9 : tie.Need-same-length-9 Inv-loop μ-loop
+same-length-9 c = search needs
+
+same-length-10 : tie.Need-same-length-10 Inv-loop μ-loop
+same-length-10 c = search needs
+
+returns-5 : tie.Need-returns-5 Inv-loop μ-loop
+returns-5 c =
     let stops = c .before in
     let kept = stops .before in
     let after = kept .before .before in
@@ -122,15 +159,17 @@ returns-4 c =
     let refusal = accepted .before in
     let step = refusal .before .before .before .before .before in
     let before = step .before .before .before in
-    let more = before .before .before .before in
+    let seat = before .before .before in
+    let more = seat .before .before .before .before in
     let unused = more .before in
     let loop = unused .before in
     let h = loop .loop .inv .2 in
     let i = loop .loop .inv .3 in
+    let stepped = step .step-known .ensures in
     left-stopped _ _ _ _ _ _ _
-    (left-again _ _ _ _ _ _ _ _ _ _ _ (loop .loop .inv .5) (step .step-known .ensures) (refusal .refusal-of .ensures) refl (omega (arith, h, unused .if1 .left)) (omega (arith, i, more .if2 .left)) (accepted .if3 .left))
+    (left-again _ _ _ _ _ _ _ _ _ _ _ (loop .loop .inv .5) stepped (refusal .refusal-of .ensures) refl (omega (arith, h, unused .if1 .left)) (omega (arith, i, more .if2 .left)) (accepted .if4 .left))
     (c .stop-at-damage .ensures)
-    (now-damaged _ _ _ _ _ _ _ _ _ (step .step-known .ensures) (before .seat-word .ensures) (after .seat-word2 .ensures) (kept .is-kept-sound .ensures) (stops .if4 .taken))
+    (now-damaged _ _ _ _ _ _ _ _ _ stepped (before .seat-word-within .ensures) (after .seat-word-within2 .ensures) (kept .is-kept-sound .ensures) (stops .if5 .taken))
     (omega (arith, h, unused .if1 .left)) (omega (arith, i, more .if2 .left))
 
 pub run-steps-spec : {M : Type 1} → statement M
@@ -144,10 +183,12 @@ run-steps-spec =
     cast-s
     mul-s
     shared-slice-read-s
-    seat-word-requires
+    seat-count-requires
+    cast-count
+    seat-word-within-requires
     step-known-requires
     refusal-of-requires
-    seat-word-requires-2
+    seat-word-within-requires-2
     add-steps
     is-kept-sound-requires
     stop-at-damage-requires
@@ -164,4 +205,7 @@ run-steps-spec =
     returns-3
     same-length-7
     same-length-8
-    returns-4)
+    returns-4
+    same-length-9
+    same-length-10
+    returns-5)
