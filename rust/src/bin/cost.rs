@@ -98,6 +98,10 @@ impl Bench {
         self.call(Call::Step { seat })
     }
 
+    fn board(self, rows: u32) -> Case {
+        self.call(Call::Board { rows: vec![0; 4 * rows as usize] })
+    }
+
     fn begins(self) -> Case {
         let seat = self.last;
         self.call(Call::Begin { seat, start: 0, end: 5, kind: WRITES })
@@ -169,7 +173,8 @@ const OPERATIONS: &[Operation] = &[
     }),
     ("release", |nodes, seats| holders(nodes, seats, WRITES).call(Call::Release { seat: 0 })),
     ("run of 1,000 entries", long_run),
-    ("board", |nodes, seats| holders(nodes, seats, WRITES).call(Call::Board { rows: vec![0; 256] })),
+    ("board", |nodes, seats| holders(nodes, seats, WRITES).board(seats)),
+    ("board, no row to spare", |nodes, seats| holders(nodes, seats, WRITES).board(seats - 2)),
     ("free count", |nodes, seats| holders(nodes, seats, WRITES).call(Call::FreeCount)),
 ];
 
@@ -188,7 +193,8 @@ fn main() {
     let operation = OPERATIONS.iter().find(|(name, _)| *name == arguments[1]);
     let prepare = operation.map_or(OPERATIONS[0].1, |(_, prepare)| *prepare);
     let case = prepare(number(&arguments[2]), number(&arguments[3]));
-    let (mut nodes, mut seats, mut rows) = (case.nodes.clone(), case.seats.clone(), vec![0; 256]);
+    let (mut nodes, mut seats) = (case.nodes.clone(), case.seats.clone());
+    let mut rows = if let Call::Board { rows } = &case.call { rows.clone() } else { vec![] };
     let mut answer = 0;
     let mut covered = 0;
     for _ in 0..number(&arguments[4]) {
