@@ -17,6 +17,10 @@
 #include <stddef.h>
 #include <stdint.h>
 
+#ifdef __cplusplus
+extern "C" {
+#endif
+
 /* 0, or 1: the lengths do not fit. */
 uint64_t soodhiqune_clear(uint32_t *nodes, size_t node_words, uint32_t *seats, size_t seat_words);
 
@@ -48,5 +52,9 @@ uint64_t soodhiqune_read(const uint8_t *script, size_t bytes, uint32_t *numbers)
 
 /* What the program prints for a script, into a buffer of 32,768 bytes; the number of bytes, at most 26,986. */
 uint64_t soodhiqune_play(const uint8_t *script, size_t bytes, uint8_t *out);
+
+#ifdef __cplusplus
+}
+#endif
 
 #endif
