@@ -12,8 +12,7 @@ use Rattle.rules.specs.Fetch.{takenOut}
 use Rattle.rules.specs.Steps.{joined, walking, waitingToEnter, validating, readerWaiting, stepByPhase}
 use Rattle.rules.specs.Calls.{step}
 use Rattle.rules.proofs.Logic.{clash}
-use Rattle.rules.proofs.Words.{link-put-same, link-put-other, node-put-link}
-use Rattle.rules.proofs.SameWords.{seat-count}
+use Rattle.rules.proofs.Words.{link-put-same, link-put-other, node-put-link, seat-count}
 use Rattle.rules.proofs.Following.{Reach, Ends, unlink-keeps-reach, unlink-adds-none, unlink-adds-none-to-list, unlink-keeps-ends}
 use Rattle.rules.proofs.Shape.{sound-is}
 use Rattle.rules.proofs.RuleEffects.{cur-stored, phase-stored}

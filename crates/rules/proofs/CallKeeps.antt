@@ -15,7 +15,7 @@ use Rattle.rules.specs.Run.{run}
 use Rattle.rules.specs.Play.{Call, beginCall, stepCall, releaseCall, call, afterAll}
 use Rattle.rules.specs.Reached.{Reached, cleared, called, afterRun}
 use Rattle.rules.proofs.Logic.{branch}
-use Rattle.rules.proofs.SameWords.{seat-count, fresh-nodes-length, fresh-seats-length, fresh-node-word, fresh-link, fresh-seat-word}
+use Rattle.rules.proofs.Words.{seat-count, fresh-nodes-length, fresh-seats-length, fresh-node-word, fresh-link, fresh-seat-word}
 use Rattle.rules.proofs.Following.{not-from-0}
 use Rattle.rules.proofs.View.{nodesOf, seatsOf, Outside, Linked}
 use Rattle.rules.proofs.Phases.{outside-busy, linked-busy}

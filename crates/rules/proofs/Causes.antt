@@ -13,7 +13,7 @@ use Rattle.rules.specs.Answers.{refused, done}
 use Rattle.rules.specs.Steps.{waitingToEnter, readerWaiting, refetched}
 use Rattle.rules.specs.Calls.{step}
 use Rattle.rules.specs.Demands.{Covers, Cause, Settled, holds, waits, no-node}
-use Rattle.rules.proofs.SameWords.{seat-count}
+use Rattle.rules.proofs.Words.{seat-count}
 use Rattle.rules.proofs.Following.{here}
 use Rattle.rules.proofs.Compared.{Precedes, apart, readers}
 use Rattle.rules.proofs.View.{seatsOf, waiting, reader-waiting}

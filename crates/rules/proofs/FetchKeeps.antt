@@ -9,8 +9,7 @@ use Rattle.rules.specs.Tables.{Tables, beforeNodes, nodeWidth, nodeCount
 use Rattle.rules.specs.Comparison.{Claim}
 use Rattle.rules.specs.Reach.{free, lowestFree}
 use Rattle.rules.specs.Fetch.{Fetched, writeClaim, enterAtHead, takeNode}
-use Rattle.rules.proofs.Words.{link-node}
-use Rattle.rules.proofs.SameWords.{node-count}
+use Rattle.rules.proofs.Words.{link-node, node-count}
 use Rattle.rules.proofs.Lowest.{lowest-has}
 use Rattle.rules.proofs.View.{nodesOf}
 use Rattle.rules.proofs.Invariant.{Proper}

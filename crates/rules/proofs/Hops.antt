@@ -10,8 +10,7 @@ use Rattle.rules.specs.Notation.{_is_}
 use Rattle.rules.specs.Tables.{Tables, nodeCount, seatCount, seatWord, phaseAt, ownAt, prevAt, curAt, link, head, phase, own, prev, cur}
 use Rattle.rules.specs.Reach.{met, listed, seatReaches, othersReach, free}
 use Rattle.rules.proofs.Logic.{or-neither, not-true, of-not, and-not, any-none, clash}
-use Rattle.rules.proofs.Words.{seat-past}
-use Rattle.rules.proofs.SameWords.{node-count, seat-count}
+use Rattle.rules.proofs.Words.{seat-past, node-count, seat-count}
 use Rattle.rules.proofs.Following.{Reach, not-from-0}
 use Rattle.rules.proofs.Pigeonhole.{short}
 use Rattle.rules.proofs.Listed.{met-reach, met-here, reach-met}

@@ -9,7 +9,6 @@ pub mod OneAnswer
 -- what the theory stands on: following links, the view of the tables, the invariant
 pub mod Deciding
 pub mod Lowest
-pub mod SameWords
 pub mod Following
 pub mod Pigeonhole
 pub mod Listed

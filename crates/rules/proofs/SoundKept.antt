@@ -16,9 +16,8 @@ use Rattle.rules.specs.Answers.{Answer, Done}
 use Rattle.rules.specs.Steps.{linkIn, pass, hold, withdraw, leave, refetched}
 use Rattle.rules.specs.Calls.{begun, begin, step, release}
 use Rattle.rules.proofs.Logic.{branch, or-neither, not-true, clash}
-use Rattle.rules.proofs.Words.{link-put-same, link-put-other, put-link-length}
+use Rattle.rules.proofs.Words.{link-put-same, link-put-other, put-link-length, node-count}
 use Rattle.rules.proofs.Shape.{is-sound, sound-is}
-use Rattle.rules.proofs.SameWords.{node-count}
 use Rattle.rules.proofs.Lowest.{lowest-has}
 use Rattle.rules.proofs.Following.{Reach, there, reach-target, ends-tail, no-circle, unlink-keeps-ends, unlink-adds-none}
 use Rattle.rules.proofs.Pigeonhole.{short}

@@ -11,7 +11,7 @@ use Rattle.rules.specs.Shape.{endsWithin, sound}
 use Rattle.rules.specs.Reached.{Reached, cleared, called, afterRun}
 use Rattle.rules.proofs.Logic.{or-right}
 use Rattle.rules.proofs.Shape.{Names, ZeroNode, ClaimNode, SeatSound, Sound, sound-is}
-use Rattle.rules.proofs.SameWords.{node-count, seat-count}
+use Rattle.rules.proofs.Words.{node-count, seat-count}
 use Rattle.rules.proofs.Following.{Ends, stop, more}
 use Rattle.rules.proofs.Pigeonhole.{short}
 use Rattle.rules.proofs.View.{nodesOf, claimAt}

@@ -11,8 +11,7 @@ use Rattle.rules.specs.Tables.{Tables, tables, beforeNodes, nodeWidth, n
 use Rattle.rules.specs.Fetch.{keptFrom, kept, linkThrough, takenOut}
 use Rattle.rules.proofs.Logic.{branch}
 use Rattle.rules.proofs.Deciding.{if-true}
-use Rattle.rules.proofs.Words.{link-put-same, link-put-other, node-put-link}
-use Rattle.rules.proofs.SameWords.{node-count, put-link-self, put-link-twice}
+use Rattle.rules.proofs.Words.{link-put-same, link-put-other, node-put-link, node-count, put-link-self, put-link-twice}
 use Rattle.rules.proofs.Following.{Reach, here, there, reach-target, reach-next, Ends, stop, more, ends-tail, no-circle, unlink-keeps-ends}
 use Rattle.rules.proofs.Pigeonhole.{short}
 use Rattle.rules.proofs.View.{seatsOf}

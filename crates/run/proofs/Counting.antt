@@ -17,6 +17,7 @@ use Rattle.rules.specs.Calls.{step}
 use Rattle.rules.specs.Run.{ran, refusalOf, oneMore, runSteps, run}
 use Rattle.rules.specs.declared.Ran.{Ran}
 use Rattle.rules.proofs.Logic.{branch, clash, not-of, or-case, or-neither, and-left, all5}
+use Rattle.rules.proofs.Words.{same-node-count, same-seat-count}
 use Rattle.rules.proofs.Shape.{is-sound}
 use Rattle.rules.proofs.Refused.{step-keeps}
 use Rattle.rules.proofs.SoundKept.{step-keeps-sound}
@@ -44,8 +45,7 @@ module _ (t : List ℕ) (s c : ℕ) (isCount : c ≡ seatCountOf t) (there : s <
   seat-there = rw (← isCount) there
 
   pub still-there : (t′ : List ℕ) → length t′ ≡ length t → s < seatCountOf t′
-  unfolding seatCountOf
-  still-there t′ e = rw e seat-there
+  still-there t′ e = rw (same-seat-count (tables [] t) (tables [] t′) e) seat-there
 
 -- ---- the loop
 accepted : (b : ℕ) (t : Tables) (s : ℕ) (rest : List ℕ) → refusalOf (step t s .answer) ≡ 0 → runSteps (suc b) t (s ∷ rest) ≡ oneMore (runSteps b (step t s .after) rest)
@@ -167,10 +167,10 @@ kept-other n before after e = rw e
 
 -- a step keeps the lengths
 pub still-fit : (n n′ t : List ℕ) → sound (tables n t) ≡ true → length n′ ≡ length n → nodesFit (tables n′ []) ≡ true
-unfolding sound lengthsFit nodesFit nodeCountOf
+unfolding sound lengthsFit nodesFit
 still-fit n n′ t e l =
     let w = all5 (lengthsFit (tables n t)) (nodesSound (tables n t)) (names (tables n t) (linkWord n 0)) (seatsSound (tables n t)) (endsWithin (nodeCountOf n) (tables n t) (linkWord n 0)) e in
-    rw l (and-left (nodesFit (tables n t)) (seatsFit (tables n t)) (w .0))
+    rw (l, same-node-count (tables n t) (tables n′ []) l) (and-left (nodesFit (tables n t)) (seatsFit (tables n t)) (w .0))
 
 -- of the tables after a step on sound ones
 module _ (n n′ t t′ : List ℕ) (s before after : ℕ) (a : Answer) (k : Bool) (stepped : done a (tables n′ t′) ≡ step (tables n t) s) (isBefore : before ≡ seatWord t s phaseAt)
