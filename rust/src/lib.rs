@@ -6,6 +6,7 @@ pub mod library;
 #[cfg(feature = "proved")]
 pub mod linked;
 pub mod machine;
+mod nodeset;
 #[cfg(feature = "proved")]
 pub mod proved;
 pub mod random;

@@ -93,7 +93,14 @@ pub fn clear(nodes: &mut [u32], seats: &mut [u32]) -> Result<(), Refused> {
 }
 
 /// Takes a node for a claim of the frames from start up to end, and starts the seat's walk.
-pub fn begin(nodes: &mut [u32], seats: &mut [u32], seat: u32, start: u32, end: u32, kind: u32) -> Result<Answer, Refused> {
+pub fn begin(
+    nodes: &mut [u32],
+    seats: &mut [u32],
+    seat: u32,
+    start: u32,
+    end: u32,
+    kind: u32,
+) -> Result<Answer, Refused> {
     answer(proved::begin(nodes, seats, seat, start, end, kind))
 }
 

@@ -2,6 +2,8 @@
 //! It assumes nothing of what it is lent: tables of any length and any words are answered, if need be by refusal 1.
 //! Behind the test of sound shape every name of a node is in bounds, and the functions that follow rely on that.
 
+use crate::nodeset::NodeSet;
+
 /// "Nodes: one head word, then N nodes of five words: start, end, kind, next, mark. N is 1 to 256."
 pub const HEAD: usize = 0;
 pub const HEAD_WORDS: usize = 1;
@@ -183,38 +185,6 @@ pub fn fresh(nodes: u32, seats: u32) -> (Vec<u32>, Vec<u32>) {
 }
 
 // Fetch
-
-/// A set of nodes, a bit for each of the numbers 1 to 256.
-struct NodeSet([u64; MOST_NODES / 64]);
-
-impl NodeSet {
-    fn all(count: usize) -> NodeSet {
-        let ones = |width: usize| if width < 64 { (1 << width) - 1 } else { u64::MAX };
-        NodeSet([0, 64, 128, 192].map(|before| ones(count.saturating_sub(before))))
-    }
-
-    fn has(&self, node: u32) -> bool {
-        self.0[(node as usize - 1) / 64] >> ((node - 1) % 64) & 1 == 1
-    }
-
-    /// Without what is met by following next from a node, itself included. What follows a node that is out is out too.
-    fn without_those_from(&mut self, first: u32, next: &impl Fn(u32) -> u32) {
-        let mut node = first;
-        while node != 0 && self.has(node) {
-            self.0[(node as usize - 1) / 64] &= !(1 << ((node - 1) % 64));
-            node = next(node);
-        }
-    }
-
-    fn lowest(&self) -> Option<u32> {
-        let at = self.0.iter().position(|&bits| bits != 0)?;
-        Some(64 * at as u32 + self.0[at].trailing_zeros() + 1)
-    }
-
-    fn count(&self) -> u32 {
-        self.0.iter().map(|bits| bits.count_ones()).sum()
-    }
-}
 
 /// "A node is free if it is not on the list and cannot be reached by following next from any other seat's own, prev or cur
 /// (those nodes included). The asking seat's own words do not count." The list is what is met from `head` by `next`.
