@@ -67,7 +67,7 @@ readAs number numbers = record { number = number; numbers = numbers }
 unfoldable pub putLine : List ℕ → ℕ → Line → List ℕ
 putLine l at line = set (set (set (set (set l at (line .code)) (at + 1) (line .seat)) (at + 2) (line .start)) (at + 3) (line .end)) (at + 4) (line .kind)
 
--- the first n rows, from the third number on
+-- the first n rows, behind N, S and K
 unfoldable pub linesAfter : ℕ → List ℕ → List Line → List ℕ
 linesAfter zero l rows = l
 linesAfter (suc n) l rows = putLine (linesAfter n l rows) (3 + 5 * n) (getD rows n noLine)

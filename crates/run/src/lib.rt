@@ -55,8 +55,8 @@ fn stop_at_damage(steps: u32, entries: usize, budget: u32) -> Ran
     }
 }
 
-// The tables are sound whenever an entry is stepped, so that no entry tests them. The seat is, so that its phase can be read on both sides of
-// the step without a test.
+// The tables are sound whenever an entry is stepped, so that none tests them. Whether there is such a seat is asked here, so that its phase
+// can be read before and after the step.
 fn run_steps(nodes: &mut [u32], seats: &mut [u32], schedule: &[u32], budget: u32) -> Ran
     requires { ⌜ sound (tables (now nodes) (now seats)) ≡ true ⌝ }
     ensures { λ r. ⌜ done r (tables (now (nodes .exit)) (now (seats .exit))) ≡ rule.runSteps budget (tables (now (nodes .entry)) (now (seats .entry))) (now (schedule .entry)) ⌝ }
