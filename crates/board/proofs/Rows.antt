@@ -16,7 +16,7 @@ use Rattle.rules.specs.Board.{rowOf, rowsBelow, holders, coveredBy, numbersOf, 
 use Rattle.rules.specs.declared.Row.{Row}
 use Rattle.holders.specs.Holding.{holding}
 use Rattle.holders.proofs.Rows.{rows-more, rows-same, rows-upto, rows-at-most, rows-counted}
-use Rattle.holders.proofs.Owned.{few-seats}
+use Rattle.rules.proofs.Shape.{seats-few}
 use Rattle.board.specs.Filling.{putRow, Filled, filled, fillSeat, fillBelow, showHolders}
 
 -- ---- one row more, in numbers
@@ -158,7 +158,7 @@ module _ (n t l : List ℕ) (c : ℕ) (b : Bool) (isRoom : b ≡ (holding t c �
 pub rows-fit : (n t l l′ : List ℕ) (c a : ℕ) → filled a l′ ≡ fillBelow c (tables n t) l → c ≡ seatCountOf t → sound (tables n t) ≡ true → a < 4294967296
 rows-fit n t l l′ c a f e h =
     let k = fill-small (tables n t) l l′ c c a f in
-    let m = few-seats n t c e h in
+    let m = seats-few n t c e h in
     omega arith
 
 pub shown-sound : (n t l l′ : List ℕ) (b : Bool) (r : Boarded) → shown r l′ ≡ showHolders (tables n t) l → b ≡ sound (tables n t) → b ≡ true → shown r l′ ≡ boardNumbers (tables n t) l

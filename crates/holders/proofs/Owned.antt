@@ -16,9 +16,6 @@ use Rattle.rules.proofs.Words.{seat-past}
 use Rattle.holders.specs.Holding.{heldBy}
 use Rattle.holders.proofs.Rows.{held-none, held-one, rows-at-most}
 
-pub few-seats : (n t : List ℕ) (c : ℕ) → c ≡ seatCountOf t → sound (tables n t) ≡ true → c ≤ 64
-few-seats n t c e s = let w = is-sound (tables n t) s in let f = w .few-seats in omega arith
-
 pub few-holders : (t : Tables) → sound t ≡ true → length (holders t) ≤ 64
 unfolding holders
 few-holders t s = let f = is-sound t s .few-seats in let k = rows-at-most t (seatCount t) in omega arith

@@ -10,7 +10,7 @@ use lib.Dec.{eqb, leb, ltb}
 use lib.ListN.{length}
 use borrow.Author.Tests.{eqb-true, eqb-false, leb-true, leb-false, ltb-true, ltb-false, eq-eqb, ne-eqb, le-leb, lt-ltb}
 use Rattle.rules.specs.Notation.{_is_, _≤?_, _<?_, all}
-use Rattle.rules.specs.Tables.{Tables, nodeCount, seatCount, beforeNodes, nodeWidth, seatWidth, phaseAt, ownAt, prevAt, curAt, start, end, kind, mark, link, next, head, phase, own, prev, cur}
+use Rattle.rules.specs.Tables.{Tables, tables, seatCountOf, nodeCount, seatCount, beforeNodes, nodeWidth, seatWidth, phaseAt, ownAt, prevAt, curAt, start, end, kind, mark, link, next, head, phase, own, prev, cur}
 use Rattle.rules.specs.Shape.{nodesFit, seatsFit, lengthsFit, isKind, zeroNode, claimNode, names, nodeSound, isPhase, idleOrOwning, restingAtZero, waitingAtCur, seatSound, endsWithin, nodesSound, seatsSound, sound}
 use Rattle.rules.proofs.Logic.{either, or-left, or-right, or-case, and-left, and-right, and-both, both, all3, all4, all5, all6, not-true, of-not, all-at, all-of}
 use Rattle.rules.proofs.Words.{node-past, link-past, seat-past}
@@ -338,3 +338,7 @@ module _ (t : Tables) where
   pub sound-is : Sound t → sound t ≡ true
   unfolding sound
   sound-is w = rw (lengths-fit-is w, nodes-sound-is w, name-of t (head t) (w .link-names 0), seats-sound-is w, w .ends)
+
+-- S of sound tables, as the code counts it
+pub seats-few : (n t : List ℕ) (c : ℕ) → c ≡ seatCountOf t → sound (tables n t) ≡ true → c ≤ 64
+seats-few n t c e s = rw e (is-sound (tables n t) s .few-seats)

@@ -37,9 +37,6 @@ plus-none : (k refusal : ℕ) (t : Tables) → done (ran k refusal) t ≡ plus k
 plus-none k refusal t = let e : 0 + k ≡ k = omega arith in rw e
 
 -- ---- one entry: a seat that there is
-pub few-seats : (n t : List ℕ) (c : ℕ) → c ≡ seatCountOf t → sound (tables n t) ≡ true → c ≤ 64
-few-seats n t c p e = rw p (is-sound (tables n t) e .few-seats)
-
 module _ (t : List ℕ) (s c : ℕ) (isCount : c ≡ seatCountOf t) (there : s < c) where
   pub seat-there : s < seatCountOf t
   seat-there = rw (← isCount) there

@@ -125,7 +125,7 @@ pub fn seat_word_within(seats: &[u32], s: u32, field: u32) -> u32
 pub fn seat_word(seats: &[u32], s: u32, field: u32) -> u32
     ensures { λ r. ⌜ r ≡ seatWord (now (seats .entry)) s field ⌝ }
 {
-    if ((s as usize) < seat_count(seats)) & (field < 4) {
+    if ((s as usize) < seat_count(seats)) & ((field as usize) < SEAT_WIDTH) {
         return seat_word_within(seats, s, field);
     }
     word(seats, SEAT_WIDTH * s as usize + field as usize)
@@ -134,7 +134,7 @@ pub fn seat_word(seats: &[u32], s: u32, field: u32) -> u32
 pub fn put_seat(seats: &mut [u32], s: u32, field: u32, value: u32)
     ensures { λ r. ⌜ now (seats .exit) ≡ putSeat (now (seats .entry)) s field value ⌝ }
 {
-    if ((s as usize) < seat_count(seats)) & (field < 4) {
+    if ((s as usize) < seat_count(seats)) & ((field as usize) < SEAT_WIDTH) {
         seats[SEAT_WIDTH * s as usize + field as usize] = value;
         return;
     }

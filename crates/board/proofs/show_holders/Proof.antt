@@ -1,7 +1,7 @@
 -- `board::show_holders` meets its promise.
 use native.Mathlib.Omega.{arith}
 use Prim.Native.Nat.{_≤_}
-use Rattle.holders.proofs.Owned.{few-seats}
+use Rattle.rules.proofs.Shape.{seats-few}
 use Rattle.board.proofs.Rows.{rows-fit, long-enough, too-short, holders-shown}
 use borrow.Author.Needs.{needs}
 use Rattle.board.proofs.show_holders.Statement.{statement}
@@ -11,7 +11,7 @@ seat-count-requires : tie.Need-seat-count-requires
 seat-count-requires c κs = search needs
 
 cast-count : tie.Need-cast-count
-cast-count c = let few : c .seat-count .result ≤ 64 = search few-seats in omega arith
+cast-count c = let few : c .seat-count .result ≤ 64 = search seats-few in omega arith
 
 has-room-requires : tie.Need-has-room-requires
 has-room-requires c κs = search needs

@@ -3,7 +3,7 @@
 use borrow.Author.Needs.{needs}
 use native.Mathlib.Omega.{arith}
 use Rattle.holders.proofs.Rows.{covered-start, covered-again, covered-done}
-use Rattle.holders.proofs.Owned.{few-seats}
+use Rattle.rules.proofs.Shape.{seats-few}
 use Rattle.rules.specs.Board.{rowsBelow, coveredBy}
 use Rattle.rules.specs.Tables.{tables}
 use mathlib.Core.Path.{_≡_}
@@ -21,10 +21,10 @@ seat-count-requires : tie.Need-seat-count-requires Inv-loop μ-loop
 seat-count-requires c κs = search needs
 
 cast-count : tie.Need-cast-count Inv-loop μ-loop
-cast-count c = let few : c .seat-count .result ≤ 64 = search few-seats in omega arith
+cast-count c = let few : c .seat-count .result ≤ 64 = search seats-few in omega arith
 
 loop-holds : tie.Need-loop-holds Inv-loop μ-loop
-loop-holds c = (search few-seats, omega arith, omega arith, covered-start _)
+loop-holds c = (search seats-few, omega arith, omega arith, covered-start _)
 
 frames-requires : tie.Need-frames-requires Inv-loop μ-loop
 frames-requires c κs = search needs

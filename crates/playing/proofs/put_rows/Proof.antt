@@ -3,7 +3,7 @@
 use borrow.Author.Needs.{needs}
 use native.Mathlib.Omega.{arith}
 use Rattle.playing.proofs.Holding.{text-start, text-again, rows-reach, text-done}
-use Rattle.holders.proofs.Owned.{few-seats}
+use Rattle.rules.proofs.Shape.{seats-few}
 use Rattle.text.specs.Page.{page, puts}
 use Rattle.rules.specs.Play.{rowsText}
 use Rattle.rules.specs.Board.{rowsBelow}
@@ -24,10 +24,10 @@ seat-count-requires : tie.Need-seat-count-requires Inv-loop μ-loop
 seat-count-requires c κs = search needs
 
 cast-count : tie.Need-cast-count Inv-loop μ-loop
-cast-count c = let few : c .seat-count .result ≤ 64 = search few-seats in omega arith
+cast-count c = let few : c .seat-count .result ≤ 64 = search seats-few in omega arith
 
 loop-holds : tie.Need-loop-holds Inv-loop μ-loop
-loop-holds c = (search few-seats, refl, omega arith, omega arith, text-start _ _)
+loop-holds c = (search seats-few, refl, omega arith, omega arith, text-start _ _)
 
 put-held-requires : tie.Need-put-held-requires Inv-loop μ-loop
 put-held-requires c κs = search needs

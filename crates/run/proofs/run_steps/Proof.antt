@@ -7,8 +7,9 @@ use mathlib.Core.Bool.{true}
 use Prim.Native.Nat.{_+_, _-_, _*_, _≤_}
 use mathlib.Core.Path.{_≡_, refl}
 use native.Mathlib.Omega.{arith}
+use Rattle.rules.proofs.Shape.{seats-few}
 use borrow.Author.Needs.{needs}
-use Rattle.run.proofs.Counting.{plus, few-seats, seat-there, still-there, left-all, left-again, left-refused, left-past, left-budget, left-end, left-stopped, still-fit, still-sound, now-damaged}
+use Rattle.run.proofs.Counting.{plus, seat-there, still-there, left-all, left-again, left-refused, left-past, left-budget, left-end, left-stopped, still-fit, still-sound, now-damaged}
 use Rattle.run.proofs.run_steps.Statement.{statement}
 use Rattle.run.proofs.run_steps.Tie as tie
 
@@ -39,7 +40,7 @@ seat-count-requires : tie.Need-seat-count-requires Inv-loop μ-loop
 seat-count-requires c κs = search needs
 
 cast-count : tie.Need-cast-count Inv-loop μ-loop
-cast-count c = omega (arith, few-seats _ _ _ (c .seat-count .ensures) (c .before .before .before .before .before .loop .inv .4))
+cast-count c = omega (arith, seats-few _ _ _ (c .seat-count .ensures) (c .before .before .before .before .before .loop .inv .4))
 
 seat-word-within-requires : tie.Need-seat-word-within-requires Inv-loop μ-loop
 seat-word-within-requires c κs =
