@@ -1,7 +1,7 @@
 -- The board's promise settles its answer and every number of the board: two results that meet it on the same arguments are equal. It is
 -- the promise itself that is cited, as the checker reads it from the source.
 use denote.Ref.{now}
-use Rattle.rules.proofs.OneAnswer as law
+use Rattle.rules.proofs.Laws.OneAnswer as law
 use Rattle.board.proofs.board.Reads as board
 use Rattle.board.proofs.board.Kinds as kinds
 

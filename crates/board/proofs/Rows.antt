@@ -16,7 +16,7 @@ use Rattle.rules.specs.Board.{rowOf, rowsBelow, holders, coveredBy, numbersOf, 
 use Rattle.rules.specs.declared.Row.{Row}
 use Rattle.holders.specs.Holding.{holding}
 use Rattle.holders.proofs.Rows.{rows-more, rows-same, rows-upto, rows-at-most, rows-counted}
-use Rattle.rules.proofs.Shape.{seats-few}
+use Rattle.rules.proofs.Laws.Shape.{seats-few}
 use Rattle.board.specs.Filling.{putRow, Filled, filled, fillSeat, fillBelow, showHolders}
 
 -- ---- one row more, in numbers

@@ -2,7 +2,7 @@
 -- promise itself that is cited, as the checker reads it from the source.
 use denote.Ref.{now}
 use Rattle.rules.specs.Tables.{tables}
-use Rattle.rules.proofs.OneAnswer.{Settles, SettlesAnswer, one-result, one-reply, one-count}
+use Rattle.rules.proofs.Laws.OneAnswer.{Settles, SettlesAnswer, one-result, one-reply, one-count}
 use Rattle.claims.proofs.clear.Reads as clear
 use Rattle.claims.proofs.clear.Kinds as clear-kinds
 use Rattle.claims.proofs.begin.Reads as begin

@@ -19,8 +19,8 @@ use Rattle.rules.specs.Answers.{Answer, node, out, on, held, refused, Done, don
 use Rattle.rules.specs.Steps.{leave, walking, waitingToEnter, validating, readerWaiting, refetched, withdrawn, stepByPhase}
 use Rattle.rules.specs.Calls.{clear, begun, begin, step, release}
 use Rattle.rules.specs.FreeCount.{Counted, freeCount}
-use Rattle.rules.proofs.Shape.{lengths-fit, is-sound}
-use Rattle.rules.proofs.Refused.{fetch-none}
+use Rattle.rules.proofs.Laws.Shape.{lengths-fit, is-sound}
+use Rattle.rules.proofs.Laws.Refused.{fetch-none}
 use Rattle.steps.proofs.Arms.{answered-is}
 use Rattle.claims.specs.Parts.{beginFetching, beginClaim, stepBusy, releaseSeat}
 

@@ -9,7 +9,7 @@ use Rattle.rules.specs.Shape.{lengthsFit}
 use Rattle.rules.specs.Answers.{Done, done}
 use Rattle.rules.specs.Calls.{clear}
 use Rattle.rules.specs.Reached.{Reached, cleared}
-use Rattle.rules.proofs.Shape.{lengths-fit}
+use Rattle.rules.proofs.Laws.Shape.{lengths-fit}
 
 reached-fresh : (t : Tables) → lengthsFit t ≡ true → Reached (nodeCount t) (seatCount t) (fresh (nodeCount t) (seatCount t))
 reached-fresh t e = let fit = lengths-fit t e in cleared (fit .some-nodes) (fit .few-nodes) (fit .some-seats) (fit .few-seats)

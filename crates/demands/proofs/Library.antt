@@ -19,7 +19,8 @@ use Rattle.rules.specs.Calls.{clear, begin, step, release}
 use Rattle.rules.specs.Run.{run}
 use Rattle.rules.specs.Play.{Call, beginCall, stepCall, releaseCall, call}
 use Rattle.rules.specs.Reached.{Reached, cleared, called, afterRun}
-use Rattle.rules.specs.Demands.{Covers, claimOfSeat, Holds, Rising, Settled}
+use Rattle.rules.specs.Apart.{Covers, claimOfSeat, Holds, Rising}
+use Rattle.rules.specs.Cause.{Settled}
 use Rattle.rules.specs.declared.Ran.{Ran}
 use Rattle.rules.proofs.Apart.{apart, ordered, always-sound}
 use Rattle.rules.proofs.Cause.{run-settles}

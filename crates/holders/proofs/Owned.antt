@@ -9,10 +9,10 @@ use lib.ListN.{length}
 use Rattle.rules.specs.Tables.{Tables, tables, seatCount, nodeWord, seatWord, nodeCountOf, seatCountOf, own, start, end, startAt, endAt, kindAt, phaseAt, ownAt}
 use Rattle.rules.specs.Shape.{sound}
 use Rattle.rules.specs.Board.{rowOf, holders, coveredBy}
-use Rattle.rules.specs.Demands.{Holds}
+use Rattle.rules.specs.Apart.{Holds}
 use Rattle.rules.specs.declared.Row.{Row}
-use Rattle.rules.proofs.Shape.{is-sound, name-small}
-use Rattle.rules.proofs.Words.{seat-past}
+use Rattle.rules.proofs.Laws.Shape.{is-sound, name-small}
+use Rattle.rules.proofs.Laws.Words.{seat-past}
 use Rattle.holders.specs.Holding.{heldBy}
 use Rattle.holders.proofs.Rows.{held-none, held-one, rows-at-most}
 

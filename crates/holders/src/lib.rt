@@ -7,7 +7,7 @@ ghost use Rattle.rules.specs.Tables.{tables, seatCountOf};
 ghost use Rattle.rules.specs.Shape.{sound};
 ghost use Rattle.rules.specs.Board.{rowOf, coveredBy};
 ghost use Rattle.rules.specs.Board as rule;
-ghost use Rattle.rules.specs.Demands.{Holds};
+ghost use Rattle.rules.specs.Apart.{Holds};
 ghost use Rattle.holders.specs.Holding.{holding, heldBy};
 use rules::Row;
 

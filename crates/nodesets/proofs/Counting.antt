@@ -7,7 +7,7 @@ use native.Mathlib.Omega.{arith}
 use native.Mathlib.Nat.{eq-or-lt-of-le, add-zero, add-suc}
 use borrow.Author.Tests.{ne-eqb, lt-ltb, le-ltb}
 use Rattle.rules.specs.Notation.{if_then_else_, _is_, _<?_, count, lowest}
-use Rattle.rules.proofs.Logic.{either}
+use Rattle.rules.proofs.Ground.Logic.{either}
 
 -- ---- count
 pub count-none : (p : ℕ → Bool) → count 0 p ≡ 0

@@ -10,7 +10,7 @@ use lib.ListN.{getD, set, length, length-set}
 use lib.Seq.{getD-set-same, getD-set-other, set-getD}
 use borrow.Author.Tests.{eq-eqb, ne-eqb, eqb-true, eqb-false, ltb-true, ltb-false}
 use Rattle.rules.specs.Notation.{_is_, _<?_, count, lowest}
-use Rattle.rules.proofs.Logic.{either, same, not-of}
+use Rattle.rules.proofs.Ground.Logic.{either, same, not-of}
 use Rattle.nodesets.specs.Word.{inWord, addWord}
 use Rattle.nodesets.specs.Set.{has, none, add, members}
 use Rattle.nodesets.proofs.Counting.{count-none, count-split, count-alike, lowest-at, lowest-none}

@@ -13,7 +13,7 @@ use lib.Count.{ones, ones-step, trailingZeros}
 use lib.Pow.{shl-exact, mod-pow-add}
 use borrow.Author.Tests.{eq-eqb, eqb-true, lt-ltb, le-ltb, ltb-true}
 use Rattle.rules.specs.Notation.{if_then_else_, _is_, _<?_, count}
-use Rattle.rules.proofs.Logic.{same, or-right}
+use Rattle.rules.proofs.Ground.Logic.{same, or-right}
 use Rattle.nodesets.specs.Word.{inWord, addWord}
 use Rattle.nodesets.proofs.Counting.{count-none, count-first}
 

@@ -5,7 +5,7 @@ use mathlib.Core.List.{List, _++_}
 use Prim.Native.Nat.{ℕ}
 use lib.ListN.{length, take, drop, take-append-drop}
 use denote.Ref.{now}
-use Rattle.rules.proofs.OneAnswer.{Settles, one-value}
+use Rattle.rules.proofs.Laws.OneAnswer.{Settles, one-value}
 use Rattle.playing.proofs.play.Reads as play
 use Rattle.playing.proofs.play.Kinds as kinds
 

@@ -10,8 +10,8 @@ use borrow.Author.Tests.{eq-eqb, ne-eqb}
 use Rattle.rules.specs.Tables.{Tables, tables, beforeNodes, nodeWidth, seatWidth, zeros, fresh, nodeCountOf, seatCountOf}
 use Rattle.rules.specs.Shape.{sound}
 use Rattle.rules.specs.Reached.{Reached, cleared}
-use Rattle.rules.proofs.Shape.{is-sound}
-use Rattle.rules.proofs.RunSteps.{calls-reached}
+use Rattle.rules.proofs.Laws.Shape.{is-sound}
+use Rattle.rules.proofs.Laws.RunSteps.{calls-reached}
 use Rattle.rules.proofs.Apart.{always-sound}
 use Rattle.rules.specs.Script.{readScript}
 use Rattle.rules.specs.Play.{callsOf, trace, afterAll, turnsText, endText, ascii, decimal, scriptText, play}

@@ -12,9 +12,9 @@ use Rattle.rules.specs.Notation.{_is_}
 use Rattle.rules.specs.Tables.{Tables, beforeNodes, nodeWidth, nodeCount, seatCount, link, next, head, mark, marked, own, prev, cur, setLink}
 use Rattle.rules.specs.Reach.{met, listed, free}
 use Rattle.rules.specs.Fetch.{keptFrom, kept, linkThrough, takenOut}
-use Rattle.rules.proofs.Logic.{either, or-left, or-right, or-case, or-neither, clash, not-of}
-use Rattle.rules.proofs.Words.{put-link-length, same-node-count, same-seat-count, link-put-same, link-put-other}
-use Rattle.rules.proofs.Shape.{Sound}
+use Rattle.rules.proofs.Ground.Logic.{either, or-left, or-right, or-case, or-neither, clash, not-of}
+use Rattle.rules.proofs.Laws.Words.{put-link-length, same-node-count, same-seat-count, link-put-same, link-put-other}
+use Rattle.rules.proofs.Laws.Shape.{Sound}
 use Rattle.nodesets.specs.Set.{has, none, add}
 use Rattle.nodesets.proofs.Set.{has-none, none-length, has-add, add-length}
 use Rattle.reach.specs.Walks.{Links, reachFrom, reachSeat, reachSeats, reachOthers, addAll}

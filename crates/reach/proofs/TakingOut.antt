@@ -12,8 +12,8 @@ use Rattle.rules.specs.Tables.{Tables, markAt, nodeCount, next, head, mark, set
 use Rattle.rules.specs.Shape.{endsWithin}
 use Rattle.rules.specs.Reach.{met}
 use Rattle.rules.specs.Fetch.{keptFrom, kept, linkThrough, takenOut}
-use Rattle.rules.proofs.Logic.{either, or-left, or-right, or-case, or-neither, clash, not-of}
-use Rattle.rules.proofs.Words.{link-put-other, node-put-link}
+use Rattle.rules.proofs.Ground.Logic.{either, or-left, or-right, or-case, or-neither, clash, not-of}
+use Rattle.rules.proofs.Laws.Words.{link-put-other, node-put-link}
 use Rattle.reach.proofs.Walk.{met-none, met-next, met-case}
 
 -- ---- a list that ends meets no node twice

@@ -8,8 +8,8 @@ use lib.ListN.{length}
 use Rattle.rules.specs.Notation.{_is_, any}
 use Rattle.rules.specs.Tables.{Tables, nodeCount, seatCount, head, own, prev, cur}
 use Rattle.rules.specs.Reach.{met, listed, seatReaches, othersReach, free}
-use Rattle.rules.proofs.Logic.{either, clash}
-use Rattle.rules.proofs.Shape.{Sound, name-small}
+use Rattle.rules.proofs.Ground.Logic.{either, clash}
+use Rattle.rules.proofs.Laws.Shape.{Sound, name-small}
 use Rattle.nodesets.specs.Set.{has, none}
 use Rattle.nodesets.proofs.Set.{has-none, none-length}
 use Rattle.reach.specs.Walks.{Links, reachFrom, reachSeat, reachSeats, reachOthers}

@@ -12,7 +12,7 @@ use borrow.Author.Tests.{eq-eqb, ne-eqb, eqb-true, eqb-false}
 use Rattle.rules.specs.Notation.{_is_}
 use Rattle.rules.specs.Tables.{Tables, nodeCount, next}
 use Rattle.rules.specs.Reach.{met}
-use Rattle.rules.proofs.Logic.{either, or-left, or-right, or-case, or-neither, clash}
+use Rattle.rules.proofs.Ground.Logic.{either, or-left, or-right, or-case, or-neither, clash}
 use Rattle.nodesets.specs.Set.{has, add, members}
 use Rattle.nodesets.proofs.Counting.{count-full, count-more}
 use Rattle.nodesets.proofs.Set.{has-add, add-length}

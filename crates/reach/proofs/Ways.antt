@@ -15,8 +15,8 @@ use Rattle.rules.specs.Tables.{Tables, tables, ownAt, prevAt, curAt, markAt, no
 use Rattle.rules.specs.Shape.{sound}
 use Rattle.rules.specs.Reach.{free, lowestFree}
 use Rattle.rules.specs.Fetch.{keptFrom, kept, takenOut}
-use Rattle.rules.proofs.Logic.{both}
-use Rattle.rules.proofs.Shape.{is-sound}
+use Rattle.rules.proofs.Ground.Logic.{both}
+use Rattle.rules.proofs.Laws.Shape.{is-sound}
 use Rattle.nodesets.specs.Set.{has, none, add}
 use Rattle.nodesets.proofs.Counting.{lowest-cut}
 use Rattle.nodesets.proofs.Set.{add-again}
@@ -24,7 +24,7 @@ use Rattle.reach.specs.Walks.{Links, reachFrom, reachSeat, reachSeats, r
 use Rattle.reach.specs.FreeSet.{IsFreeSet}
 use Rattle.reach.proofs.Used.{Named, sound-named, used-free}
 use Rattle.reach.proofs.TakingOut.{kept-end, kept-in, kept-out}
-use Rattle.rules.proofs.NodesAlone.{kept-alone}
+use Rattle.rules.proofs.Laws.NodesAlone.{kept-alone}
 use Rattle.reach.proofs.After.{after-count, after-free}
 
 -- ---- reach

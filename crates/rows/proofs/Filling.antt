@@ -18,8 +18,8 @@ use Rattle.rules.specs.Means.{meansBoard}
 use Rattle.rules.specs.declared.Row.{Row}
 use Rattle.rules.specs.declared.BoardReply.{BoardReply}
 use Rattle.rules.specs.declared.BoardReply.the-variants.{Rows, Refused}
-use Rattle.rules.proofs.Shape.{is-sound}
-use Rattle.rules.proofs.Words.{seat-past}
+use Rattle.rules.proofs.Laws.Shape.{is-sound}
+use Rattle.rules.proofs.Laws.Words.{seat-past}
 use Rattle.holders.proofs.Owned.{few-holders, row-is}
 use Rattle.rows.specs.Filling.{narrow, answerFor, rowsIn, lastBelow, lastRow, fillDown}
 

@@ -16,7 +16,7 @@ use ghost.Atoms.{Atoms}
 use Rattle.rules.specs.Tables.{tables}
 use Rattle.rules.specs.Board.{shown, board}
 use Rattle.rules.specs.Means.{meansBoard}
-use Rattle.rules.proofs.OneAnswer as law
+use Rattle.rules.proofs.Laws.OneAnswer as law
 use Rattle.rows.proofs.show as show
 use Rattle.rows.proofs.show_all.Reads as show-all
 use Rattle.rows.proofs.show_all.Kinds as kinds

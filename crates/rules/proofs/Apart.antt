@@ -1,6 +1,6 @@
 -- Demand 2: claims are kept apart, the list keeps its order and nothing is dropped. Of every table that is reached from a fresh one by any
 -- calls in any order with any numbers; what a call may touch is said of any tables. Nothing else stands here: the words are those of
--- specs/Demands.antt, and each proof is a citation.
+-- specs/Apart.antt, and each proof is a citation.
 use Prim.Native.Nat.{ℕ}
 use mathlib.Core.Path.{_≡_}
 use mathlib.Core.Bool.{true}
@@ -15,17 +15,17 @@ use Rattle.rules.specs.Calls.{begin, step, release}
 use Rattle.rules.specs.Run.{run}
 use Rattle.rules.specs.Play.{Call, call, afterAll}
 use Rattle.rules.specs.Reached.{Reached, called}
-use Rattle.rules.specs.Demands.{Covers, claimOfSeat, Holds, Stands, Rising, seatOf, OtherSeatsKept, NodesKept, FetchKept, NoNode, stepsOf, IsItsSteps}
-use Rattle.rules.proofs.CallKeeps.{good}
-use Rattle.rules.proofs.Exclusion.{both-read}
-use Rattle.rules.proofs.ListOrder.{rising}
-use Rattle.rules.proofs.NothingDropped.{stands-still}
-use Rattle.rules.proofs.RunSteps.{run-is-its-steps, calls-reached}
-use Rattle.rules.proofs.SoundReached.{reached-sound}
-use Rattle.rules.proofs.Refusals.{sound-never-damaged, run-not-1}
-use Rattle.rules.proofs.SeatFrames.{other-seats-kept}
-use Rattle.rules.proofs.NodeFrames.{step-1-kept, step-2-kept, step-3-kept, step-4-kept, step-5-kept, step-6-kept, begin-kept, release-kept}
-use Rattle.rules.proofs.ClaimFrames as frames
+use Rattle.rules.specs.Apart.{Covers, claimOfSeat, Holds, Stands, Rising, seatOf, OtherSeatsKept, NodesKept, FetchKept, NoNode, stepsOf, IsItsSteps}
+use Rattle.rules.proofs.Keeping.CallKeeps.{good}
+use Rattle.rules.proofs.Holding.Exclusion.{both-read}
+use Rattle.rules.proofs.Holding.ListOrder.{rising}
+use Rattle.rules.proofs.Holding.NothingDropped.{stands-still}
+use Rattle.rules.proofs.Laws.RunSteps.{run-is-its-steps, calls-reached}
+use Rattle.rules.proofs.Soundness.SoundReached.{reached-sound}
+use Rattle.rules.proofs.Soundness.Refusals.{sound-never-damaged, run-not-1}
+use Rattle.rules.proofs.Frames.SeatFrames.{other-seats-kept}
+use Rattle.rules.proofs.Frames.NodeFrames.{step-1-kept, step-2-kept, step-3-kept, step-4-kept, step-5-kept, step-6-kept, begin-kept, release-kept}
+use Rattle.rules.proofs.Frames.ClaimFrames as frames
 
 -- ---- two seats that hold share a frame only if both read
 pub apart : {N S : ℕ} {t : Tables} → Reached N S t → (i j frame : ℕ) → i ≢ j → Holds t i → Holds t j

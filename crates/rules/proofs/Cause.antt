@@ -1,6 +1,6 @@
 -- Demand 3: nobody waits without cause. From every table that is reached, a seat with a claim that is stepped 6·N + 8 times, with no other
 -- call between, holds, or waits at a claim that clashes with its own and stands, or is refused 8 because no node is free for it.
--- Nothing else stands here: the words are those of specs/Demands.antt, and each proof is a citation.
+-- Nothing else stands here: the words are those of specs/Cause.antt, and each proof is a citation.
 use Prim.Native.Nat.{ℕ, _+_, _*_, _≤_}
 use mathlib.Core.Path.{_≡_}
 use mathlib.Core.Logic.{_≢_, _⊎_}
@@ -11,8 +11,8 @@ use Rattle.rules.specs.Answers.{refused}
 use Rattle.rules.specs.Calls.{step}
 use Rattle.rules.specs.Run.{refusalOf, run}
 use Rattle.rules.specs.Reached.{Reached}
-use Rattle.rules.specs.Demands.{stepTimes, Settled, RunEnds}
-use Rattle.rules.proofs.NobodyWaits.{settled, none-or-8, settled-by-run, run-ends}
+use Rattle.rules.specs.Cause.{stepTimes, Settled, RunEnds}
+use Rattle.rules.proofs.Waiting.NobodyWaits.{settled, none-or-8, settled-by-run, run-ends}
 
 pub nobody-waits-without-cause : {N S : ℕ} {t : Tables} → Reached N S t → (s : ℕ) → phase t s ≢ 0 → Settled (stepTimes (6 * N + 8) t s) s
 nobody-waits-without-cause {N} r s d = settled r s d (6 * N + 8) (omega arith)

@@ -10,7 +10,7 @@ use Rattle.rules.specs.Answers.{Answer, node, out, on, wait, held, back,
 use Rattle.rules.specs.Board.{holders}
 use Rattle.rules.specs.Play.{Call, beginCall, stepCall, releaseCall, Turn, trace, afterAll, ascii, play}
 use Rattle.rules.specs.declared.Row.{Row}
-use Rattle.rules.proofs.Opened.{rules}
+use Rattle.rules.proofs.Laws.Opened.{rules}
 
 -- calls as a script writes them
 abbrev b : ℕ → ℕ → ℕ → ℕ → Call

@@ -14,4 +14,5 @@ pub mod Script
 pub mod Play
 pub mod Reached
 pub mod Means
-pub mod Demands
+pub mod Apart
+pub mod Cause

@@ -16,14 +16,14 @@ use Rattle.rules.specs.Answers.{Answer, refused, Done, done}
 use Rattle.rules.specs.Calls.{step}
 use Rattle.rules.specs.Run.{ran, refusalOf, oneMore, runSteps, run}
 use Rattle.rules.specs.declared.Ran.{Ran}
-use Rattle.rules.proofs.Logic.{branch, clash, not-of, or-case, or-neither, and-left, all5}
-use Rattle.rules.proofs.Words.{same-node-count, same-seat-count}
-use Rattle.rules.proofs.Shape.{is-sound}
-use Rattle.rules.proofs.Refused.{step-keeps}
-use Rattle.rules.proofs.SoundKept.{step-keeps-sound}
+use Rattle.rules.proofs.Ground.Logic.{branch, clash, not-of, or-case, or-neither, and-left, all5}
+use Rattle.rules.proofs.Laws.Words.{same-node-count, same-seat-count}
+use Rattle.rules.proofs.Laws.Shape.{is-sound}
+use Rattle.rules.proofs.Laws.Refused.{step-keeps}
+use Rattle.rules.proofs.Soundness.SoundKept.{step-keeps-sound}
 use Rattle.shape.specs.Parts.{listEnds}
 use Rattle.claims.proofs.Ways.{step-past}
-use Rattle.rules.proofs.NodesAlone.{ends-alone}
+use Rattle.rules.proofs.Laws.NodesAlone.{ends-alone}
 use Rattle.run.specs.Parts.{keptSound, stopAtDamage}
 
 -- k steps before the others

@@ -2,7 +2,7 @@
 -- promise itself that is cited, as the checker reads it from the source.
 use denote.Ref.{now}
 use Rattle.rules.specs.Tables.{tables}
-use Rattle.rules.proofs.OneAnswer.{Settles, one-result}
+use Rattle.rules.proofs.Laws.OneAnswer.{Settles, one-result}
 use Rattle.run.proofs.run.Reads as run
 use Rattle.run.proofs.run.Kinds as kinds
 

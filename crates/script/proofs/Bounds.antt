@@ -10,7 +10,7 @@ use Rattle.rules.specs.Notation.{if_then_else_, _is_, _≤?_, _<?_}
 use Rattle.rules.specs.declared.Line.{Line}
 use Rattle.rules.specs.declared.Contents.{Contents}
 use Rattle.rules.specs.Script.{noLine, noLines, bodyAt, inBounds, contentsOf, badAt, goodScript, bodiesFrom, readScript}
-use Rattle.rules.proofs.Logic.{all5, branch}
+use Rattle.rules.proofs.Ground.Logic.{all5, branch}
 use Rattle.script.specs.Bounded.{Bounded}
 
 -- line 1 found right

@@ -11,10 +11,10 @@ use borrow.Author.Tests.{not-true, not-false, eq-eqb, ne-eqb, eqb-true, eqb-fals
 use Rattle.rules.specs.Notation.{_is_, all}
 use Rattle.rules.specs.Tables.{Tables, tables, nodeWord, linkWord, seatWord, nodeCountOf, seatCountOf, startAt, endAt, kindAt, markAt, phaseAt, ownAt, prevAt, curAt}
 use Rattle.rules.specs.Shape.{nodesFit, seatsFit, lengthsFit, isKind, zeroNode, claimNode, names, nodeSound, isPhase, idleOrOwning, restingAtZero, waitingAtCur, seatSound, endsWithin, nodesSound, seatsSound, sound}
-use Rattle.rules.proofs.Logic.{either, or-case, or-neither, and-left, all-fails}
-use Rattle.rules.proofs.Words.{link-past}
-use Rattle.rules.proofs.Shape.{nodes-fit, named, name-of, name-small, lengths-fit}
-use Rattle.rules.proofs.NodesAlone.{ends-alone, nodes-alone}
+use Rattle.rules.proofs.Ground.Logic.{either, or-case, or-neither, and-left, all-fails}
+use Rattle.rules.proofs.Laws.Words.{link-past}
+use Rattle.rules.proofs.Laws.Shape.{nodes-fit, named, name-of, name-small, lengths-fit}
+use Rattle.rules.proofs.Laws.NodesAlone.{ends-alone, nodes-alone}
 use Rattle.shape.specs.Parts.{busySound, waitingSound, restingSound, listEnds}
 
 pub lengths-is : (l t : List ℕ) (u v : Bool) → u ≡ nodesFit (tables l []) → v ≡ seatsFit (tables [] t) → (u && v) ≡ lengthsFit (tables l t)

@@ -10,7 +10,7 @@ use mir.Val.{Fits}
 use Rattle.rules.specs.Notation.{_is_}
 use Rattle.rules.specs.Answers.{Answer}
 use Rattle.rules.specs.Play.{ascii, decimal, answerText, rowText}
-use Rattle.rules.proofs.Logic.{branch}
+use Rattle.rules.proofs.Ground.Logic.{branch}
 use Rattle.text.specs.Page.{Page, page, puts}
 use Rattle.replies.specs.Codes.{answerBy}
 use Rattle.text.specs.Lines.{answerLine, row}

@@ -10,8 +10,8 @@ use borrow.Author.Tests.{leb-true, le-leb, ltb-true}
 use lib.ListN.{getD, set, length}
 use Rattle.rules.specs.Tables.{tables, beforeNodes, nodeWidth, seatWidth, nodeCountOf, seatCountOf, headAt, nextAt, nodeWord, putNode, linkWord, putLink}
 use Rattle.rules.specs.Shape.{nodesFit, seatsFit}
-use Rattle.rules.proofs.Logic.{same, and-left, and-right}
-use Rattle.rules.proofs.Words.{link-node, put-link-node}
+use Rattle.rules.proofs.Ground.Logic.{same, and-left, and-right}
+use Rattle.rules.proofs.Laws.Words.{link-node, put-link-node}
 
 before : (m : ℕ) → suc m - 1 ≡ m
 before m = omega arith

@@ -1,7 +1,7 @@
 -- `board::show_holders` meets its promise.
 use native.Mathlib.Omega.{arith}
 use Prim.Native.Nat.{_≤_}
-use Rattle.rules.proofs.Shape.{seats-few}
+use Rattle.rules.proofs.Laws.Shape.{seats-few}
 use Rattle.board.proofs.Rows.{rows-fit, long-enough, too-short, holders-shown}
 use borrow.Author.Needs.{needs}
 use Rattle.board.proofs.show_holders.Statement.{statement}

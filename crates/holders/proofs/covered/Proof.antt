@@ -3,7 +3,7 @@
 use borrow.Author.Needs.{needs}
 use native.Mathlib.Omega.{arith}
 use Rattle.holders.proofs.Rows.{covered-start, covered-again, covered-done}
-use Rattle.rules.proofs.Shape.{seats-few}
+use Rattle.rules.proofs.Laws.Shape.{seats-few}
 use Rattle.rules.specs.Board.{rowsBelow, coveredBy}
 use Rattle.rules.specs.Tables.{tables}
 use mathlib.Core.Path.{_≡_}

@@ -3,7 +3,7 @@
 use borrow.Author.Needs.{needs}
 use native.Mathlib.Omega.{arith}
 use Rattle.playing.proofs.Holding.{text-start, text-again, rows-reach, text-done}
-use Rattle.rules.proofs.Shape.{seats-few}
+use Rattle.rules.proofs.Laws.Shape.{seats-few}
 use Rattle.text.specs.Page.{page, puts}
 use Rattle.rules.specs.Play.{rowsText}
 use Rattle.rules.specs.Board.{rowsBelow}

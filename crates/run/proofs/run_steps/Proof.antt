@@ -7,7 +7,7 @@ use mathlib.Core.Bool.{true}
 use Prim.Native.Nat.{_+_, _-_, _*_, _≤_}
 use mathlib.Core.Path.{_≡_, refl}
 use native.Mathlib.Omega.{arith}
-use Rattle.rules.proofs.Shape.{seats-few}
+use Rattle.rules.proofs.Laws.Shape.{seats-few}
 use borrow.Author.Needs.{needs}
 use Rattle.run.proofs.Counting.{plus, seat-there, still-there, left-all, left-again, left-refused, left-past, left-budget, left-end, left-stopped, still-fit, still-sound, now-damaged}
 use Rattle.run.proofs.run_steps.Statement.{statement}

@@ -1,0 +1,7 @@
+-- Facts of numbers, tests and links that know no table: deciding, counting, following links from node to node, and that a walk that ends
+-- passes at most N nodes. They may use the notation of specs/ and nothing else of this project.
+pub mod Deciding
+pub mod Logic
+pub mod Lowest
+pub mod Following
+pub mod Pigeonhole

@@ -1,0 +1,5 @@
+-- From the invariant to demand 2: why holders are apart, why the list is in order, why no standing claim is dropped. Stated in Apart; may use
+-- all rooms before.
+pub mod Exclusion
+pub mod ListOrder
+pub mod NothingDropped

@@ -1,0 +1,31 @@
+-- The classes of phases exclude each other.
+use mathlib.Core.Logic.{_≢_}
+use Prim.Native.Nat.{ℕ}
+use native.Mathlib.Omega.{arith}
+use Rattle.rules.proofs.Invariant.View.{Outside, walking, waiting, Linked, validating, reader-waiting, holding}
+
+pub outside-busy : {p : ℕ} → Outside p → p ≢ 0
+outside-busy (walking e) = omega arith
+outside-busy (waiting e) = omega arith
+
+pub linked-busy : {p : ℕ} → Linked p → p ≢ 0
+linked-busy (validating e) = omega arith
+linked-busy (reader-waiting e) = omega arith
+linked-busy (holding e) = omega arith
+
+pub linked-not-gone : {p : ℕ} → Linked p → p ≢ 6
+linked-not-gone (validating e) = omega arith
+linked-not-gone (reader-waiting e) = omega arith
+linked-not-gone (holding e) = omega arith
+
+pub outside-not-gone : {p : ℕ} → Outside p → p ≢ 6
+outside-not-gone (walking e) = omega arith
+outside-not-gone (waiting e) = omega arith
+
+pub not-both : {p : ℕ} → Outside p → Linked p → ⊥
+not-both (walking e) (validating d) = omega arith
+not-both (walking e) (reader-waiting d) = omega arith
+not-both (walking e) (holding d) = omega arith
+not-both (waiting e) (validating d) = omega arith
+not-both (waiting e) (reader-waiting d) = omega arith
+not-both (waiting e) (holding d) = omega arith

@@ -1,0 +1,138 @@
+-- Every call leaves good tables good, so every table that is reached is good.
+use Prim.Native.Nat.{ℕ, _<_}
+use mathlib.Core.Path.{_≡_}
+use mathlib.Core.List.{List, [], _∷_}
+use mathlib.Core.Logic.{inl, inr}
+use native.Mathlib.Omega.{arith}
+use Rattle.rules.specs.Notation.{_is_}
+use Rattle.rules.specs.Tables.{Tables, seatCount, startAt, endAt, kindAt, markAt, phaseAt, ownAt, prevAt, curAt, own, phase, fresh}
+use Rattle.rules.specs.Comparison.{Claim, claimOf}
+use Rattle.rules.specs.Fetch.{Fetched}
+use Rattle.rules.specs.Answers.{Answer, Done}
+use Rattle.rules.specs.Steps.{refetched}
+use Rattle.rules.specs.Calls.{begun, step}
+use Rattle.rules.specs.Run.{run}
+use Rattle.rules.specs.Play.{Call, beginCall, stepCall, releaseCall, call, afterAll}
+use Rattle.rules.specs.Reached.{Reached, cleared, called, afterRun}
+use Rattle.rules.proofs.Ground.Logic.{branch}
+use Rattle.rules.proofs.Laws.Words.{seat-count, fresh-nodes-length, fresh-seats-length, fresh-node-word, fresh-link, fresh-seat-word}
+use Rattle.rules.proofs.Ground.Following.{not-from-0}
+use Rattle.rules.proofs.Invariant.View.{nodesOf, seatsOf, Outside, Linked}
+use Rattle.rules.proofs.Invariant.Phases.{outside-busy, linked-busy}
+use Rattle.rules.proofs.Invariant.Clauses.{nothing, Seen, from-head, from-prev, from-cur, Invariant}
+use Rattle.rules.proofs.Invariant.Known.{own-proper}
+use Rattle.rules.proofs.Invariant.SeatShapes.{idle-seat}
+use Rattle.rules.proofs.Invariant.SeatMoves.{not-stuck}
+use Rattle.rules.proofs.Rules.Reasons.{Stepping, in-1, in-2, in-3, in-4, in-6, at-rest}
+use Rattle.rules.proofs.Rules.Accepting.{Beginning, begin-refused, begin-accepted, beginning, Stepped, step-refused, step-accepted, stepped, Releasing, release-refused, release-accepted, releasing}
+use Rattle.rules.proofs.Laws.RunSteps.{run-is-its-steps}
+use Rattle.rules.proofs.Keeping.Good.{Good}
+use Rattle.rules.proofs.Keeping.StepKeeps.{walking-keeps, waiting-keeps, reader-waiting-keeps, validating-keeps, leave-keeps}
+use Rattle.rules.proofs.Keeping.FetchKeeps.{fetch-keeps}
+
+-- ---- single calls
+module _ {N S : ℕ} {t : Tables} (g : Good N S t) (s : ℕ) where
+  pub seat-in : s < seatCount t → s < S
+  seat-in h = rw (seat-count t S (g .seats-long)) at h
+
+  refetched-good : (f : Fetched) → Good N S (f .after) → Good N S (refetched t s f .after)
+  unfolding refetched
+  refetched-good f h = branch (λ (d : Done Answer). Good N S (d .after)) (f .node is 0) (λ e. g) (λ e. h)
+
+  begun-good : (f : Fetched) → Good N S (f .after) → Good N S (begun t f .after)
+  unfolding begun
+  begun-good f h = branch (λ (d : Done Answer). Good N S (d .after)) (f .node is 0) (λ e. g) (λ e. h)
+
+  stepping-keeps : {d : Done Answer} → s < S → Stepping t s d → Good N S (d .after)
+  stepping-keeps h (in-1 e w) = walking-keeps g s h e w
+  stepping-keeps h (in-2 e w) = waiting-keeps g s h e w
+  stepping-keeps h (in-3 e w) = validating-keeps g s h e w
+  stepping-keeps h (in-4 e w) = reader-waiting-keeps g s h e w
+  stepping-keeps h (in-6 {f = f} e w) = refetched-good f (fetch-keeps g s h (claimOf t (own t s)) (own-proper (g .inv) s (omega arith)) (inr e) w)
+  stepping-keeps h (at-rest a b c d e) = g
+
+  stepped-keeps : {d : Done Answer} → Stepped t s d → Good N S (d .after)
+  stepped-keeps (step-refused k r) = g
+  stepped-keeps (step-accepted e h b w) = stepping-keeps (seat-in h) w
+
+  pub step-keeps : Good N S (step t s .after)
+  step-keeps = stepped-keeps (stepped t s)
+
+  beginning-keeps : {c : Claim} {d : Done Answer} → Beginning t s c d → Good N S (d .after)
+  beginning-keeps (begin-refused k r) = g
+  beginning-keeps {c} (begin-accepted {f = f} e h p z w) = begun-good f (fetch-keeps g s (seat-in h) c p (inl z) w)
+
+  releasing-keeps : {d : Done Answer} → Releasing t s d → Good N S (d .after)
+  releasing-keeps (release-refused k r) = g
+  releasing-keeps (release-accepted e h p) = leave-keeps g s (seat-in h) p
+
+pub call-keeps : {N S : ℕ} {t : Tables} → Good N S t → (c : Call) → Good N S (call t c .after)
+unfolding call
+call-keeps {t = t} g (beginCall s c) = beginning-keeps g s (beginning t s c)
+call-keeps {t = t} g (stepCall s) = step-keeps g s
+call-keeps {t = t} g (releaseCall s) = releasing-keeps g s (releasing t s)
+
+-- ---- calls one after the other, a run's steps among them
+calls-keep : {N S : ℕ} (calls : List Call) {t : Tables} → Good N S t → Good N S (afterAll t calls)
+unfolding afterAll
+calls-keep [] g = g
+calls-keep (c ∷ calls) g = calls-keep calls (call-keeps g c)
+
+run-keeps : {N S : ℕ} {t : Tables} → Good N S t → (schedule : List ℕ) (budget : ℕ) → Good N S (run t schedule budget .after)
+run-keeps {t = t} g schedule budget = rw (run-is-its-steps t schedule budget .tables-after) (calls-keep _ g)
+
+-- ---- fresh tables: every word is 0
+module _ (N S : ℕ) where
+  abbrev t₀ : Tables
+  t₀ = fresh N S
+
+  idle : (s : ℕ) → phase t₀ s ≡ 0
+  idle s = fresh-seat-word N S s phaseAt
+
+  nothing-seen : {a : ℕ} → Seen (nodesOf t₀ .link) (seatsOf t₀) a → ⊥
+  nothing-seen (from-head r) = not-from-0 r (fresh-link N S 0)
+  nothing-seen (from-prev j r) = not-from-0 r (fresh-seat-word N S j prevAt)
+  nothing-seen (from-cur j r) = not-from-0 r (fresh-seat-word N S j curAt)
+
+  no-outside : {A : Type 0} (s : ℕ) → Outside (phase t₀ s) → A
+  no-outside s o = absurd (outside-busy o (idle s))
+
+  no-linked : {A : Type 0} (s : ℕ) → Linked (phase t₀ s) → A
+  no-linked s l = absurd (linked-busy l (idle s))
+
+  fresh-invariant : Invariant N (nodesOf t₀) (seatsOf t₀)
+  fresh-invariant = record {
+    nodes = record {
+      head-unmarked = fresh-node-word N S 0 markAt;
+      blank-or-proper = λ a h. inl (record {
+        start-0 = fresh-node-word N S a startAt;
+        end-0 = fresh-node-word N S a endAt;
+        kind-0 = fresh-node-word N S a kindAt;
+        mark-0 = fresh-node-word N S a markAt;
+        link-0 = fresh-link N S a;
+      });
+      marks = λ a. rw (fresh-node-word N S a markAt) (omega arith);
+      links = λ a. nothing (fresh-link N S a);
+    };
+    seats = λ s. rw (fresh-seat-word N S s ownAt, fresh-seat-word N S s prevAt, fresh-seat-word N S s curAt) (idle-seat (idle s));
+    distinct = λ i j d x. absurd (x (idle i));
+    outside = λ s o. no-outside s o;
+    linked = λ s l. no-linked s l;
+    owner = λ r e. absurd (not-from-0 r (fresh-link N S 0));
+    seen-listed = λ z e. absurd (nothing-seen z);
+    ordered = λ z h. absurd (nothing-seen z);
+    ends = λ z. absurd (nothing-seen z);
+    passed = λ s o. no-outside s o;
+    stuck = λ s. rw (idle s) (not-stuck (omega arith) (omega arith));
+    reader-cur = λ s l. no-linked s l;
+    unsettled = λ g w l. no-linked g l;
+  }
+
+  fresh-good : Good N S t₀
+  fresh-good = record { nodes-long = fresh-nodes-length N S; seats-long = fresh-seats-length N S; inv = fresh-invariant }
+
+-- ---- every table that is reached
+pub good : {N S : ℕ} {t : Tables} → Reached N S t → Good N S t
+good {N} {S} (cleared a b c d) = fresh-good N S
+good (called r c) = call-keeps (good r) c
+good (afterRun r schedule budget) = run-keeps (good r) schedule budget

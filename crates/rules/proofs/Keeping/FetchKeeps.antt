@@ -1,0 +1,78 @@
+-- Fetch leaves good tables good, whether it finds a node or none.
+use Prim.Native.Nat.{ℕ, _+_, _*_, _≤_, _<_}
+use mathlib.Core.Path.{_≡_, sym, _∙_}
+use mathlib.Core.Bool.{true}
+use mathlib.Core.Logic.{_≢_, _⊎_}
+use native.Mathlib.Omega.{arith}
+use lib.ListN.{length}
+use Rattle.rules.specs.Tables.{Tables, beforeNodes, nodeWidth, nodeCount, nodeWord, startAt, endAt, kindAt, markAt, nextAt, head, phase}
+use Rattle.rules.specs.Comparison.{Claim}
+use Rattle.rules.specs.Reach.{free, lowestFree}
+use Rattle.rules.specs.Fetch.{Fetched, writeClaim, enterAtHead, takeNode}
+use Rattle.rules.proofs.Laws.Words.{link-node, node-count}
+use Rattle.rules.proofs.Ground.Lowest.{lowest-has}
+use Rattle.rules.proofs.Invariant.View.{nodesOf}
+use Rattle.rules.proofs.Invariant.Clauses.{Proper}
+use Rattle.rules.proofs.Invariant.Take.{Written, take-keeps}
+use Rattle.rules.proofs.Rules.Effects.{stored, reseated, Noded, node-as-found, put-word, put-next}
+use Rattle.rules.proofs.Rules.RuleEffects.{enter-stored}
+use Rattle.rules.proofs.Rules.Reasons.{Fetching, found, found-then, none}
+use Rattle.rules.proofs.Keeping.Good.{Good, room, node-room}
+use Rattle.rules.proofs.Keeping.TakeOut.{taken-out-good, taken-out-seats}
+use Rattle.rules.proofs.Keeping.Hops.{is-free}
+
+-- ---- the words of the node taken
+abbrev claimWords : (ℕ → ℕ) → Claim → ℕ → ℕ
+claimWords words c = stored (stored (stored (stored (stored words startAt (c .start)) endAt (c .end)) kindAt (c .kind)) nextAt 0) markAt 0
+
+pub claim-written : (t : Tables) (a : ℕ) (c : Claim) → a ≢ 0 → beforeNodes + nodeWidth * a ≤ length (t .nodes)
+    → Noded (t .nodes) (writeClaim t a c .nodes) a (claimWords (nodeWord (t .nodes) a) c)
+unfolding writeClaim
+claim-written t a c z r =
+    let w₁ = put-word z r (node-as-found (t .nodes) a) startAt (c .start) (omega arith) in
+    let w₂ = put-word z r w₁ endAt (c .end) (omega arith) in
+    let w₃ = put-word z r w₂ kindAt (c .kind) (omega arith) in
+    put-word z r (put-next z r w₃ 0) markAt 0 (omega arith)
+
+pub written : (t : Tables) (a : ℕ) (c : Claim) → a ≢ 0 → beforeNodes + nodeWidth * a ≤ length (t .nodes) → Proper c
+    → Written (nodesOf t) (nodesOf (writeClaim t a c)) a
+written t a c z r p =
+    let w = claim-written t a c z r in
+    record {
+      proper = rw (w .at-a startAt (omega arith), w .at-a endAt (omega arith), w .at-a kindAt (omega arith)) p;
+      link-o = link-node (writeClaim t a c .nodes) a z ∙ w .at-a nextAt (omega arith);
+      mark-o = w .at-a markAt (omega arith);
+      start-a = λ b d. w .others b startAt d (omega arith);
+      end-a = λ b d. w .others b endAt d (omega arith);
+      kind-a = λ b d. w .others b kindAt d (omega arith);
+      link-a = λ b d. w .links b d;
+      mark-a = λ b d. w .others b markAt d (omega arith);
+    }
+
+module _ {N S : ℕ} {t : Tables} (g : Good N S t) (s : ℕ) (s-in : s < S) (c : Claim) (proper : Proper c) (may : (phase t s ≡ 0) ⊎ (phase t s ≡ 6)) where
+  -- the claim is written first, and then the seat reads the head
+  take-good : (a : ℕ) → free t s a ≡ true → a ≢ 0 → a ≤ N → Good N S (takeNode t s a c)
+  unfolding takeNode enterAtHead writeClaim
+  take-good a f z h =
+      let wrote = claim-written t a c z (node-room g a h) in
+      let u = writeClaim t a c in
+      let same-head : head u ≡ head t = wrote .links 0 (λ e. z (sym e)) in
+      let sat = enter-stored u s (room g s s-in) a in
+      record {
+        nodes-long = wrote .long ∙ g .nodes-long;
+        seats-long = sat .long ∙ g .seats-long;
+        inv = take-keeps (g .inv) (is-free g s a f z h) (written t a c z (node-room g a h) proper) (reseated t (enterAtHead u s a) sat) same-head h may;
+      }
+
+  -- the lowest free node is free
+  lowest-good : (a : ℕ) → lowestFree t s ≡ a → a ≢ 0 → Good N S (takeNode t s a c)
+  unfolding lowestFree
+  lowest-good a e z =
+      let w = lowest-has (nodeCount t) (free t s) a e z in
+      take-good a (w .0) z (rw (node-count t N (g .nodes-long)) at (w .1))
+
+pub fetch-keeps : {N S : ℕ} {t : Tables} → Good N S t → (s : ℕ) → s < S → (c : Claim) → Proper c → (phase t s ≡ 0) ⊎ (phase t s ≡ 6)
+    → {f : Fetched} → Fetching t s c f → Good N S (f .after)
+fetch-keeps g s s-in c p may (found a e z) = lowest-good g s s-in c p may a e z
+fetch-keeps {t = t} g s s-in c p may (found-then a e e′ z) = lowest-good (taken-out-good g) s s-in c p (rw (taken-out-seats t) may) a e′ z
+fetch-keeps g s s-in c p may (none e e′) = g

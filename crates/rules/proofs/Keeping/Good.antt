@@ -1,0 +1,146 @@
+-- Good tables: lengths for N nodes and S seats, and the invariant. Each rule of a step that fetches nothing leaves good tables good, and
+-- so does release.
+use Prim.Native.Nat.{ℕ, _+_, _*_, _≤_, _<_}
+use mathlib.Core.Path.{_≡_, refl, sym, subst, subst₂, _∙_}
+use mathlib.Core.List.{List}
+use mathlib.Core.Logic.{_≢_, _⊎_, inl, inr}
+use native.Mathlib.Omega.{arith}
+use lib.ListN.{length}
+use Rattle.rules.specs.Tables.{Tables, tables, beforeNodes, nodeWidth, seatWidth, markAt, nextAt, phaseAt, ownAt, prevAt, curAt, nodeWord, putLink, mark, link, next, phase, own, prev, cur, setLink, setMark}
+use Rattle.rules.specs.Comparison.{claimOf}
+use Rattle.rules.specs.Steps.{linkIn}
+use Rattle.rules.proofs.Laws.Words.{link-put-same, link-put-other, link-put-field, node-put-link, node-put-same, node-put-field, node-put-node, put-link-length, put-node-length}
+use Rattle.rules.proofs.Ground.Following.{here}
+use Rattle.rules.proofs.Laws.Compared.{Precedes}
+use Rattle.rules.proofs.Invariant.View.{nodesOf, seatsOf, Reseated, walking, Linked}
+use Rattle.rules.proofs.Invariant.Phases.{outside-busy, linked-busy}
+use Rattle.rules.proofs.Invariant.Clauses.{Ordered, from-prev, Invariant}
+use Rattle.rules.proofs.Invariant.Known.{Known, named-in, precedes-ordered, own-pos, own-proper, hidden}
+use Rattle.rules.proofs.Invariant.Unlink.{unlink-keeps}
+use Rattle.rules.proofs.Invariant.Insert.{Starts, insert-keeps}
+use Rattle.rules.proofs.Invariant.Leave.{Leaves, leave-keeps}
+use Rattle.rules.proofs.Rules.Effects.{Room, Seated, reseated, only-links, only-marks}
+use Rattle.rules.proofs.Rules.Reasons.{Joined}
+
+pub record Good (N S : ℕ) (t : Tables) : Type 0 where
+  pub nodes-long : length (t .nodes) ≡ beforeNodes + nodeWidth * N
+  pub seats-long : length (t .seats) ≡ seatWidth * S
+  pub inv : Invariant N (nodesOf t) (seatsOf t)
+
+pub room : {N S : ℕ} {t : Tables} → Good N S t → (s : ℕ) → s < S → Room t s
+room g s h = let l = g .seats-long in omega arith
+
+pub node-room : {N S : ℕ} {t : Tables} → Good N S t → (a : ℕ) → a ≤ N → beforeNodes + nodeWidth * a ≤ length (t .nodes)
+node-room g a h = let l = g .nodes-long in omega arith
+
+-- words outside the view do not matter
+pub same-view : {N S : ℕ} {t u : Tables} → Good N S t → length (u .nodes) ≡ length (t .nodes) → length (u .seats) ≡ length (t .seats)
+    → nodesOf t ≡ nodesOf u → seatsOf t ≡ seatsOf u → Good N S u
+same-view {N} g l l′ e e′ = record { nodes-long = l ∙ g .nodes-long; seats-long = l′ ∙ g .seats-long; inv = subst₂ (Invariant N) e e′ (g .inv) }
+
+-- ---- a seat moves
+pub moves : {N S : ℕ} {t : Tables} {s : ℕ} {words : ℕ → ℕ} {seats : List ℕ} → Good N S t → Seated (t .seats) seats s words
+    → (Reseated (seatsOf t) (seatsOf (tables (t .nodes) seats)) s (words phaseAt) (words ownAt) (words prevAt) (words curAt)
+    → Invariant N (nodesOf t) (seatsOf (tables (t .nodes) seats)))
+    → Good N S (tables (t .nodes) seats)
+moves {t = t} {seats = seats} g w f =
+    record { nodes-long = g .nodes-long; seats-long = w .long ∙ g .seats-long; inv = f (reseated t (tables (t .nodes) seats) w) }
+
+-- ---- a link that led to a marked node passes over it
+pub passes-over : {N S : ℕ} {t : Tables} → Good N S t → (p out : ℕ) → p ≤ N → Known (link t) (seatsOf t) p
+    → out ≢ 0 → mark t out ≡ 1 → link t p ≡ out → Good N S (setLink t p (next t out))
+passes-over {N} {t = t} g p out p-in known out-pos gone joins =
+    let l = t .nodes in
+    let v = next t out in
+    let old : (a : ℕ) → a ≢ p → link (setLink t p v) a ≡ link t a = λ a d. link-put-other l p a v (λ e. d (sym e)) in
+    record {
+      nodes-long = put-link-length l p v ∙ g .nodes-long;
+      seats-long = g .seats-long;
+      inv = subst (λ n. Invariant N n (seatsOf t)) (only-links t (setLink t p v) (λ a f h d. node-put-link l p a f v h d))
+          (unlink-keeps (g .inv) (link (setLink t p v)) p out known (omega arith) gone joins (link-put-same l p v (node-room g p p-in)) old);
+    }
+
+-- linking in changes links alone
+pub link-in-words : (t : Tables) (s a f : ℕ) → f < nodeWidth → f ≢ nextAt → nodeWord (linkIn t s .nodes) a f ≡ nodeWord (t .nodes) a f
+unfolding linkIn
+link-in-words t s a f h d =
+    node-put-link (putLink (t .nodes) (own t s) (cur t s)) (prev t s) a f (own t s) h d ∙ node-put-link (t .nodes) (own t s) a f (cur t s) h d
+
+module _ {N S : ℕ} {t : Tables} (g : Good N S t) (s : ℕ) where
+  abbrev o : ℕ
+  o = own t s
+
+  abbrev p : ℕ
+  p = prev t s
+
+  abbrev c : ℕ
+  c = cur t s
+
+  pub prev-in : p ≤ N
+  prev-in = named-in (g .inv .seats s .prev-named)
+
+  pub own-in : o ≤ N
+  own-in = named-in (g .inv .seats s .own-named)
+
+  -- ---- own is linked in behind prev
+  module _ (walks : phase t s ≡ 1) (join : Joined t s) (front : (c ≡ 0) ⊎ Precedes (claimOf t o) (claimOf t c)) where
+    own-not-prev : o ≢ p
+    own-not-prev e =
+        let h : 0 < o = own-pos (g .inv) s (outside-busy (walking walks)) in
+        hidden (g .inv) {i = s} (walking walks) (from-prev s (rw e (here (rw e at h))))
+
+    pub new-prev : link (linkIn t s) p ≡ o
+    unfolding linkIn
+    new-prev = link-put-same (putLink (t .nodes) o c) p o (let l = put-link-length (t .nodes) o c in let h = node-room g p prev-in in omega arith)
+
+    pub new-own : link (linkIn t s) o ≡ c
+    unfolding linkIn
+    new-own = link-put-other (putLink (t .nodes) o c) p o o (λ e. own-not-prev (sym e)) ∙ link-put-same (t .nodes) o c (node-room g o own-in)
+
+    pub old-links : (a : ℕ) → a ≢ o → a ≢ p → link (linkIn t s) a ≡ link t a
+    unfolding linkIn
+    old-links a d d′ = link-put-other (putLink (t .nodes) o c) p a o (λ e. d′ (sym e)) ∙ link-put-other (t .nodes) o a c (λ e. d (sym e))
+
+    linked-long : length (linkIn t s .nodes) ≡ length (t .nodes)
+    unfolding linkIn
+    linked-long = put-link-length (putLink (t .nodes) o c) p o ∙ put-link-length (t .nodes) o c
+
+    linked-seats : linkIn t s .seats ≡ t .seats
+    unfolding linkIn
+    linked-seats = refl
+
+    in-front : 0 < link t p → Ordered (claimOf t o) (claimOf t (link t p))
+    in-front h =
+        rw (join .to-cur)
+        (elim front [
+          | inl e ↦ absurd (let z = join .to-cur in omega arith)
+          | inr q ↦ precedes-ordered (own-proper (g .inv) s (outside-busy (walking walks))) q
+        ])
+
+    pub links-in-good : {seats : List ℕ} {words : ℕ → ℕ} → Seated (t .seats) seats s words → words ownAt ≡ o
+        → Starts (nodesOf t) (link (linkIn t s)) o p (words phaseAt) (words prevAt) (words curAt) → Good N S (tables (linkIn t s .nodes) seats)
+    links-in-good {seats} {words} w e st = record {
+      nodes-long = linked-long ∙ g .nodes-long;
+      seats-long = w .long ∙ g .seats-long;
+      inv = subst (λ n. Invariant N n (seatsOf (tables (linkIn t s .nodes) seats))) (only-links t (linkIn t s) (link-in-words t s))
+          (insert-keeps (g .inv) (link (linkIn t s)) s (words phaseAt) (words prevAt) (words curAt) walks (join .unmarked)
+          (new-own ∙ sym (join .to-cur)) new-prev old-links (rw e at (reseated t (tables (linkIn t s .nodes) seats) w)) st in-front);
+    }
+
+  -- ---- own is marked and the seat leaves
+  pub leaves-good : {seats : List ℕ} {words : ℕ → ℕ} → Linked (phase t s) → Seated (t .seats) seats s words
+      → words prevAt ≡ 0 → words curAt ≡ 0 → Leaves o (words phaseAt) (words ownAt) → Good N S (tables (setMark t o 1 .nodes) seats)
+  leaves-good {seats} {words} l w ep ec lv =
+      let h : o ≢ 0 = let x = own-pos (g .inv) s (linked-busy l) in omega arith in
+      let ns = t .nodes in
+      let u = tables (setMark t o 1 .nodes) seats in
+      let r : Reseated (seatsOf t) (seatsOf u) s (words phaseAt) (words ownAt) 0 0 = rw (ep, ec) at (reseated t u w) in
+      record {
+        nodes-long = put-node-length ns o markAt 1 ∙ g .nodes-long;
+        seats-long = w .long ∙ g .seats-long;
+        inv = subst (λ n. Invariant N n (seatsOf u))
+            (only-marks t (setMark t o 1) (λ a f b d. node-put-field ns o a markAt f 1 (omega arith) b (λ e. d (sym e)))
+            (λ a. link-put-field ns o a markAt 1 (omega arith) (omega arith)))
+            (leave-keeps (g .inv) (mark (setMark t o 1)) s (words phaseAt) (words ownAt) l lv r (node-put-same ns o markAt 1 (omega arith) h (node-room g o own-in))
+            (λ a d. node-put-node ns o a markAt markAt 1 (omega arith) (omega arith) (λ e. d (sym e))));
+      }

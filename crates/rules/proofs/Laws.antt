@@ -1,0 +1,12 @@
+-- What follows from one definition of specs/ by itself: the words after a store, sound shape clause by clause, what is met, what each number
+-- of the comparison says, that a refused call changes nothing, that a run is its steps, that two results of one promise are equal. They may
+-- use specs/ and the ground, and hold for any tables.
+pub mod Opened
+pub mod Words
+pub mod Shape
+pub mod NodesAlone
+pub mod Listed
+pub mod Compared
+pub mod Refused
+pub mod RunSteps
+pub mod OneAnswer

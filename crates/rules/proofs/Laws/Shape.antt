@@ -1,0 +1,344 @@
+-- Sound shape as facts: a record with a field for each clause of the Bool test `sound`, and both ways between them.
+use mathlib.Core.Path.{_≡_, refl, sym, ap, _∙_}
+use mathlib.Core.Bool.{Bool, true, false, not, _&&_, _||_}
+use mathlib.Core.Logic.{_≢_, _⊎_, inl, inr, ⊎-elim}
+use mathlib.Core.List.{List}
+use Prim.Native.Nat.{ℕ, zero, suc, _+_, _-_, _*_, _≤_, _<_}
+use native.Mathlib.Omega.{arith}
+use native.Mathlib.Numerals.{add-one}
+use lib.Dec.{eqb, leb, ltb}
+use lib.ListN.{length}
+use borrow.Author.Tests.{eqb-true, eqb-false, leb-true, leb-false, ltb-true, ltb-false, eq-eqb, ne-eqb, le-leb, lt-ltb}
+use Rattle.rules.specs.Notation.{_is_, _≤?_, _<?_, all}
+use Rattle.rules.specs.Tables.{Tables, tables, seatCountOf, nodeCount, seatCount, beforeNodes, nodeWidth, seatWidth, phaseAt, ownAt, prevAt, curAt, start, end, kind, mark, link, next, head, phase, own, prev, cur}
+use Rattle.rules.specs.Shape.{nodesFit, seatsFit, lengthsFit, isKind, zeroNode, claimNode, names, nodeSound, isPhase, idleOrOwning, restingAtZero, waitingAtCur, seatSound, endsWithin, nodesSound, seatsSound, sound}
+use Rattle.rules.proofs.Ground.Logic.{either, or-left, or-right, or-case, and-left, and-right, and-both, both, all3, all4, all5, all6, not-true, of-not, all-at, all-of}
+use Rattle.rules.proofs.Laws.Words.{node-past, link-past, seat-past}
+
+-- ---- a kind
+abbrev pub IsKind : ℕ → Type 0
+IsKind k = (k ≡ 1) ⊎ (k ≡ 2)
+
+pub is-kind : (k : ℕ) → isKind k ≡ true → IsKind k
+unfolding isKind
+is-kind k e = ⊎-elim (λ p. inl (eqb-true k 1 p)) (λ p. inr (eqb-true k 2 p)) (or-case (k is 1) (k is 2) e)
+
+pub kind-is : (k : ℕ) → IsKind k → isKind k ≡ true
+unfolding isKind
+kind-is k (inl p) = or-left (k is 1) (k is 2) (eq-eqb k 1 p)
+kind-is k (inr p) = or-right (k is 1) (k is 2) (eq-eqb k 2 p)
+
+-- ---- a name: 0, or a node of kind 1 or 2
+abbrev pub Names : Tables → ℕ → Type 0
+Names t a = (a ≡ 0) ⊎ ((a ≤ nodeCount t) × IsKind (kind t a))
+
+pub named : (t : Tables) (a : ℕ) → names t a ≡ true → Names t a
+unfolding names
+named t a e =
+    ⊎-elim
+    (λ p. inl (eqb-true a 0 p))
+    (λ p. let w = both (a ≤? nodeCount t) (isKind (kind t a)) p in inr (leb-true a (nodeCount t) (w .0), is-kind (kind t a) (w .1)))
+    (or-case (a is 0) (a ≤? nodeCount t && isKind (kind t a)) e)
+
+pub name-of : (t : Tables) (a : ℕ) → Names t a → names t a ≡ true
+unfolding names
+name-of t a (inl p) = or-left (a is 0) (a ≤? nodeCount t && isKind (kind t a)) (eq-eqb a 0 p)
+name-of t a (inr p) =
+    or-right (a is 0) (a ≤? nodeCount t && isKind (kind t a))
+    (and-both (a ≤? nodeCount t) (isKind (kind t a)) (le-leb a (nodeCount t) (p .0)) (kind-is (kind t a) (p .1)))
+
+pub name-small : (t : Tables) (a : ℕ) → Names t a → a ≤ nodeCount t
+name-small t a (inl p) = omega arith
+name-small t a (inr p) = p .0
+
+-- ---- a node
+pub record ZeroNode (t : Tables) (a : ℕ) : Type 0 where
+  pub start-zero : start t a ≡ 0
+  pub end-zero : end t a ≡ 0
+  pub kind-zero : kind t a ≡ 0
+  pub next-zero : next t a ≡ 0
+  pub mark-zero : mark t a ≡ 0
+
+pub record ClaimNode (t : Tables) (a : ℕ) : Type 0 where
+  pub a-kind : IsKind (kind t a)
+  pub some : start t a < end t a
+  pub next-small : next t a ≤ nodeCount t
+  pub mark-small : mark t a ≤ 1
+
+pub zero-node : (t : Tables) (a : ℕ) → zeroNode t a ≡ true → ZeroNode t a
+unfolding zeroNode
+zero-node t a e =
+    let w = all5 (start t a is 0) (end t a is 0) (kind t a is 0) (next t a is 0) (mark t a is 0) e in
+    record {
+      start-zero = eqb-true (start t a) 0 (w .0);
+      end-zero = eqb-true (end t a) 0 (w .1);
+      kind-zero = eqb-true (kind t a) 0 (w .2);
+      next-zero = eqb-true (next t a) 0 (w .3);
+      mark-zero = eqb-true (mark t a) 0 (w .4);
+    }
+
+pub node-zero-is : (t : Tables) (a : ℕ) → ZeroNode t a → zeroNode t a ≡ true
+unfolding zeroNode
+node-zero-is t a z =
+    rw (
+      eq-eqb (start t a) 0 (z .start-zero),
+      eq-eqb (end t a) 0 (z .end-zero),
+      eq-eqb (kind t a) 0 (z .kind-zero),
+      eq-eqb (next t a) 0 (z .next-zero),
+      eq-eqb (mark t a) 0 (z .mark-zero),
+    )
+
+pub claim-node : (t : Tables) (a : ℕ) → claimNode t a ≡ true → ClaimNode t a
+unfolding claimNode
+claim-node t a e =
+    let w = all4 (isKind (kind t a)) (start t a <? end t a) (next t a ≤? nodeCount t) (mark t a ≤? 1) e in
+    record {
+      a-kind = is-kind (kind t a) (w .0);
+      some = ltb-true (start t a) (end t a) (w .1);
+      next-small = leb-true (next t a) (nodeCount t) (w .2);
+      mark-small = leb-true (mark t a) 1 (w .3);
+    }
+
+pub node-claim-is : (t : Tables) (a : ℕ) → ClaimNode t a → claimNode t a ≡ true
+unfolding claimNode
+node-claim-is t a c =
+    rw (kind-is (kind t a) (c .a-kind), lt-ltb (start t a) (end t a) (c .some), le-leb (next t a) (nodeCount t) (c .next-small), le-leb (mark t a) 1 (c .mark-small))
+
+-- ---- a seat
+pub record SeatSound (t : Tables) (s : ℕ) : Type 0 where
+  pub phase-small : phase t s ≤ 6
+  pub idle : phase t s ≡ 0 → (own t s ≡ 0) × (prev t s ≡ 0) × (cur t s ≡ 0)
+  pub owning : phase t s ≢ 0 → own t s ≢ 0
+  pub resting : (phase t s ≡ 5) ⊎ (phase t s ≡ 6) → (prev t s ≡ 0) × (cur t s ≡ 0)
+  pub waiting : (phase t s ≡ 2) ⊎ (phase t s ≡ 4) → cur t s ≢ 0
+  pub own-names : Names t (own t s)
+  pub prev-names : Names t (prev t s)
+  pub cur-names : Names t (cur t s)
+
+-- "in these two phases, so": a test with two phases as its condition
+two-phases : (p m n : ℕ) (b : Bool) → (not (p is m || p is n) || b) ≡ true → (p ≡ m) ⊎ (p ≡ n) → b ≡ true
+two-phases p m n b e w =
+    let y : (p is m || p is n) ≡ true = ⊎-elim (λ q. or-left (p is m) (p is n) (eq-eqb p m q)) (λ q. or-right (p is m) (p is n) (eq-eqb p n q)) w in
+    rw y at e
+
+two-phases-is : (p m n : ℕ) (b : Bool) → ((p ≡ m) ⊎ (p ≡ n) → b ≡ true) → (not (p is m || p is n) || b) ≡ true
+two-phases-is p m n b f =
+    ⊎-elim
+    (λ y. or-right (not (p is m || p is n)) b (f (⊎-elim (λ q. inl (eqb-true p m q)) (λ q. inr (eqb-true p n q)) (or-case (p is m) (p is n) y))))
+    (λ y. or-left (not (p is m || p is n)) b (of-not (p is m || p is n) y))
+    (either (p is m || p is n))
+
+-- idle with zeros, or busy with an own node
+module _ (t : Tables) (s : ℕ) where
+  idle-zeros : Bool
+  idle-zeros = phase t s is 0 && own t s is 0 && prev t s is 0 && cur t s is 0
+
+  busy-owning : Bool
+  busy-owning = not (phase t s is 0) && not (own t s is 0)
+
+  zeros-of : idleOrOwning t s ≡ true → phase t s ≡ 0 → (own t s ≡ 0) × (prev t s ≡ 0) × (cur t s ≡ 0)
+  unfolding idleOrOwning idle-zeros busy-owning
+  zeros-of e z =
+      ⊎-elim
+      (λ p. let w = all4 (phase t s is 0) (own t s is 0) (prev t s is 0) (cur t s is 0) p in
+      (eqb-true (own t s) 0 (w .1), eqb-true (prev t s) 0 (w .2), eqb-true (cur t s) 0 (w .3)))
+      (λ p. absurd (eqb-false (phase t s) 0 (not-true (phase t s is 0) (and-left (not (phase t s is 0)) (not (own t s is 0)) p)) z))
+      (or-case idle-zeros busy-owning e)
+
+  owning-of : idleOrOwning t s ≡ true → phase t s ≢ 0 → own t s ≢ 0
+  unfolding idleOrOwning idle-zeros busy-owning
+  owning-of e z =
+      ⊎-elim
+      (λ p. absurd (z (eqb-true (phase t s) 0 (all4 (phase t s is 0) (own t s is 0) (prev t s is 0) (cur t s is 0) p .0))))
+      (λ p. eqb-false (own t s) 0 (not-true (own t s is 0) (and-right (not (phase t s is 0)) (not (own t s is 0)) p)))
+      (or-case idle-zeros busy-owning e)
+
+  idle-or-owning : SeatSound t s → idleOrOwning t s ≡ true
+  unfolding idleOrOwning
+  idle-or-owning w =
+      ⊎-elim
+      (λ p. let z = w .idle (eqb-true (phase t s) 0 p) in rw (p, eq-eqb (own t s) 0 (z .0), eq-eqb (prev t s) 0 (z .1), eq-eqb (cur t s) 0 (z .2)))
+      (λ p. or-right (phase t s is 0 && own t s is 0 && prev t s is 0 && cur t s is 0) (not (phase t s is 0) && not (own t s is 0))
+      (and-both (not (phase t s is 0)) (not (own t s is 0)) (of-not (phase t s is 0) p)
+      (of-not (own t s is 0) (ne-eqb (own t s) 0 (w .owning (eqb-false (phase t s) 0 p))))))
+      (either (phase t s is 0))
+
+  pub seat-sound : seatSound t s ≡ true → SeatSound t s
+  unfolding seatSound isPhase restingAtZero waitingAtCur
+  seat-sound e =
+      let f = and-left (isPhase t s && idleOrOwning t s && restingAtZero t s && waitingAtCur t s && names t (own t s) && names t (prev t s)) (names t (cur t s)) e in
+      let w = all6 (isPhase t s) (idleOrOwning t s) (restingAtZero t s) (waitingAtCur t s) (names t (own t s)) (names t (prev t s)) f in
+      record {
+        phase-small = leb-true (phase t s) 6 (w .0);
+        idle = zeros-of (w .1);
+        owning = owning-of (w .1);
+        resting = λ p. let z = both (prev t s is 0) (cur t s is 0) (two-phases (phase t s) 5 6 (prev t s is 0 && cur t s is 0) (w .2) p) in
+            (eqb-true (prev t s) 0 (z .0), eqb-true (cur t s) 0 (z .1));
+        waiting = λ p. eqb-false (cur t s) 0 (not-true (cur t s is 0) (two-phases (phase t s) 2 4 (not (cur t s is 0)) (w .3) p));
+        own-names = named t (own t s) (w .4);
+        prev-names = named t (prev t s) (w .5);
+        cur-names = named t (cur t s) (and-right (isPhase t s && idleOrOwning t s && restingAtZero t s && waitingAtCur t s && names t (own t s) && names t (prev t s)) (names t (cur t s)) e);
+      }
+
+  pub seat-sound-is : SeatSound t s → seatSound t s ≡ true
+  unfolding seatSound isPhase restingAtZero waitingAtCur
+  seat-sound-is w =
+      rw (
+        le-leb (phase t s) 6 (w .phase-small),
+        idle-or-owning w,
+        two-phases-is (phase t s) 5 6 (prev t s is 0 && cur t s is 0) (λ p. let z = w .resting p in rw (eq-eqb (prev t s) 0 (z .0), eq-eqb (cur t s) 0 (z .1))),
+        two-phases-is (phase t s) 2 4 (not (cur t s is 0)) (λ p. rw (ne-eqb (cur t s) 0 (w .waiting p))),
+        name-of t (own t s) (w .own-names),
+        name-of t (prev t s) (w .prev-names),
+        name-of t (cur t s) (w .cur-names),
+      )
+
+-- ---- the lengths
+pub record Fit (t : Tables) : Type 0 where
+  pub nodes-length : length (t .nodes) ≡ beforeNodes + nodeWidth * nodeCount t
+  pub some-nodes : 1 ≤ nodeCount t
+  pub few-nodes : nodeCount t ≤ 256
+  pub seats-length : length (t .seats) ≡ seatWidth * seatCount t
+  pub some-seats : 1 ≤ seatCount t
+  pub few-seats : seatCount t ≤ 64
+
+pub nodes-fit : (t : Tables) → nodesFit t ≡ true → (length (t .nodes) ≡ beforeNodes + nodeWidth * nodeCount t) × (1 ≤ nodeCount t) × (nodeCount t ≤ 256)
+unfolding nodesFit
+nodes-fit t e =
+    let f = all3 (length (t .nodes) is beforeNodes + nodeWidth * nodeCount t) (1 ≤? nodeCount t) (nodeCount t ≤? 256) e in
+    (eqb-true (length (t .nodes)) (beforeNodes + nodeWidth * nodeCount t) (f .0), leb-true 1 (nodeCount t) (f .1), leb-true (nodeCount t) 256 (f .2))
+
+pub lengths-fit : (t : Tables) → lengthsFit t ≡ true → Fit t
+unfolding lengthsFit seatsFit
+lengths-fit t e =
+    let y = both (nodesFit t) (seatsFit t) e in
+    let f = nodes-fit t (y .0) in
+    let g = all3 (length (t .seats) is seatWidth * seatCount t) (1 ≤? seatCount t) (seatCount t ≤? 64) (y .1) in
+    record {
+      nodes-length = f .0;
+      some-nodes = f .1;
+      few-nodes = f .2;
+      seats-length = eqb-true (length (t .seats)) (seatWidth * seatCount t) (g .0);
+      some-seats = leb-true 1 (seatCount t) (g .1);
+      few-seats = leb-true (seatCount t) 64 (g .2);
+    }
+
+-- ---- the whole
+pub record Sound (t : Tables) : Type 0 where
+  pub nodes-length : length (t .nodes) ≡ beforeNodes + nodeWidth * nodeCount t
+  pub some-nodes : 1 ≤ nodeCount t
+  pub few-nodes : nodeCount t ≤ 256
+  pub seats-length : length (t .seats) ≡ seatWidth * seatCount t
+  pub some-seats : 1 ≤ seatCount t
+  pub few-seats : seatCount t ≤ 64
+  pub node : (a : ℕ) → a ≢ 0 → a ≤ nodeCount t → ZeroNode t a ⊎ ClaimNode t a
+  pub link-names : (a : ℕ) → Names t (link t a)
+  pub seat : (s : ℕ) → SeatSound t s
+  pub ends : endsWithin (nodeCount t) t (head t) ≡ true
+
+-- a seat past the last one reads as idle
+past-seat : (t : Tables) (s : ℕ) → length (t .seats) ≡ seatWidth * seatCount t → seatCount t ≤ s → SeatSound t s
+past-seat t s e h =
+    let p : phase t s ≡ 0 = seat-past t s phaseAt e h in
+    let o : own t s ≡ 0 = seat-past t s ownAt e h in
+    let v : prev t s ≡ 0 = seat-past t s prevAt e h in
+    let c : cur t s ≡ 0 = seat-past t s curAt e h in
+    record {
+      phase-small = omega arith;
+      idle = λ z. (o, v, c);
+      owning = λ z. absurd (z p);
+      resting = λ z. (v, c);
+      waiting = λ z. absurd (elim z [ inl q ↦ omega arith | inr q ↦ omega arith ]);
+      own-names = inl o;
+      prev-names = inl v;
+      cur-names = inl c;
+    }
+
+module _ (t : Tables) where
+  node-of : nodesSound t ≡ true → (a : ℕ) → a ≢ 0 → a ≤ nodeCount t → nodeSound t a ≡ true
+  unfolding nodesSound
+  node-of e zero z h = absurd (z refl)
+  node-of e (suc m) z h = rw (add-one m) at (all-at (nodeCount t) m (λ m. nodeSound t (m + 1)) e (omega arith))
+
+  node-case : (a : ℕ) → nodeSound t a ≡ true → ZeroNode t a ⊎ ClaimNode t a
+  unfolding nodeSound
+  node-case a e =
+      ⊎-elim
+      (λ p. inl (zero-node t a p))
+      (λ p. inr (claim-node t a p))
+      (or-case (zeroNode t a) (claimNode t a) (and-left (zeroNode t a || claimNode t a) (names t (next t a)) e))
+
+  node-names : (a : ℕ) → nodeSound t a ≡ true → Names t (next t a)
+  unfolding nodeSound
+  node-names a e = named t (next t a) (and-right (zeroNode t a || claimNode t a) (names t (next t a)) e)
+
+  links-name : length (t .nodes) ≡ beforeNodes + nodeWidth * nodeCount t → nodesSound t ≡ true → Names t (head t) → (a : ℕ) → Names t (link t a)
+  links-name e ns h zero = h
+  links-name e ns h (suc m) =
+      ⊎-elim
+      (λ p. node-names (suc m) (node-of ns (suc m) (λ z. omega arith) (leb-true (suc m) (nodeCount t) p)))
+      (λ p. inl (link-past t (suc m) e (leb-false (suc m) (nodeCount t) p)))
+      (either (suc m ≤? nodeCount t))
+
+  seats-all : length (t .seats) ≡ seatWidth * seatCount t → seatsSound t ≡ true → (s : ℕ) → SeatSound t s
+  unfolding seatsSound
+  seats-all e ss s =
+      ⊎-elim
+      (λ p. seat-sound t s (all-at (seatCount t) s (seatSound t) ss (ltb-true s (seatCount t) p)))
+      (λ p. past-seat t s e (ltb-false s (seatCount t) p))
+      (either (s <? seatCount t))
+
+  pub is-sound : sound t ≡ true → Sound t
+  unfolding sound
+  is-sound e =
+      let w = all5 (lengthsFit t) (nodesSound t) (names t (head t)) (seatsSound t) (endsWithin (nodeCount t) t (head t)) e in
+      let fit = lengths-fit t (w .0) in
+      record {
+        nodes-length = fit .nodes-length;
+        some-nodes = fit .some-nodes;
+        few-nodes = fit .few-nodes;
+        seats-length = fit .seats-length;
+        some-seats = fit .some-seats;
+        few-seats = fit .few-seats;
+        node = λ a z h. node-case a (node-of (w .1) a z h);
+        link-names = links-name (fit .nodes-length) (w .1) (named t (head t) (w .2));
+        seat = seats-all (fit .seats-length) (w .3);
+        ends = w .4;
+      }
+
+  -- the other way
+  node-sound-is : Sound t → (a : ℕ) → a ≢ 0 → a ≤ nodeCount t → nodeSound t a ≡ true
+  unfolding nodeSound
+  node-sound-is w a z h =
+      and-both (zeroNode t a || claimNode t a) (names t (next t a))
+      (⊎-elim (λ p. or-left (zeroNode t a) (claimNode t a) (node-zero-is t a p)) (λ p. or-right (zeroNode t a) (claimNode t a) (node-claim-is t a p)) (w .node a z h))
+      (name-of t (next t a) (w .link-names a))
+
+  nodes-sound-is : Sound t → nodesSound t ≡ true
+  unfolding nodesSound
+  nodes-sound-is w = all-of (nodeCount t) (λ m. nodeSound t (m + 1)) (λ m h. node-sound-is w (m + 1) (λ z. omega arith) (omega arith))
+
+  seats-sound-is : Sound t → seatsSound t ≡ true
+  unfolding seatsSound
+  seats-sound-is w = all-of (seatCount t) (seatSound t) (λ s h. seat-sound-is t s (w .seat s))
+
+  lengths-fit-is : Sound t → lengthsFit t ≡ true
+  unfolding lengthsFit nodesFit seatsFit
+  lengths-fit-is w =
+      and-both (nodesFit t) (seatsFit t)
+      (and-both (length (t .nodes) is beforeNodes + nodeWidth * nodeCount t && 1 ≤? nodeCount t) (nodeCount t ≤? 256)
+      (and-both (length (t .nodes) is beforeNodes + nodeWidth * nodeCount t) (1 ≤? nodeCount t)
+      (eq-eqb (length (t .nodes)) (beforeNodes + nodeWidth * nodeCount t) (w .nodes-length)) (le-leb 1 (nodeCount t) (w .some-nodes)))
+      (le-leb (nodeCount t) 256 (w .few-nodes)))
+      (and-both (length (t .seats) is seatWidth * seatCount t && 1 ≤? seatCount t) (seatCount t ≤? 64)
+      (and-both (length (t .seats) is seatWidth * seatCount t) (1 ≤? seatCount t)
+      (eq-eqb (length (t .seats)) (seatWidth * seatCount t) (w .seats-length)) (le-leb 1 (seatCount t) (w .some-seats)))
+      (le-leb (seatCount t) 64 (w .few-seats)))
+
+  pub sound-is : Sound t → sound t ≡ true
+  unfolding sound
+  sound-is w = rw (lengths-fit-is w, nodes-sound-is w, name-of t (head t) (w .link-names 0), seats-sound-is w, w .ends)
+
+-- S of sound tables, as the code counts it
+pub seats-few : (n t : List ℕ) (c : ℕ) → c ≡ seatCountOf t → sound (tables n t) ≡ true → c ≤ 64
+seats-few n t c e s = rw e (is-sound (tables n t) s .few-seats)

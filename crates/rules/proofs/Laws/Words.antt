@@ -1,0 +1,184 @@
+-- What a store leaves in each word of the tables, N and S by the lengths, the words of fresh tables, and stores that come to nothing new: the
+-- one place beside specs/Tables.antt that knows where a word stands. Stated over the node, the seat, the field and the value; all above
+-- cites these.
+use Prim.Native.Nat.{ℕ, zero, suc, _+_, _-_, _*_, _/_, _<_, _≤_}
+use mathlib.Core.Path.{_≡_, refl, sym, ap, _∙_}
+use mathlib.Core.List.{List}
+use mathlib.Core.Logic.{_≢_}
+use native.Mathlib.Omega.{arith}
+use native.Mathlib.Decide.{decLt}
+use lib.ListN.{getD, set, length, length-set, length-replicate, getD-replicate, List·getD-eq-default}
+use lib.Seq.{ext-getD, set-getD, getD-set-same, getD-set-other}
+use Rattle.rules.specs.Tables.{Tables, tables, headAt, beforeNodes, nodeWidth, seatWidth, nextAt, nodeWord, putNode, linkWord, putLink, seatWord, putSeat, nodeCountOf, seatCountOf, nodeCount, seatCount, zeros, fresh}
+use Rattle.rules.proofs.Ground.Deciding.{if-same}
+
+-- ---- lengths
+pub put-node-length : (l : List ℕ) (a f v : ℕ) → length (putNode l a f v) ≡ length l
+unfolding putNode
+put-node-length l zero f v = refl
+put-node-length l (suc m) f v = simp length-set
+
+pub put-link-length : (l : List ℕ) (a v : ℕ) → length (putLink l a v) ≡ length l
+unfolding putLink
+put-link-length l zero v = simp length-set
+put-link-length l (suc m) v = put-node-length l (suc m) nextAt v
+
+pub put-seat-length : (l : List ℕ) (s f v : ℕ) → length (putSeat l s f v) ≡ length l
+unfolding putSeat
+put-seat-length l s f v = simp length-set
+
+-- N and S depend on the lengths alone
+pub same-node-count : (t u : Tables) → length (u .nodes) ≡ length (t .nodes) → nodeCount u ≡ nodeCount t
+unfolding nodeCountOf
+same-node-count t u e = rw e
+
+pub same-seat-count : (t u : Tables) → length (u .seats) ≡ length (t .seats) → seatCount u ≡ seatCount t
+unfolding seatCountOf
+same-seat-count t u e = rw e
+
+-- ---- a node's words after a store to a node's word
+pub node-put-same : (l : List ℕ) (a f v : ℕ) → f < nodeWidth → a ≢ 0 → beforeNodes + nodeWidth * a ≤ length l → nodeWord (putNode l a f v) a f ≡ v
+unfolding nodeWord putNode
+node-put-same l zero f v h z i = absurd (z refl)
+node-put-same l (suc m) f v h z i = getD-set-same l (beforeNodes + nodeWidth * m + f) v 0 (omega arith)
+
+pub node-put-field : (l : List ℕ) (a b f g v : ℕ) → f < nodeWidth → g < nodeWidth → f ≢ g → nodeWord (putNode l a f v) b g ≡ nodeWord l b g
+unfolding nodeWord putNode
+node-put-field l zero b f g v h i d = refl
+node-put-field l (suc m) zero f g v h i d = refl
+node-put-field l (suc m) (suc k) f g v h i d =
+    getD-set-other l (beforeNodes + nodeWidth * m + f) (beforeNodes + nodeWidth * k + g) v 0 (λ e. d (omega arith))
+
+pub node-put-node : (l : List ℕ) (a b f g v : ℕ) → f < nodeWidth → g < nodeWidth → a ≢ b → nodeWord (putNode l a f v) b g ≡ nodeWord l b g
+unfolding nodeWord putNode
+node-put-node l zero b f g v h i d = refl
+node-put-node l (suc m) zero f g v h i d = refl
+node-put-node l (suc m) (suc k) f g v h i d =
+    getD-set-other l (beforeNodes + nodeWidth * m + f) (beforeNodes + nodeWidth * k + g) v 0 (λ e. d (omega arith))
+
+-- node 0 has only zeros
+pub node-zero : (l : List ℕ) (f : ℕ) → nodeWord l 0 f ≡ 0
+unfolding nodeWord
+node-zero l f = refl
+
+-- ---- links
+pub link-node : (l : List ℕ) (a : ℕ) → a ≢ 0 → linkWord l a ≡ nodeWord l a nextAt
+unfolding linkWord
+link-node l zero z = absurd (z refl)
+link-node l (suc m) z = refl
+
+pub put-link-node : (l : List ℕ) (a v : ℕ) → a ≢ 0 → putLink l a v ≡ putNode l a nextAt v
+unfolding putLink
+put-link-node l zero v z = absurd (z refl)
+put-link-node l (suc m) v z = refl
+
+-- a store to any other field leaves every link
+pub link-put-field : (l : List ℕ) (a b f v : ℕ) → f < nodeWidth → f ≢ nextAt → linkWord (putNode l a f v) b ≡ linkWord l b
+unfolding linkWord putNode
+link-put-field l zero b f v h d = refl
+link-put-field l (suc m) zero f v h d = getD-set-other l (beforeNodes + nodeWidth * m + f) headAt v 0 (λ e. omega arith)
+link-put-field l (suc m) (suc k) f v h d = node-put-field l (suc m) (suc k) f nextAt v h (omega arith) d
+
+-- a store to a link leaves every other field
+pub node-put-link : (l : List ℕ) (a b g v : ℕ) → g < nodeWidth → g ≢ nextAt → nodeWord (putLink l a v) b g ≡ nodeWord l b g
+unfolding putLink nodeWord
+node-put-link l zero zero g v h d = refl
+node-put-link l zero (suc k) g v h d = getD-set-other l headAt (beforeNodes + nodeWidth * k + g) v 0 (λ e. omega arith)
+node-put-link l (suc m) b g v h d = node-put-field l (suc m) b nextAt g v (omega arith) h (λ e. d (sym e))
+
+pub link-put-same : (l : List ℕ) (a v : ℕ) → beforeNodes + nodeWidth * a ≤ length l → linkWord (putLink l a v) a ≡ v
+unfolding linkWord putLink
+link-put-same l zero v h = getD-set-same l headAt v 0 (omega arith)
+link-put-same l (suc m) v h = node-put-same l (suc m) nextAt v (omega arith) (λ e. omega arith) h
+
+pub link-put-other : (l : List ℕ) (a b v : ℕ) → a ≢ b → linkWord (putLink l a v) b ≡ linkWord l b
+unfolding linkWord putLink nodeWord putNode
+link-put-other l zero zero v d = absurd (d refl)
+link-put-other l zero (suc k) v d = getD-set-other l headAt (beforeNodes + nodeWidth * k + nextAt) v 0 (λ e. omega arith)
+link-put-other l (suc m) zero v d = getD-set-other l (beforeNodes + nodeWidth * m + nextAt) headAt v 0 (λ e. omega arith)
+link-put-other l (suc m) (suc k) v d = node-put-node l (suc m) (suc k) nextAt nextAt v (omega arith) (omega arith) d
+
+-- ---- a seat's words after a store to a seat's word
+pub seat-put-same : (l : List ℕ) (s f v : ℕ) → f < seatWidth → seatWidth * s + seatWidth ≤ length l → seatWord (putSeat l s f v) s f ≡ v
+unfolding seatWord putSeat
+seat-put-same l s f v h i = getD-set-same l (seatWidth * s + f) v 0 (omega arith)
+
+pub seat-put-field : (l : List ℕ) (s r f g v : ℕ) → f < seatWidth → g < seatWidth → f ≢ g → seatWord (putSeat l s f v) r g ≡ seatWord l r g
+unfolding seatWord putSeat
+seat-put-field l s r f g v h i d = getD-set-other l (seatWidth * s + f) (seatWidth * r + g) v 0 (λ e. d (omega arith))
+
+pub seat-put-seat : (l : List ℕ) (s r f g v : ℕ) → f < seatWidth → g < seatWidth → s ≢ r → seatWord (putSeat l s f v) r g ≡ seatWord l r g
+unfolding seatWord putSeat
+seat-put-seat l s r f g v h i d = getD-set-other l (seatWidth * s + f) (seatWidth * r + g) v 0 (λ e. d (omega arith))
+
+-- ---- what stands past the end reads 0
+pub node-past : (t : Tables) (a f : ℕ) → f < nodeWidth → length (t .nodes) ≡ beforeNodes + nodeWidth * nodeCount t → nodeCount t < a → nodeWord (t .nodes) a f ≡ 0
+unfolding nodeWord
+node-past t zero f h e p = refl
+node-past t (suc m) f h e p = List·getD-eq-default (t .nodes) 0 {n = beforeNodes + nodeWidth * m + f} (omega arith)
+
+pub link-past : (t : Tables) (a : ℕ) → length (t .nodes) ≡ beforeNodes + nodeWidth * nodeCount t → nodeCount t < a → linkWord (t .nodes) a ≡ 0
+link-past t a e p = link-node (t .nodes) a (λ z. omega arith) ∙ node-past t a nextAt (omega arith) e p
+
+pub seat-past : (t : Tables) (s f : ℕ) → length (t .seats) ≡ seatWidth * seatCount t → seatCount t ≤ s → seatWord (t .seats) s f ≡ 0
+unfolding seatWord
+seat-past t s f e p = List·getD-eq-default (t .seats) 0 {n = seatWidth * s + f} (omega arith)
+
+-- ---- N and S
+pub node-count : (t : Tables) (N : ℕ) → length (t .nodes) ≡ beforeNodes + nodeWidth * N → nodeCount t ≡ N
+unfolding nodeCountOf
+node-count t N e = omega arith
+
+pub seat-count : (t : Tables) (S : ℕ) → length (t .seats) ≡ seatWidth * S → seatCount t ≡ S
+unfolding seatCountOf
+seat-count t S e = omega arith
+
+-- ---- fresh tables
+zero-at : (n k : ℕ) → _≡_ {A = ℕ} (getD (zeros n) k 0) 0
+zero-at n k = elim (decLt k n) [
+  | yes h ↦ getD-replicate n k 0 0 h
+  | no h ↦ List·getD-eq-default {A = ℕ} (zeros n) 0 {n = k} (let l = length-replicate {A = ℕ} n 0 in omega arith)
+]
+
+module _ (N S : ℕ) where
+  pub fresh-nodes-length : length (fresh N S .nodes) ≡ beforeNodes + nodeWidth * N
+  unfolding fresh
+  fresh-nodes-length = length-replicate (beforeNodes + nodeWidth * N) 0
+
+  pub fresh-seats-length : length (fresh N S .seats) ≡ seatWidth * S
+  unfolding fresh
+  fresh-seats-length = length-replicate (seatWidth * S) 0
+
+  pub fresh-node-word : (a f : ℕ) → nodeWord (fresh N S .nodes) a f ≡ 0
+  unfolding fresh nodeWord
+  fresh-node-word zero f = refl
+  fresh-node-word (suc m) f = zero-at (beforeNodes + nodeWidth * N) (beforeNodes + nodeWidth * m + f)
+
+  pub fresh-link : (a : ℕ) → linkWord (fresh N S .nodes) a ≡ 0
+  unfolding fresh linkWord
+  fresh-link zero = zero-at (beforeNodes + nodeWidth * N) headAt
+  fresh-link (suc m) = fresh-node-word (suc m) nextAt
+
+  pub fresh-seat-word : (s f : ℕ) → seatWord (fresh N S .seats) s f ≡ 0
+  unfolding fresh seatWord
+  fresh-seat-word s f = zero-at (seatWidth * S) (seatWidth * s + f)
+
+-- ---- stores that come to nothing new
+pub put-link-self : (l : List ℕ) (a : ℕ) → putLink l a (linkWord l a) ≡ l
+unfolding putLink putNode linkWord nodeWord
+put-link-self l zero = set-getD l headAt 0
+put-link-self l (suc m) = set-getD l (beforeNodes + nodeWidth * m + nextAt) 0
+
+set-twice : (l : List ℕ) (i v w : ℕ) → set (set l i v) i w ≡ set l i w
+set-twice l i v w =
+    ext-getD 0 (set (set l i v) i w) (set l i w) (simp length-set)
+    (λ j b. if-same j i
+    (λ e. let b₁ : i < length (set l i v) = rw (e, length-set (set l i v) i w) at b in
+    let b₂ : i < length l = rw (length-set l i v) at b₁ in
+    rw e (getD-set-same (set l i v) i w 0 b₁ ∙ sym (getD-set-same l i w 0 b₂)))
+    (λ d. getD-set-other (set l i v) i j w 0 d ∙ getD-set-other l i j v 0 d ∙ sym (getD-set-other l i j w 0 d)))
+
+pub put-link-twice : (l : List ℕ) (a v w : ℕ) → putLink (putLink l a v) a w ≡ putLink l a w
+unfolding putLink putNode
+put-link-twice l zero v w = set-twice l headAt v w
+put-link-twice l (suc m) v w = set-twice l (beforeNodes + nodeWidth * m + nextAt) v w

@@ -1,0 +1,106 @@
+-- What stores do, seen from the theory: to the words of a seat or a node, one after another, and to the view of the nodes. Over any
+-- tables that have room for the seat or the node.
+use Prim.Native.Nat.{ℕ, _+_, _*_, _≤_, _<_}
+use mathlib.Core.Path.{_≡_, refl, sym, _∙_, fun-ext}
+use mathlib.Core.List.{List}
+use mathlib.Core.Logic.{_≢_}
+use native.Mathlib.Omega.{arith}
+use lib.ListN.{length}
+use borrow.Author.Tests.{eq-eqb, ne-eqb}
+use Rattle.rules.specs.Notation.{if_then_else_, _is_}
+use Rattle.rules.specs.Tables.{Tables, beforeNodes, nodeWidth, seatWidth, startAt, endAt, kindAt, markAt, nextAt, phaseAt, ownAt, prevAt, curAt, nodeWord, linkWord, seatWord, putNode, putLink, putSeat, link, mark}
+use Rattle.rules.proofs.Ground.Deciding.{if-same}
+use Rattle.rules.proofs.Laws.Words.{seat-put-same, seat-put-field, seat-put-seat, put-seat-length, node-put-same, node-put-field, node-put-node, put-node-length, put-link-node, link-put-other, link-put-field}
+use Rattle.rules.proofs.Invariant.View.{nodesOf, seatsOf, relink, remark, Reseated}
+
+-- ---- the words of one seat
+abbrev pub Room : Tables → ℕ → Type 0
+Room t s = seatWidth * s + seatWidth ≤ length (t .seats)
+
+abbrev pub stored : (ℕ → ℕ) → ℕ → ℕ → ℕ → ℕ
+stored words f v g = if g is f then v else words g
+
+-- after some stores to seat s alone, its words are these
+pub record Seated (before after : List ℕ) (s : ℕ) (words : ℕ → ℕ) : Type 0 where
+  pub at-s : (f : ℕ) → f < seatWidth → seatWord after s f ≡ words f
+  pub others : (r f : ℕ) → r ≢ s → f < seatWidth → seatWord after r f ≡ seatWord before r f
+  pub long : length after ≡ length before
+
+pub as-found : (seats : List ℕ) (s : ℕ) → Seated seats seats s (seatWord seats s)
+as-found seats s = record { at-s = λ f h. refl; others = λ r f d h. refl; long = refl }
+
+pub put : {before after : List ℕ} {s : ℕ} {words : ℕ → ℕ} → seatWidth * s + seatWidth ≤ length before → Seated before after s words
+    → (f v : ℕ) → f < seatWidth → Seated before (putSeat after s f v) s (stored words f v)
+put {before} {after} {s} room w f v h = record {
+  at-s = λ g k. if-same g f
+      (λ e. rw (e, eq-eqb f f refl) (seat-put-same after s f v h (let l = w .long in omega arith)))
+      (λ d. rw (ne-eqb g f d) (seat-put-field after s s f g v h k (λ e. d (sym e)) ∙ w .at-s g k));
+  others = λ r g d k. seat-put-seat after s r f g v h k (λ e. d (sym e)) ∙ w .others r g d k;
+  long = put-seat-length after s f v ∙ w .long;
+}
+
+pub reseated : (t u : Tables) {s : ℕ} {words : ℕ → ℕ} → Seated (t .seats) (u .seats) s words
+    → Reseated (seatsOf t) (seatsOf u) s (words phaseAt) (words ownAt) (words prevAt) (words curAt)
+reseated t u w = record {
+  phase-i = w .at-s phaseAt (omega arith);
+  own-i = w .at-s ownAt (omega arith);
+  prev-i = w .at-s prevAt (omega arith);
+  cur-i = w .at-s curAt (omega arith);
+  phase-j = λ r d. w .others r phaseAt d (omega arith);
+  own-j = λ r d. w .others r ownAt d (omega arith);
+  prev-j = λ r d. w .others r prevAt d (omega arith);
+  cur-j = λ r d. w .others r curAt d (omega arith);
+}
+
+-- ---- the words of one node
+pub record Noded (before after : List ℕ) (a : ℕ) (words : ℕ → ℕ) : Type 0 where
+  pub at-a : (f : ℕ) → f < nodeWidth → nodeWord after a f ≡ words f
+  pub others : (b f : ℕ) → b ≢ a → f < nodeWidth → nodeWord after b f ≡ nodeWord before b f
+  pub links : (b : ℕ) → b ≢ a → linkWord after b ≡ linkWord before b
+  pub long : length after ≡ length before
+
+pub node-as-found : (nodes : List ℕ) (a : ℕ) → Noded nodes nodes a (nodeWord nodes a)
+node-as-found nodes a = record { at-a = λ f h. refl; others = λ b f d h. refl; links = λ b d. refl; long = refl }
+
+module _ {before after : List ℕ} {a : ℕ} {words : ℕ → ℕ} (pos : a ≢ 0) (room : beforeNodes + nodeWidth * a ≤ length before)
+    (w : Noded before after a words) where
+  -- the link of a node is its word like the others
+  link-away : (f v b : ℕ) → f < nodeWidth → b ≢ a → linkWord (putNode after a f v) b ≡ linkWord after b
+  link-away f v b h d =
+      if-same f nextAt
+      (λ e. rw (e, ← put-link-node after a v pos) (link-put-other after a b v (λ q. d (sym q))))
+      (λ k. link-put-field after a b f v h k)
+
+  pub put-word : (f v : ℕ) → f < nodeWidth → Noded before (putNode after a f v) a (stored words f v)
+  put-word f v h = record {
+    at-a = λ g k. if-same g f
+        (λ e. rw (e, eq-eqb f f refl) (node-put-same after a f v h pos (let l = w .long in omega arith)))
+        (λ d. rw (ne-eqb g f d) (node-put-field after a a f g v h k (λ e. d (sym e)) ∙ w .at-a g k));
+    others = λ b g d k. node-put-node after a b f g v h k (λ e. d (sym e)) ∙ w .others b g d k;
+    links = λ b d. link-away f v b h d ∙ w .links b d;
+    long = put-node-length after a f v ∙ w .long;
+  }
+
+  pub put-next : (v : ℕ) → Noded before (putLink after a v) a (stored words nextAt v)
+  put-next v = rw (put-link-node after a v pos) (put-word nextAt v (omega arith))
+
+-- ---- the view of the nodes, where only links or only marks have changed
+pub only-links : (t u : Tables) → ((a f : ℕ) → f < nodeWidth → f ≢ nextAt → nodeWord (u .nodes) a f ≡ nodeWord (t .nodes) a f)
+    → relink (nodesOf t) (link u) ≡ nodesOf u
+only-links t u e = λ i. record {
+  start = fun-ext (λ a. sym (e a startAt (omega arith) (omega arith))) i;
+  end = fun-ext (λ a. sym (e a endAt (omega arith) (omega arith))) i;
+  kind = fun-ext (λ a. sym (e a kindAt (omega arith) (omega arith))) i;
+  mark = fun-ext (λ a. sym (e a markAt (omega arith) (omega arith))) i;
+  link = link u;
+}
+
+pub only-marks : (t u : Tables) → ((a f : ℕ) → f < nodeWidth → f ≢ markAt → nodeWord (u .nodes) a f ≡ nodeWord (t .nodes) a f)
+    → ((a : ℕ) → link u a ≡ link t a) → remark (nodesOf t) (mark u) ≡ nodesOf u
+only-marks t u e l = λ i. record {
+  start = fun-ext (λ a. sym (e a startAt (omega arith) (omega arith))) i;
+  end = fun-ext (λ a. sym (e a endAt (omega arith) (omega arith))) i;
+  kind = fun-ext (λ a. sym (e a kindAt (omega arith) (omega arith))) i;
+  mark = mark u;
+  link = fun-ext (λ a. sym (l a)) i;
+}

@@ -1,0 +1,95 @@
+-- With which refusals a call on sound tables can answer: an accepted begin or step with none or 8, and none with 1.
+use Prim.Native.Nat.{ℕ, zero, suc}
+use mathlib.Core.Path.{_≡_, refl, sym, ap, _∙_}
+use mathlib.Core.Bool.{true}
+use mathlib.Core.List.{List, [], _∷_}
+use mathlib.Core.Logic.{_≢_}
+use native.Mathlib.Omega.{arith}
+use Rattle.rules.specs.Notation.{_is_}
+use Rattle.rules.specs.Tables.{Tables}
+use Rattle.rules.specs.Shape.{sound}
+use Rattle.rules.specs.Comparison.{Claim}
+use Rattle.rules.specs.Fetch.{Fetched}
+use Rattle.rules.specs.Answers.{Answer, node, out, on, wait, held, back, refused, Done}
+use Rattle.rules.specs.Steps.{refetched}
+use Rattle.rules.specs.Calls.{begun, step}
+use Rattle.rules.specs.Run.{refusalOf, runSteps, run}
+use Rattle.rules.specs.Play.{Call, beginCall, stepCall, releaseCall, call}
+use Rattle.rules.specs.Reached.{Reached, called}
+use Rattle.rules.specs.declared.Ran.{Ran}
+use Rattle.rules.proofs.Ground.Logic.{branch, clash}
+use Rattle.rules.proofs.Laws.Refused.{answer-accepts}
+use Rattle.rules.proofs.Rules.Reasons.{Stepping, in-1, in-2, in-3, in-4, in-6, at-rest}
+use Rattle.rules.proofs.Soundness.SoundReached.{reached-sound}
+use Rattle.rules.proofs.Rules.Accepting.{Refuses, Beginning, begin-refused, begin-accepted, beginning, Stepped, step-refused, step-accepted, stepped, Releasing, release-refused, release-accepted, releasing}
+
+-- the refusals of an accepted begin and an accepted step: none, or 8
+pub data NoneOr8 (a : Answer) : Type 0 where
+  no-refusal : refusalOf a ≡ 0 → NoneOr8 a
+  refusal-8 : a ≡ refused 8 → NoneOr8 a
+
+begun-none-or-8 : (t : Tables) (f : Fetched) → NoneOr8 (begun t f .answer)
+unfolding begun
+begun-none-or-8 t f = branch (λ (d : Done Answer). NoneOr8 (d .answer)) (f .node is 0) (λ e. refusal-8 refl) (λ e. no-refusal refl)
+
+refetched-none-or-8 : (t : Tables) (s : ℕ) (f : Fetched) → NoneOr8 (refetched t s f .answer)
+unfolding refetched
+refetched-none-or-8 t s f =
+    branch (λ (d : Done Answer). NoneOr8 (d .answer)) (f .node is 0) (λ e. refusal-8 refl) (λ e. no-refusal (answer-accepts (f .after) s))
+
+pub stepping-none-or-8 : {t : Tables} {s : ℕ} {d : Done Answer} → Stepping t s d → NoneOr8 (d .answer)
+stepping-none-or-8 {s = s} (in-1 {u = u} e w) = no-refusal (answer-accepts u s)
+stepping-none-or-8 {s = s} (in-2 {u = u} e w) = no-refusal (answer-accepts u s)
+stepping-none-or-8 {s = s} (in-3 {u = u} e w) = no-refusal (answer-accepts u s)
+stepping-none-or-8 {s = s} (in-4 {u = u} e w) = no-refusal (answer-accepts u s)
+stepping-none-or-8 {t} {s} (in-6 {f = f} e w) = refetched-none-or-8 t s f
+stepping-none-or-8 {t} {s} (at-rest a b c d e) = no-refusal (answer-accepts t s)
+
+none-or-8-not-1 : {a : Answer} → NoneOr8 a → a ≢ refused 1
+none-or-8-not-1 (no-refusal e) q = let z = ap refusalOf q in omega arith
+none-or-8-not-1 (refusal-8 e) q = let z = ap refusalOf (sym e ∙ q) in omega arith
+
+module _ (t : Tables) (e : sound t ≡ true) (s : ℕ) where
+  refused-not-1 : {number : ℕ} → Refuses t number → refused number ≢ refused 1
+  refused-not-1 r q = clash (sound t) e (r .one-damaged (ap refusalOf q))
+
+  begin-not-1 : {c : Claim} {d : Done Answer} → Beginning t s c d → d .answer ≢ refused 1
+  begin-not-1 (begin-refused k r) = refused-not-1 r
+  begin-not-1 (begin-accepted {f = f} x h p z w) = none-or-8-not-1 (begun-none-or-8 t f)
+
+  step-not-1 : {d : Done Answer} → Stepped t s d → d .answer ≢ refused 1
+  step-not-1 (step-refused k r) = refused-not-1 r
+  step-not-1 (step-accepted x h b w) = none-or-8-not-1 (stepping-none-or-8 w)
+
+  release-not-1 : {d : Done Answer} → Releasing t s d → d .answer ≢ refused 1
+  release-not-1 (release-refused k r) = refused-not-1 r
+  release-not-1 (release-accepted x h p) = λ q. let z = ap refusalOf q in omega arith
+
+pub sound-never-damaged : (t : Tables) → sound t ≡ true → (c : Call) → call t c .answer ≢ refused 1
+unfolding call
+sound-never-damaged t e (beginCall s c) = begin-not-1 t e s (beginning t s c)
+sound-never-damaged t e (stepCall s) = step-not-1 t e s (stepped t s)
+sound-never-damaged t e (releaseCall s) = release-not-1 t e s (releasing t s)
+
+-- ---- nor is a run, nor any of its steps
+refusal-1 : (a : Answer) → refusalOf a ≡ 1 → a ≡ refused 1
+refusal-1 (node n) e = absurd (omega arith)
+refusal-1 out e = absurd (omega arith)
+refusal-1 on e = absurd (omega arith)
+refusal-1 (wait n) e = absurd (omega arith)
+refusal-1 held e = absurd (omega arith)
+refusal-1 back e = absurd (omega arith)
+refusal-1 (refused k) e = ap refused e
+
+run-steps-not-1 : {N S : ℕ} (budget : ℕ) (t : Tables) (schedule : List ℕ) → Reached N S t → runSteps budget t schedule .answer .refusal ≢ 1
+unfolding runSteps call
+run-steps-not-1 zero t schedule r = omega arith
+run-steps-not-1 (suc budget) t [] r = omega arith
+run-steps-not-1 (suc budget) t (s ∷ rest) r =
+    branch (λ (d : Done Ran). d .answer .refusal ≢ 1) (refusalOf (step t s .answer) is 0)
+    (λ e. run-steps-not-1 budget (step t s .after) rest (called r (stepCall s)))
+    (λ e q. sound-never-damaged t (reached-sound r) (stepCall s) (refusal-1 (step t s .answer) q))
+
+pub run-not-1 : {N S : ℕ} {t : Tables} → Reached N S t → (schedule : List ℕ) (budget : ℕ) → run t schedule budget .answer .refusal ≢ 1
+unfolding run
+run-not-1 {t = t} r schedule budget = rw (reached-sound r) (run-steps-not-1 budget t schedule r)

@@ -1,0 +1,299 @@
+-- A step keeps sound shape in any sound tables, reached or not, and so do begin and release. Only the step that links own in can break
+-- a clause, and only the last one: in tables that no calls have made, own may be on the list already.
+use Prim.Native.Nat.{ℕ, _+_, _*_, _≤_, _<_}
+use mathlib.Core.Path.{_≡_, refl, sym, _∙_, subst}
+use mathlib.Core.Bool.{true, _||_}
+use mathlib.Core.Logic.{_≢_, _⊎_, inl, inr}
+use native.Mathlib.Omega.{arith}
+use lib.ListN.{length}
+use Rattle.rules.specs.Notation.{_is_}
+use Rattle.rules.specs.Tables.{Tables, beforeNodes, nodeWidth, putLink, nodeCount, seatCount, phaseAt, link, next, head, phase, own, prev, cur, setLink, setMark, setPhase, setPrev, setCur}
+use Rattle.rules.specs.Comparison.{Claim, claimOf}
+use Rattle.rules.specs.Shape.{endsWithin, sound}
+use Rattle.rules.specs.Reach.{met, listed, othersReach, free, lowestFree}
+use Rattle.rules.specs.Fetch.{Fetched, writeClaim, enterAtHead, takeNode, takenOut}
+use Rattle.rules.specs.Answers.{Answer, Done}
+use Rattle.rules.specs.Steps.{linkIn, pass, hold, withdraw, leave, refetched}
+use Rattle.rules.specs.Calls.{begun, begin, step, release}
+use Rattle.rules.proofs.Ground.Logic.{branch, or-neither, not-true, clash}
+use Rattle.rules.proofs.Laws.Words.{link-put-same, link-put-other, put-link-length, node-count}
+use Rattle.rules.proofs.Laws.Shape.{is-sound, sound-is}
+use Rattle.rules.proofs.Ground.Lowest.{lowest-has}
+use Rattle.rules.proofs.Ground.Following.{Reach, there, reach-target, ends-tail, no-circle, unlink-keeps-ends, unlink-adds-none}
+use Rattle.rules.proofs.Ground.Pigeonhole.{short}
+use Rattle.rules.proofs.Laws.Listed.{reach-met}
+use Rattle.rules.proofs.Invariant.Clauses.{Proper, Named, nothing, node, SeatShape, OnList, Ending}
+use Rattle.rules.proofs.Invariant.Known.{named-in, named-proper}
+use Rattle.rules.proofs.Invariant.SeatShapes.{not-waiting, on-its-way, at-rest as resting-seat, idle-seat}
+use Rattle.rules.proofs.Rules.Effects.{Room, only-links}
+use Rattle.rules.proofs.Ground.Deciding.{if-same}
+use Rattle.rules.proofs.Invariant.View.{seatsOf}
+use Rattle.rules.proofs.Invariant.Unlink.{relink-shape}
+use Rattle.rules.proofs.Keeping.Good.{link-in-words}
+use Rattle.rules.proofs.Rules.RuleEffects.{phase-stored, cur-stored, place-stored, start-stored, hold-stored, withdraw-stored, leave-stored, enter-stored}
+use Rattle.rules.proofs.Rules.Reasons.{Unlinking, takes-out, goes-past, Starting, as-reader, as-writer, Inserting, links-in, restarts, rereads, Walking, inserts, unlinks, passes, waits, Waking, wakes, stays, reader-holds, reader-unlinks, reader-passes, reader-waits, writer-holds, writer-unlinks, writer-passes, withdraws, Validating, validates-reader, validates-writer, Fetching, found, found-then, none, Stepping, in-1, in-2, in-3, in-4, in-6, at-rest}
+use Rattle.rules.proofs.Rules.Accepting.{Beginning, begin-refused, begin-accepted, beginning, Stepped, step-refused, step-accepted, stepped, Releasing, release-refused, release-accepted, releasing}
+use Rattle.rules.proofs.Keeping.FetchKeeps.{written}
+use Rattle.rules.proofs.Keeping.TakeOut.{taken-out-keeps}
+use Rattle.rules.proofs.Soundness.SoundShape.{SoundView, Shaped, within-ends, shaped-room, seat-moves, link-passes-over, claim-marked, claim-put, sound-shaped}
+use Rattle.rules.proofs.Soundness.SoundReached.{shaped-sound}
+
+-- ---- fetch
+-- prev while the marked nodes are taken out
+record OnWay (N S : ℕ) (t : Tables) (p : ℕ) : Type 0 where
+  shaped : Shaped N S t
+  in-table : p ≤ N
+  goes-to-end : Ending (link t) (link t p)
+  no-way-back : Reach (link t) p (link t p) → ⊥
+
+module _ {N S : ℕ} (t : Tables) (p c : ℕ) (w : OnWay N S t p) (e : link t p ≡ c) (d : c ≢ 0) where
+  pos : 0 < c
+  pos = omega arith
+
+  rest : Ending (link t) (next t c)
+  rest = let k = ends-tail (rw e at (w .goes-to-end .1)) d in (k .0, k .1)
+
+  passed-over : OnWay N S (setLink t p (next t c)) p
+  passed-over =
+      let v = next t c in
+      let u = setLink t p v in
+      let new : link u p ≡ v = link-put-same (t .nodes) p v (shaped-room (w .shaped) p (w .in-table)) in
+      let old : (a : ℕ) → a ≢ p → link u a ≡ link t a = λ a x. link-put-other (t .nodes) p a v (λ q. x (sym q)) in
+      let left = unlink-keeps-ends (link t) (link u) p c pos e new old (rest .1) in
+      record {
+        shaped = link-passes-over (w .shaped) p c (w .in-table) d e;
+        in-table = w .in-table;
+        goes-to-end = rw new (left .0, left .1);
+        no-way-back = λ r. w .no-way-back (rw e (there pos (unlink-adds-none (link t) (link u) p c pos e new old (rw new at r))));
+      }
+
+  gone-on : OnWay N S t c
+  gone-on = record {
+    shaped = w .shaped;
+    in-table = rw e at (named-in (w .shaped .view .nodes .links p));
+    goes-to-end = rest;
+    no-way-back = λ r. no-circle (rw e at (w .goes-to-end .1)) pos r;
+  }
+
+module _ {N S : ℕ} {t : Tables} (g : Shaped N S t) where
+  list-short : g .view .ends .0 ≤ nodeCount t
+  list-short =
+      rw (node-count t N (g .nodes-long))
+      (short N (λ b. named-in (g .view .nodes .links b)) (named-in (g .view .nodes .links 0)) (g .view .ends .1))
+
+  taken-out-shaped : Shaped N S (takenOut t)
+  taken-out-shaped =
+      taken-out-keeps (OnWay N S)
+      (λ t p w. shaped-room (w .shaped) p (w .in-table))
+      (λ t p w. w .no-way-back)
+      (λ t p c w e d m. passed-over t p c w e d)
+      (λ t p c w e d m. gone-on t p c w e d)
+      t
+      (record { shaped = g; in-table = omega arith; goes-to-end = g .view .ends; no-way-back = λ r. let h = reach-target r in omega arith })
+      (g .view .ends .0) (g .view .ends .1) list-short .1 .shaped
+
+  free-off-list : (s a : ℕ) → free t s a ≡ true → OnList (link t) a → ⊥
+  unfolding free listed
+  free-off-list s a e r =
+      let on = met (nodeCount t) t (head t) a in
+      clash on (reach-met t a (g .view .ends .1) (nodeCount t) list-short r) (or-neither on (othersReach t s a) (not-true (on || othersReach t s a) e) .0)
+
+  -- the claim is written first, and then the seat reads the head
+  take-shaped : (s a : ℕ) (c : Claim) → s < S → lowestFree t s ≡ a → a ≢ 0 → Proper c → Shaped N S (takeNode t s a c)
+  unfolding takeNode enterAtHead writeClaim lowestFree
+  take-shaped s a c s-in e z p =
+      let w = lowest-has (nodeCount t) (free t s) a e z in
+      let l : a ≤ N = rw (node-count t N (g .nodes-long)) at (w .1) in
+      let put = claim-put g a c z l p (free-off-list s a (w .0)) in
+      let there : Named N (claimOf (writeClaim t a c)) a = node (omega arith) l (written t a c z (shaped-room g a l) p .proper) in
+      seat-moves put (enter-stored (writeClaim t a c) s (let h = g .seats-long in omega arith) a)
+      (on-its-way (omega arith) (omega arith) (not-waiting (omega arith) (omega arith)) (omega arith) there (nothing refl) (put .view .nodes .links 0))
+
+fetch-shaped : {N S : ℕ} {t : Tables} {s : ℕ} {c : Claim} {f : Fetched} → Shaped N S t → s < S → Proper c → Fetching t s c f → Shaped N S (f .after)
+fetch-shaped {s = s} {c} g s-in p (found a e z) = take-shaped g s a c s-in e z p
+fetch-shaped {s = s} {c} g s-in p (found-then a e e′ z) = take-shaped (taken-out-shaped g) s a c s-in e′ z p
+fetch-shaped g s-in p (none e e′) = g
+
+-- ---- the other rules
+-- walking or validating
+abbrev OnFoot : ℕ → Type 0
+OnFoot P = (P ≡ 1) ⊎ (P ≡ 3)
+
+module _ {N S : ℕ} {t : Tables} (g : Shaped N S t) (s : ℕ) (s-in : s < S) (busy : phase t s ≢ 0) where
+  room : Room t s
+  room = let l = g .seats-long in omega arith
+
+  abbrev shape : SeatShape N (claimOf t) (phase t s) (own t s) (prev t s) (cur t s)
+  shape = g .view .seats s
+
+  own-pos : 0 < own t s
+  own-pos = shape .owning busy
+
+  own-proper : Proper (claimOf t (own t s))
+  own-proper = named-proper (shape .own-named) own-pos
+
+  on-foot : {P Q C : ℕ} → OnFoot P → Named N (claimOf t) Q → Named N (claimOf t) C → SeatShape N (claimOf t) P (own t s) Q C
+  on-foot p q c =
+      on-its-way
+      (elim p [ inl e ↦ omega arith | inr e ↦ omega arith ])
+      (elim p [ inl e ↦ omega arith | inr e ↦ omega arith ])
+      (not-waiting (elim p [ inl e ↦ omega arith | inr e ↦ omega arith ]) (elim p [ inl e ↦ omega arith | inr e ↦ omega arith ]))
+      own-pos (shape .own-named) q c
+
+  cur-shaped : OnFoot (phase t s) → (C : ℕ) → Named N (claimOf t) C → Shaped N S (setCur t s C)
+  cur-shaped p C c = seat-moves g (cur-stored t s room C) (on-foot p (shape .prev-named) c)
+
+  place-shaped : OnFoot (phase t s) → (Q C : ℕ) → Named N (claimOf t) Q → Named N (claimOf t) C → Shaped N S (setCur (setPrev t s Q) s C)
+  place-shaped p Q C q c = seat-moves g (place-stored t s room Q C) (on-foot p q c)
+
+  pass-shaped : OnFoot (phase t s) → Shaped N S (pass t s)
+  unfolding pass
+  pass-shaped p = place-shaped p (cur t s) (next t (cur t s)) (shape .cur-named) (g .view .nodes .links (cur t s))
+
+  wake-shaped : {P : ℕ} → OnFoot P → Shaped N S (setPhase t s P)
+  wake-shaped {P} p = seat-moves g (phase-stored t s room P) (on-foot p (shape .prev-named) (shape .cur-named))
+
+  wait-shaped : (P : ℕ) → P ≢ 0 → P ≤ 4 → cur t s ≢ 0 → Shaped N S (setPhase t s P)
+  wait-shaped P z l d =
+      seat-moves g (phase-stored t s room P) (on-its-way z l (λ p. omega arith) own-pos (shape .own-named) (shape .prev-named) (shape .cur-named))
+
+  hold-shaped : Shaped N S (hold t s)
+  unfolding hold
+  hold-shaped = seat-moves g (hold-stored t s room) (resting-seat (inl refl) own-pos (shape .own-named))
+
+  own-marked : Shaped N S (setMark t (own t s) 1)
+  own-marked = claim-marked g (own t s) (let o = own-pos in omega arith) (named-in (shape .own-named)) own-proper
+
+  withdraw-shaped : Shaped N S (withdraw t s)
+  unfolding withdraw
+  withdraw-shaped = seat-moves own-marked (withdraw-stored t s room) (resting-seat (inr refl) own-pos (own-marked .view .seats s .own-named))
+
+  leave-shaped : Shaped N S (leave t s)
+  unfolding leave
+  leave-shaped = seat-moves own-marked (leave-stored t s room) (idle-seat refl)
+
+module _ {N S : ℕ} {t : Tables} (g : Shaped N S t) (s : ℕ) (s-in : s < S) (busy : phase t s ≢ 0) where
+  unlinking-shaped : {u : Tables} → OnFoot (phase t s) → cur t s ≢ 0 → Unlinking t s u → Shaped N S u
+  unlinking-shaped p d (takes-out j) =
+      let v = next t (cur t s) in
+      let l = named-in (shape g s s-in busy .prev-named) in
+      let h = link-passes-over g (prev t s) (cur t s) l d (j .to-cur) in
+      cur-shaped h s s-in busy p v (rw (link-put-same (t .nodes) (prev t s) v (shaped-room g (prev t s) l)) at (h .view .nodes .links (prev t s)))
+  unlinking-shaped p d (goes-past e) = cur-shaped g s s-in busy p (next t (cur t s)) (g .view .nodes .links (cur t s))
+
+  -- each link is as it was, or a claim's to a claim
+  linked-ways : (a : ℕ) → (link (linkIn t s) a ≡ link t a) ⊎ (Named N (claimOf t) a × Named N (claimOf t) (link (linkIn t s) a))
+  unfolding linkIn
+  linked-ways a =
+      let h = shape g s s-in busy in
+      let o = own t s in
+      let p = prev t s in
+      let c = cur t s in
+      let own-linked = putLink (t .nodes) o c in
+      let long : beforeNodes + nodeWidth * p ≤ length own-linked = rw (put-link-length (t .nodes) o c) (shaped-room g p (named-in (h .prev-named))) in
+      if-same a p
+      (λ e. inr (rw e (h .prev-named), rw (e, link-put-same own-linked p o long) (h .own-named)))
+      (λ d. let kept = link-put-other own-linked p a o (λ e. d (sym e)) in
+      if-same a o
+      (λ e. inr (rw e (h .own-named), rw (kept, e, link-put-same (t .nodes) o c (shaped-room g o (named-in (h .own-named)))) (h .cur-named)))
+      (λ f. inl (kept ∙ link-put-other (t .nodes) o a c (λ e. f (sym e)))))
+
+  linked-shaped : Ending (link (linkIn t s)) (head (linkIn t s)) → Shaped N S (linkIn t s)
+  unfolding linkIn
+  linked-shaped e = record {
+    nodes-long = put-link-length (putLink (t .nodes) (own t s) (cur t s)) (prev t s) (own t s) ∙ put-link-length (t .nodes) (own t s) (cur t s) ∙ g .nodes-long;
+    seats-long = g .seats-long;
+    view = subst (λ n. SoundView N n (seatsOf t)) (only-links t (linkIn t s) (link-in-words t s))
+        (record { nodes = relink-shape (link (linkIn t s)) (g .view .nodes) linked-ways; seats = g .view .seats; ends = e });
+  }
+
+  starting-shaped : {u : Tables} → endsWithin (nodeCount u) u (head u) ≡ true → Starting (linkIn t s) s u → Shaped N S u
+  unfolding linkIn
+  starting-shaped {u} e (as-reader k) =
+      let h = linked-shaped (within-ends u (nodeCount u) (head u) e) in
+      seat-moves h (start-stored t s (room g s s-in busy) 3 (own t s) (next (linkIn t s) (own t s)))
+      (on-foot h s s-in busy (inr refl) (h .view .seats s .own-named) (h .view .nodes .links (own t s)))
+  starting-shaped {u} e (as-writer k) =
+      let h = linked-shaped (within-ends u (nodeCount u) (head u) e) in
+      seat-moves h (start-stored t s (room g s s-in busy) 3 0 (head (linkIn t s)))
+      (on-foot h s s-in busy (inr refl) (nothing refl) (h .view .nodes .links 0))
+
+  -- "from the head, 0 is met after at most N nodes", asked of a seat that validates
+  abbrev EndsIfLinked : Tables → Type 0
+  EndsIfLinked u = phase u s ≡ 3 → endsWithin (nodeCount u) u (head u) ≡ true
+
+  starting-phase : {u : Tables} → Starting (linkIn t s) s u → phase u s ≡ 3
+  unfolding linkIn
+  starting-phase (as-reader k) = start-stored t s (room g s s-in busy) 3 (own t s) (next (linkIn t s) (own t s)) .at-s phaseAt (omega arith)
+  starting-phase (as-writer k) = start-stored t s (room g s s-in busy) 3 0 (head (linkIn t s)) .at-s phaseAt (omega arith)
+
+  inserting-shaped : {u : Tables} → phase t s ≡ 1 → EndsIfLinked u → Inserting t s u → Shaped N S u
+  inserting-shaped e f (links-in j w) = starting-shaped (f (starting-phase w)) w
+  inserting-shaped e f (restarts j m) = place-shaped g s s-in busy (inl e) 0 (head t) (nothing refl) (g .view .nodes .links 0)
+  inserting-shaped e f (rereads j m) = cur-shaped g s s-in busy (inl e) (link t (prev t s)) (g .view .nodes .links (prev t s))
+
+  walking-shaped : {u : Tables} → phase t s ≡ 1 → EndsIfLinked u → Walking t s u → Shaped N S u
+  walking-shaped e f (inserts h w) = inserting-shaped e f w
+  walking-shaped e f (unlinks d m w) = unlinking-shaped (inl e) d w
+  walking-shaped e f (passes d m h) = pass-shaped g s s-in busy (inl e)
+  walking-shaped e f (waits d m h h′) = wait-shaped g s s-in busy 2 (omega arith) (omega arith) d
+
+  waking-shaped : {P : ℕ} {u : Tables} → OnFoot P → Waking t s P u → Shaped N S u
+  waking-shaped p (wakes m) = wake-shaped g s s-in busy p
+  waking-shaped p (stays m) = g
+
+  validating-shaped : {u : Tables} → phase t s ≡ 3 → Validating t s u → Shaped N S u
+  validating-shaped e (validates-reader k (reader-holds f)) = hold-shaped g s s-in busy
+  validating-shaped e (validates-reader k (reader-unlinks d m w)) = unlinking-shaped (inr e) d w
+  validating-shaped e (validates-reader k (reader-passes d m f)) = pass-shaped g s s-in busy (inr e)
+  validating-shaped e (validates-reader k (reader-waits d m f h)) = wait-shaped g s s-in busy 4 (omega arith) (omega arith) d
+  validating-shaped e (validates-writer k (writer-holds f)) = hold-shaped g s s-in busy
+  validating-shaped e (validates-writer k (writer-unlinks x d m w)) = unlinking-shaped (inr e) d w
+  validating-shaped e (validates-writer k (writer-passes x d m f)) = pass-shaped g s s-in busy (inr e)
+  validating-shaped e (validates-writer k (withdraws x f)) = withdraw-shaped g s s-in busy
+
+  stepping-shaped : {d : Done Answer} → (phase t s ≡ 1 → EndsIfLinked (d .after)) → Stepping t s d → Shaped N S (d .after)
+  unfolding refetched
+  stepping-shaped f (in-1 e w) = walking-shaped e (f e) w
+  stepping-shaped f (in-2 e w) = waking-shaped (inl refl) w
+  stepping-shaped f (in-3 e w) = validating-shaped e w
+  stepping-shaped f (in-4 e w) = waking-shaped (inr refl) w
+  stepping-shaped f (in-6 {f = fetched} e w) =
+      branch (λ (d : Done Answer). Shaped N S (d .after)) (fetched .node is 0)
+      (λ z. g)
+      (λ z. fetch-shaped g s-in (own-proper g s s-in busy) w)
+  stepping-shaped f (at-rest a b c d e) = g
+
+-- ---- the calls
+module _ (t : Tables) (s : ℕ) where
+  shaped-after : {u : Tables} → sound t ≡ true → Shaped (nodeCount t) (seatCount t) u → sound u ≡ true
+  shaped-after {u} e h =
+      let w = is-sound t e in
+      sound-is u (shaped-sound h (record { some-nodes = w .some-nodes; few-nodes = w .few-nodes; some-seats = w .some-seats; few-seats = w .few-seats }))
+
+  step-sound : {d : Done Answer} → sound t ≡ true → (phase t s ≡ 1 → phase (d .after) s ≡ 3 → endsWithin (nodeCount (d .after)) (d .after) (head (d .after)) ≡ true) → Stepped t s d → sound (d .after) ≡ true
+  step-sound e f (step-refused number r) = e
+  step-sound e f (step-accepted y h b w) = shaped-after e (stepping-shaped (sound-shaped (is-sound t e)) s h b f w)
+
+  pub step-keeps-sound : sound t ≡ true
+      → (phase t s ≡ 1 → phase (step t s .after) s ≡ 3 → endsWithin (nodeCount (step t s .after)) (step t s .after) (head (step t s .after)) ≡ true)
+      → sound (step t s .after) ≡ true
+  step-keeps-sound e f = step-sound e f (stepped t s)
+
+  begin-sound : {c : Claim} {d : Done Answer} → sound t ≡ true → Beginning t s c d → sound (d .after) ≡ true
+  unfolding begun
+  begin-sound e (begin-refused number r) = e
+  begin-sound e (begin-accepted {f = f} y h p z w) =
+      branch (λ (d : Done Answer). sound (d .after) ≡ true) (f .node is 0)
+      (λ q. e)
+      (λ q. shaped-after e (fetch-shaped (sound-shaped (is-sound t e)) h p w))
+
+  pub begin-keeps-sound : (c : Claim) → sound t ≡ true → sound (begin t s c .after) ≡ true
+  begin-keeps-sound c e = begin-sound e (beginning t s c)
+
+  release-sound : {d : Done Answer} → sound t ≡ true → Releasing t s d → sound (d .after) ≡ true
+  release-sound e (release-refused number r) = e
+  release-sound e (release-accepted y h p) = shaped-after e (leave-shaped (sound-shaped (is-sound t e)) s h (omega arith))
+
+  pub release-keeps-sound : sound t ≡ true → sound (release t s .after) ≡ true
+  release-keeps-sound e = release-sound e (releasing t s)

@@ -1,0 +1,100 @@
+-- What has sound shape in the theory's words, within the bounds, passes the test `sound`. Good tables have it, and so every table that is
+-- reached.
+use Prim.Native.Nat.{ℕ, zero, suc, _≤_}
+use mathlib.Core.Path.{_≡_, refl}
+use mathlib.Core.Bool.{true}
+use mathlib.Core.Logic.{_≢_, _⊎_, inl, inr}
+use native.Mathlib.Omega.{arith}
+use Rattle.rules.specs.Notation.{_is_}
+use Rattle.rules.specs.Tables.{Tables, nodeCount, link, next}
+use Rattle.rules.specs.Shape.{endsWithin, sound}
+use Rattle.rules.specs.Reached.{Reached, cleared, called, afterRun}
+use Rattle.rules.proofs.Ground.Logic.{or-right}
+use Rattle.rules.proofs.Laws.Shape.{Names, ZeroNode, ClaimNode, SeatSound, Sound, sound-is}
+use Rattle.rules.proofs.Laws.Words.{node-count, seat-count}
+use Rattle.rules.proofs.Ground.Following.{Ends, stop, more}
+use Rattle.rules.proofs.Ground.Pigeonhole.{short}
+use Rattle.rules.proofs.Invariant.View.{nodesOf, claimAt}
+use Rattle.rules.proofs.Invariant.Clauses.{Named, nothing, node}
+use Rattle.rules.proofs.Invariant.Known.{known-head, known-ends, named-in}
+use Rattle.rules.proofs.Keeping.Good.{Good}
+use Rattle.rules.proofs.Soundness.SoundShape.{Shaped}
+use Rattle.rules.proofs.Keeping.CallKeeps.{good}
+
+ends-within : (t : Tables) {a k : ℕ} → Ends (link t) a k → (h : ℕ) → k ≤ h → endsWithin h t a ≡ true
+unfolding endsWithin
+ends-within t stop zero l = refl
+ends-within t stop (suc h) l = refl
+ends-within t (more p e) zero l = absurd (omega arith)
+ends-within t (more {a = a} p e) (suc h) l = or-right (a is 0) (endsWithin h t (next t a)) (ends-within t e h (omega arith))
+
+-- "N is 1 to 256", "S is 1 to 64"
+pub record Bounds (N S : ℕ) : Type 0 where
+  pub some-nodes : 1 ≤ N
+  pub few-nodes : N ≤ 256
+  pub some-seats : 1 ≤ S
+  pub few-seats : S ≤ 64
+
+pub bounds : {N S : ℕ} {t : Tables} → Reached N S t → Bounds N S
+bounds (cleared a b c d) = record { some-nodes = a; few-nodes = b; some-seats = c; few-seats = d }
+bounds (called r c) = bounds r
+bounds (afterRun r schedule budget) = bounds r
+
+module _ {N S : ℕ} {t : Tables} (g : Shaped N S t) where
+  count : nodeCount t ≡ N
+  count = node-count t N (g .nodes-long)
+
+  names : {a : ℕ} → Named N (claimAt (nodesOf t)) a → Names t a
+  names (nothing e) = inl e
+  names (node p l c) = inr (rw count l, c .reads-or-writes)
+
+  node-shape : (a : ℕ) → a ≢ 0 → ZeroNode t a ⊎ ClaimNode t a
+  node-shape a z = elim (g .view .nodes .blank-or-proper a (omega arith)) [
+    | inl b ↦ inl (record { start-zero = b .start-0; end-zero = b .end-0; kind-zero = b .kind-0; next-zero = b .link-0; mark-zero = b .mark-0 })
+    | inr c ↦ inr (record {
+      a-kind = c .reads-or-writes;
+      some = c .some;
+      next-small = rw count (named-in (g .view .nodes .links a));
+      mark-small = g .view .nodes .marks a;
+    })
+  ]
+
+  seat-shape : (s : ℕ) → SeatSound t s
+  seat-shape s = let h = g .view .seats s in record {
+    phase-small = h .is-phase;
+    idle = h .idle;
+    owning = λ b. let o = h .owning b in omega arith;
+    resting = h .resting;
+    waiting = λ p. let c = h .at-cur p in omega arith;
+    own-names = names (h .own-named);
+    prev-names = names (h .prev-named);
+    cur-names = names (h .cur-named);
+  }
+
+  pub shaped-sound : Bounds N S → Sound t
+  shaped-sound b =
+      let seats = seat-count t S (g .seats-long) in
+      let ends = g .view .ends in
+      let few = short N (λ a. named-in (g .view .nodes .links a)) (named-in (g .view .nodes .links 0)) (ends .1) in
+      record {
+        nodes-length = rw count (g .nodes-long);
+        some-nodes = rw count (b .some-nodes);
+        few-nodes = rw count (b .few-nodes);
+        seats-length = rw seats (g .seats-long);
+        some-seats = rw seats (b .some-seats);
+        few-seats = rw seats (b .few-seats);
+        node = λ a z l. node-shape a z;
+        link-names = λ a. names (g .view .nodes .links a);
+        seat = seat-shape;
+        ends = ends-within t (ends .1) (nodeCount t) (rw count few);
+      }
+
+pub good-sound : {N S : ℕ} {t : Tables} → Good N S t → Bounds N S → Sound t
+good-sound g = shaped-sound (record {
+  nodes-long = g .nodes-long;
+  seats-long = g .seats-long;
+  view = record { nodes = g .inv .nodes; seats = g .inv .seats; ends = known-ends (g .inv) known-head };
+})
+
+pub reached-sound : {N S : ℕ} {t : Tables} → Reached N S t → sound t ≡ true
+reached-sound {t = t} r = sound-is t (good-sound (good r) (bounds r))

@@ -1,0 +1,122 @@
+-- What it means to be at rest: a step changes nothing, and whoever waits has a cause.
+use Prim.Native.Nat.{ℕ, _<_}
+use mathlib.Core.Path.{_≡_, sym, ap, _∙_}
+use mathlib.Core.Logic.{_≢_, _⊎_, inl, inr}
+use native.Mathlib.Omega.{arith}
+use native.Mathlib.Decide.{decLe}
+use borrow.Author.Tests.{ne-eqb}
+use Rattle.rules.specs.Tables.{Tables, start, kind, mark, link, phase, own, cur}
+use Rattle.rules.specs.Comparison.{Claim, claimOf}
+use Rattle.rules.specs.Reach.{lowestFree}
+use Rattle.rules.specs.Fetch.{takenOut, fetch, fetchAgain}
+use Rattle.rules.specs.Answers.{refused, done}
+use Rattle.rules.specs.Steps.{waitingToEnter, readerWaiting, refetched}
+use Rattle.rules.specs.Calls.{step}
+use Rattle.rules.specs.Apart.{Covers}
+use Rattle.rules.specs.Cause.{Cause, Settled, holds, waits, no-node}
+use Rattle.rules.proofs.Laws.Words.{seat-count}
+use Rattle.rules.proofs.Ground.Following.{here}
+use Rattle.rules.proofs.Laws.Compared.{Precedes, apart, readers}
+use Rattle.rules.proofs.Invariant.View.{seatsOf, waiting, reader-waiting}
+use Rattle.rules.proofs.Invariant.Phases.{linked-busy}
+use Rattle.rules.proofs.Invariant.Clauses.{Proper, Seen, from-cur}
+use Rattle.rules.proofs.Invariant.Known.{seen-proper, own-proper, hidden}
+use Rattle.rules.proofs.Rules.Reasons.{by-phase-2, by-phase-4, by-phase-5, by-phase-6}
+use Rattle.rules.proofs.Keeping.Good.{Good}
+use Rattle.rules.proofs.Keeping.Hops.{is-listed, busy-in}
+use Rattle.rules.proofs.Soundness.SoundReached.{Bounds}
+use Rattle.rules.proofs.Waiting.Alone.{AtRest, rests-holding, rests-waiting, rests-refused, accepted}
+
+-- ---- two claims that clash share a frame, and one of them writes
+record Shared (c o : Claim) : Type 0 where
+  frame : ℕ
+  in-c : Covers c frame
+  in-o : Covers o frame
+  writes : (o .kind ≡ 2) ⊎ (c .kind ≡ 2)
+
+clash-shares : {c o : Claim} → Proper c → Proper o → (Precedes c o → ⊥) → (Precedes o c → ⊥) → Shared c o
+clash-shares {c} {o} pc po f g =
+    let a : o .start < c .end = elim (decLe (c .end) (o .start)) [ yes h ↦ absurd (f (apart h)) | no h ↦ omega arith ] in
+    let b : c .start < o .end = elim (decLe (o .end) (c .start)) [ yes h ↦ absurd (g (apart h)) | no h ↦ omega arith ] in
+    let later = decLe (c .start) (o .start) in
+    let one-writes : (o .kind ≡ 2) ⊎ (c .kind ≡ 2) =
+    elim (po .reads-or-writes) [
+      | inr k ↦ inl k
+      | inl k ↦ elim (pc .reads-or-writes) [
+        | inr l ↦ inr l
+        | inl l ↦ absurd (elim later [ yes h ↦ f (readers l k h) | no h ↦ g (readers k l (omega arith)) ])
+      ]
+    ] in
+    elim later [
+      | yes h ↦ record { frame = o .start; in-c = (h, a); in-o = (let z = po .some in omega arith); writes = one-writes }
+      | no h ↦ record { frame = c .start; in-c = (let z = pc .some in omega arith); in-o = omega arith; writes = one-writes }
+    ]
+
+-- ---- a step changes nothing
+stays-waiting : (t : Tables) (s : ℕ) → mark t (cur t s) ≢ 1 → waitingToEnter t s ≡ t
+unfolding waitingToEnter
+stays-waiting t s m = rw (ne-eqb (mark t (cur t s)) 1 m)
+
+stays-reader-waiting : (t : Tables) (s : ℕ) → mark t (cur t s) ≢ 1 → readerWaiting t s ≡ t
+unfolding readerWaiting
+stays-reader-waiting t s m = rw (ne-eqb (mark t (cur t s)) 1 m)
+
+stays-withdrawn : (t : Tables) (s : ℕ) (c : Claim) → lowestFree t s ≡ 0 → lowestFree (takenOut t) s ≡ 0 → refetched t s (fetch t s c) ≡ done (refused 8) t
+unfolding refetched fetch fetchAgain
+stays-withdrawn t s c e e′ = rw (e, e′)
+
+module _ {N S : ℕ} (b : Bounds N S) (s : ℕ) (s-in : s < S) {t : Tables} (g : Good N S t) where
+  refused-8 : phase t s ≡ 6 → lowestFree t s ≡ 0 → lowestFree (takenOut t) s ≡ 0 → step t s ≡ done (refused 8) t
+  refused-8 p e e′ = accepted b s s-in g (omega arith) ∙ by-phase-6 t s p ∙ stays-withdrawn t s (claimOf t (own t s)) e e′
+
+  pub rest-stays : AtRest s t → step t s .after ≡ t
+  rest-stays (rests-holding p) = rw (accepted b s s-in g (omega arith), by-phase-5 t s p)
+  rest-stays (rests-waiting (inl p) m) = rw (accepted b s s-in g (omega arith), by-phase-2 t s p) (stays-waiting t s m)
+  rest-stays (rests-waiting (inr p) m) = rw (accepted b s s-in g (omega arith), by-phase-4 t s p) (stays-reader-waiting t s m)
+  rest-stays (rests-refused p e e′) = rw (refused-8 p e e′)
+
+  -- ---- and whoever waits has a cause: the claim at cur stands, so it has an owner
+  module _ (m : mark t (cur t s) ≢ 1) (pos : 0 < cur t s) where
+    seen : Seen (link t) (seatsOf t) (cur t s)
+    seen = from-cur s (here pos)
+
+    cause : (f : ℕ) → Covers (claimOf t (own t s)) f → Covers (claimOf t (cur t s)) f
+        → (kind t (own t s) ≡ 2) ⊎ (kind t (cur t s) ≡ 2) → own t s ≢ cur t s → Cause t s
+    cause f co cc w d =
+        let on = g .inv .seen-listed seen m in
+        let o = g .inv .owner on m in
+        record {
+          seat = o .seat;
+          is-seat = rw (seat-count t S (g .seats-long)) (busy-in g (o .seat) (linked-busy (o .linked)));
+          other = λ e. d (ap (own t) (sym e) ∙ o .owns);
+          theirs = o .owns;
+          stands = (is-listed g on, ne-eqb (mark t (cur t s)) 1 m);
+          frame = f;
+          covered = co;
+          covered-by-theirs = cc;
+          one-writes = w;
+        }
+
+  cause-2 : phase t s ≡ 2 → mark t (cur t s) ≢ 1 → Cause t s
+  cause-2 p m =
+      let pos = g .inv .seats s .at-cur (inl p) in
+      let k = g .inv .stuck s .at-2 p in
+      let w = clash-shares (seen-proper (g .inv) (seen m pos)) (own-proper (g .inv) s (omega arith)) (k .0) (k .1) in
+      cause m pos (w .frame) (w .in-o) (w .in-c) (w .writes) (λ e. hidden (g .inv) {i = s} (waiting p) (rw e (seen m pos)))
+
+  cause-4 : phase t s ≡ 4 → mark t (cur t s) ≢ 1 → Cause t s
+  cause-4 p m =
+      let pos = g .inv .seats s .at-cur (inr p) in
+      let k = g .inv .stuck s .at-4 p in
+      let theirs = seen-proper (g .inv) (seen m pos) in
+      let h = g .inv .reader-cur s (reader-waiting p) (k .0) pos in
+      let some = theirs .some in
+      cause m pos (start t (cur t s)) (h, k .2) (omega arith)
+      (inr (elim (theirs .reads-or-writes) [ inl z ↦ absurd (k .1 z) | inr z ↦ z ]))
+      (λ e. k .1 (ap (kind t) (sym e) ∙ k .0))
+
+  pub rest-settled : AtRest s t → Settled t s
+  rest-settled (rests-holding p) = holds p
+  rest-settled (rests-waiting (inl p) m) = waits (inl p) (cause-2 p m)
+  rest-settled (rests-waiting (inr p) m) = waits (inr p) (cause-4 p m)
+  rest-settled (rests-refused p e e′) = no-node p (rw (refused-8 p e e′)) e e′
