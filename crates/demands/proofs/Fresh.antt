@@ -1,23 +1,89 @@
--- What an accepted clear leaves is a fresh table of as many nodes and seats as the lengths give.
-use Prim.Native.Nat.{ℕ}
-use mathlib.Core.Path.{_≡_, refl, sym, ap, subst}
+-- What the library's calls did is what the rules say, so lent tables are reached tables of the rules.
+use Prim.Native.Nat.{ℕ, _/_}
+use mathlib.Core.Path.{_≡_, refl, sym, ap, subst, _∙_}
 use mathlib.Core.Bool.{Bool, true, false, not}
+use mathlib.Core.List.{List}
+use mathlib.Core.Logic.{_≢_}
+use lib.ListN.{length}
 use native.Mathlib.Omega.{arith}
 use Rattle.rules.specs.Notation.{if_then_else_}
 use Rattle.rules.specs.Tables.{Tables, fresh, nodeCount, seatCount}
-use Rattle.rules.specs.Shape.{lengthsFit}
-use Rattle.rules.specs.Answers.{Done, done}
+use Rattle.rules.specs.Shape.{lengthsFit, sound}
+use Rattle.rules.specs.Answers.{Answer, Done, done}
 use Rattle.rules.specs.Calls.{clear}
-use Rattle.rules.specs.Reached.{Reached, cleared}
+use Rattle.rules.specs.FreeCount.{Counted, freeCount}
+use Rattle.rules.specs.Board.{Boarded, Shown, shown, rowWidth, boardNumbers}
+use Rattle.rules.specs.Run.{run}
+use Rattle.rules.specs.Play.{Call, stepCall, call}
+use Rattle.rules.specs.Reached.{Request, afterRequest, afterRequests, Reached, cleared, asked}
+use Rattle.rules.specs.Cause.{stepTimes}
+use Rattle.rules.specs.declared.Ran.{Ran}
+use Rattle.rules.specs.Refusing.{tables-damaged, BoardRefuses, board-damaged}
+use Rattle.rules.proofs.Refusing.{count-only, numbers-only}
+use Rattle.rules.proofs.Ground.Logic.{clash}
 use Rattle.rules.proofs.Laws.Shape.{lengths-fit}
+use Rattle.demands.proofs.Made.{ClearMade, clear-made, CallMade, begin-made, step-made, release-made, RunMade, run-made, CountMade, count-made, BoardMade, board-made, RequestMade, a-call, a-run, RequestsMade, no-more, first, StepsMade, no-step, a-step, Lent, lent}
 
+-- ---- each call is its rule
+pub made-clear : {t u : Tables} {r : ℕ} → ClearMade t r u → done r u ≡ clear t
+made-clear (clear-made κs args r end p) = p
+
+pub made-call : {t u : Tables} {c : Call} {a : Answer} → CallMade t c a u → done a u ≡ call t c
+unfolding call
+made-call (begin-made κs args r end p) = p
+made-call (step-made κs args r end p) = p
+made-call (release-made κs args r end p) = p
+
+pub made-run : {t u : Tables} {schedule : List ℕ} {budget : ℕ} {r : Ran} → RunMade t schedule budget r u → done r u ≡ run t schedule budget
+made-run (run-made κs args r end p) = p
+
+pub made-count : {t : Tables} {a : Counted} → CountMade t a → a ≡ freeCount t
+made-count (count-made κs args r end p) = p
+
+pub made-board : {t : Tables} {rows after : List ℕ} {a : Boarded} → BoardMade t rows a after → shown a after ≡ boardNumbers t rows
+made-board (board-made κs args r end p) = p
+
+-- ---- and so are requests one after the other, and steps of one seat
+pub made-request : {t u : Tables} {r : Request} → RequestMade t r u → u ≡ afterRequest t r
+made-request (a-call m) = ap (λ (d : Done Answer). d .after) (made-call m)
+made-request (a-run m) = ap (λ (d : Done Ran). d .after) (made-run m)
+
+pub made-requests : {t u : Tables} {requests : List Request} → RequestsMade t requests u → u ≡ afterRequests t requests
+unfolding afterRequests
+made-requests no-more = refl
+made-requests (first {rest = rest} m more) = made-requests more ∙ ap (λ u. afterRequests u rest) (made-request m)
+
+pub made-steps : {s k : ℕ} {t u : Tables} → StepsMade s k t u → u ≡ stepTimes k t s
+unfolding stepTimes call
+made-steps no-step = refl
+made-steps {s} (a-step {k = k} m more) = made-steps more ∙ ap (λ u. stepTimes k u s) (ap (λ (d : Done Answer). d .after) (made-call m))
+
+-- ---- what an accepted clear leaves is a fresh table of as many nodes and seats as the lengths give
 reached-fresh : (t : Tables) → lengthsFit t ≡ true → Reached (nodeCount t) (seatCount t) (fresh (nodeCount t) (seatCount t))
 reached-fresh t e = let fit = lengths-fit t e in cleared (fit .some-nodes) (fit .few-nodes) (fit .some-seats) (fit .few-seats)
 
-pub cleared-fresh : (t u : Tables) (r : ℕ) → done r u ≡ clear t → r ≡ 0 → Reached (nodeCount t) (seatCount t) u
+cleared-fresh : (t u : Tables) → done {A = ℕ} 0 u ≡ clear t → Reached (nodeCount t) (seatCount t) u
 unfolding clear
-cleared-fresh t u r p e = go (lengthsFit t) refl p
+cleared-fresh t u p = go (lengthsFit t) refl p
   where
-    go : (b : Bool) → lengthsFit t ≡ b → done r u ≡ (if not b then done 1 t else done 0 (fresh (nodeCount t) (seatCount t))) → Reached (nodeCount t) (seatCount t) u
+    go : (b : Bool) → lengthsFit t ≡ b → done {A = ℕ} 0 u ≡ (if not b then done 1 t else done 0 (fresh (nodeCount t) (seatCount t))) → Reached (nodeCount t) (seatCount t) u
     go true f q = subst (Reached (nodeCount t) (seatCount t)) (sym (ap (λ (d : Done ℕ). d .after) q)) (reached-fresh t f)
-    go false f q = let z : r ≡ 1 = ap (λ (d : Done ℕ). d .answer) q in absurd (omega arith)
+    go false f q = let z : _≡_ {A = ℕ} 0 1 = ap (λ (d : Done ℕ). d .answer) q in absurd (omega arith)
+
+requests-reach : {N S : ℕ} {t u : Tables} {requests : List Request} → Reached N S t → RequestsMade t requests u → Reached N S u
+requests-reach r no-more = r
+requests-reach {N} {S} r (first {r = request} m more) = requests-reach (subst (Reached N S) (sym (made-request m)) (asked r request)) more
+
+pub lent-reached : {N S : ℕ} {t : Tables} → Lent N S t → Reached N S t
+lent-reached (lent {t} {u} c more) = requests-reach (cleared-fresh t u (made-clear c)) more
+
+-- ---- free count and board on sound tables are not refused 1
+pub count-not-1 : {t : Tables} {a : Counted} → sound t ≡ true → CountMade t a → a ≢ Counted.refused 1
+count-not-1 {t} e m q = elim (count-only t 1 (sym (made-count m) ∙ q)) [ tables-damaged f ↦ clash (sound t) e f ]
+
+pub board-not-1 : {t : Tables} {rows after : List ℕ} {a : Boarded} → sound t ≡ true → BoardMade t rows a after → a ≢ Boarded.refused 1
+board-not-1 {t} {rows} e m q =
+    not-damaged (numbers-only t rows 1 (sym (ap (λ (x : Shown ℕ). x .answer) (made-board m)) ∙ q))
+  where
+    not-damaged : BoardRefuses t (length rows / rowWidth) 1 → ⊥
+    not-damaged (board-damaged f) = clash (sound t) e f

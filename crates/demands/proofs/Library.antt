@@ -1,86 +1,102 @@
--- The demands, of the library: tables that were cleared once by its clear and changed since only by its calls are reached tables of the
--- rules, so that what is proved of those holds of them. What a call did is given by its promise, as the checker reads it from the source:
--- `args` is what it was lent and told, `r` its answer, `end` what the lent tables hold when it returns.
-use Prim.Native.Nat.{ℕ, _+_, _*_, _≤_}
-use mathlib.Core.Path.{_≡_, sym, ap, subst}
+-- The demands, of the library: what is proved of the rules, of the library's own promises. The words are those of Made and of the rules'
+-- specs/Refusing.antt, Apart.antt and Cause.antt; each proof cites what stands at the door of the rules' proofs.
+use Prim.Native.Nat.{ℕ, _+_, _*_}
+use mathlib.Core.Path.{_≡_, sym, ap, subst, _∙_}
 use mathlib.Core.Bool.{true}
-use mathlib.Core.Logic.{_≢_}
-use lib.ListN.{replicate}
-use borrow.Fn.Kinds.{Dens, resT, endedOf}
-use contract.Lifetimes.{Lfts}
-use denote.Ref.{now}
-use denote.Triple.Clauses.{AtExit}
-use Rattle.rules.specs.Tables.{Tables, tables, nodeCount, seatCount, start, phase}
-use Rattle.rules.specs.Comparison.{claim}
+use mathlib.Core.List.{List}
+use mathlib.Core.Logic.{_≢_, _⊎_}
+use Rattle.rules.specs.Tables.{Tables, start, phase, own}
 use Rattle.rules.specs.Shape.{sound}
 use Rattle.rules.specs.Reach.{listOf}
-use Rattle.rules.specs.Answers.{Answer, Done, done}
-use Rattle.rules.specs.Calls.{clear, begin, step, release}
-use Rattle.rules.specs.Run.{run}
-use Rattle.rules.specs.Play.{Call, beginCall, stepCall, releaseCall, call}
-use Rattle.rules.specs.Reached.{Reached, cleared, called, afterRun}
-use Rattle.rules.specs.Apart.{Covers, claimOfSeat, Holds, Rising}
-use Rattle.rules.specs.Cause.{Settled}
+use Rattle.rules.specs.Answers.{Answer, wait, refused, Done, done}
+use Rattle.rules.specs.Calls.{step}
+use Rattle.rules.specs.FreeCount.{Counted}
+use Rattle.rules.specs.Board.{Boarded, Shown}
+use Rattle.rules.specs.Play.{Call, stepCall, call}
+use Rattle.rules.specs.Reached.{Request}
+use Rattle.rules.specs.Refusing.{Refuses}
+use Rattle.rules.specs.Apart.{Covers, claimOfSeat, Holds, LinkedIn, Stands, OfOneSeat, Rising, IsItsSteps, Stops, GivenUp, callsMade, StillStands}
+use Rattle.rules.specs.Cause.{Cause, Settled, Told}
 use Rattle.rules.specs.declared.Ran.{Ran}
-use Rattle.rules.proofs.Apart.{apart, ordered, always-sound}
-use Rattle.rules.proofs.Cause.{run-settles}
-use Rattle.claims.proofs.clear.Reads as clearing
-use Rattle.claims.proofs.clear.Kinds as clear-kinds
-use Rattle.claims.proofs.begin.Reads as beginning
-use Rattle.claims.proofs.begin.Kinds as begin-kinds
-use Rattle.claims.proofs.step.Reads as stepping
-use Rattle.claims.proofs.step.Kinds as step-kinds
-use Rattle.claims.proofs.release.Reads as releasing
-use Rattle.claims.proofs.release.Kinds as release-kinds
-use Rattle.run.proofs.run.Reads as running
-use Rattle.run.proofs.run.Kinds as run-kinds
-use Rattle.demands.proofs.Fresh.{cleared-fresh}
+use Rattle.rules.proofs.Refusing as refusing
+use Rattle.rules.proofs.Apart as apart
+use Rattle.rules.proofs.Cause as cause
+use Rattle.demands.proofs.Made.{CallMade, RunMade, CountMade, BoardMade, RequestsMade, StepsMade, Lent}
+use Rattle.demands.proofs.Fresh.{made-call, made-run, made-requests, made-steps, count-not-1, board-not-1, lent-reached}
 
--- tables of N nodes and S seats as the library's calls leave them: cleared first, and then any calls, refused ones among them
-pub data Lent : ℕ → ℕ → Tables → Type 0 where
-  after-clear : (κs : Lfts 2) (args : Dens κs clear-kinds.ps) (r : resT clear-kinds.r κs .Denot) (end : AtExit (endedOf 2 clear-kinds.ps clear-kinds.r) κs)
-      → clearing.Post κs args r end → r ≡ 0
-      → Lent (nodeCount (tables (now (args .0)) (now (args .1 .0)))) (seatCount (tables (now (args .0)) (now (args .1 .0)))) (tables (now (end .0)) (now (end .1 .0)))
-  after-begin : {N S : ℕ} (κs : Lfts 2) (args : Dens κs begin-kinds.ps) (r : resT begin-kinds.r κs .Denot) (end : AtExit (endedOf 2 begin-kinds.ps begin-kinds.r) κs)
-      → Lent N S (tables (now (args .0)) (now (args .1 .0))) → beginning.Post κs args r end → Lent N S (tables (now (end .0)) (now (end .1 .0)))
-  after-step : {N S : ℕ} (κs : Lfts 2) (args : Dens κs step-kinds.ps) (r : resT step-kinds.r κs .Denot) (end : AtExit (endedOf 2 step-kinds.ps step-kinds.r) κs)
-      → Lent N S (tables (now (args .0)) (now (args .1 .0))) → stepping.Post κs args r end → Lent N S (tables (now (end .0)) (now (end .1 .0)))
-  after-release : {N S : ℕ} (κs : Lfts 2) (args : Dens κs release-kinds.ps) (r : resT release-kinds.r κs .Denot) (end : AtExit (endedOf 2 release-kinds.ps release-kinds.r) κs)
-      → Lent N S (tables (now (args .0)) (now (args .1 .0))) → releasing.Post κs args r end → Lent N S (tables (now (end .0)) (now (end .1 .0)))
-  after-run : {N S : ℕ} (κs : Lfts 3) (args : Dens κs run-kinds.ps) (r : resT run-kinds.r κs .Denot) (end : AtExit (endedOf 3 run-kinds.ps run-kinds.r) κs)
-      → Lent N S (tables (now (args .0)) (now (args .1 .0))) → running.Post κs args r end → Lent N S (tables (now (end .0)) (now (end .1 .0)))
+-- ---- demand 1, of any tables: a call is refused exactly where the table of refusals says, and a refused one leaves the tables as found
+pub refused-only : {t u : Tables} {c : Call} {k : ℕ} → CallMade t c (refused k) u → Refuses t c k × (u ≡ t)
+refused-only {t} {u} {c} {k} m =
+    let q : call t c .answer ≡ refused k = sym (ap (λ (d : Done Answer). d .answer) (made-call m)) in
+    (refusing.refused-only t c k q, ap (λ (d : Done Answer). d .after) (made-call m) ∙ refusing.refused-changes-nothing t c k q)
 
--- ---- they are reached tables of the rules
-made : {N S : ℕ} (t u : Tables) (c : Call) (a : Answer) → done a u ≡ call t c → Reached N S t → Reached N S u
-made {N} {S} t u c a p r = subst (Reached N S) (sym (ap (λ (d : Done Answer). d .after) p)) (called r c)
+pub refused-there : {t u : Tables} {c : Call} {a : Answer} {k : ℕ} → Refuses t c k → CallMade t c a u → (a ≡ refused k) × (u ≡ t)
+refused-there {t} {u} {c} {a} {k} r m =
+    let e : done a u ≡ done (refused k) t = made-call m ∙ refusing.refused-there t c k r in
+    (ap (λ (d : Done Answer). d .answer) e, ap (λ (d : Done Answer). d .after) e)
 
-pub lent-reached : {N S : ℕ} {t : Tables} → Lent N S t → Reached N S t
-unfolding call
-lent-reached (after-clear κs args r end p e) = cleared-fresh (tables (now (args .0)) (now (args .1 .0))) (tables (now (end .0)) (now (end .1 .0))) r p e
-lent-reached (after-begin κs args r end l p) =
-    made (tables (now (args .0)) (now (args .1 .0))) (tables (now (end .0)) (now (end .1 .0))) (beginCall (args .1 .1 .0) (claim (args .1 .1 .1 .0) (args .1 .1 .1 .1 .0) (args .1 .1 .1 .1 .1 .0))) _ p (lent-reached l)
-lent-reached (after-step κs args r end l p) =
-    made (tables (now (args .0)) (now (args .1 .0))) (tables (now (end .0)) (now (end .1 .0))) (stepCall (args .1 .1 .0)) _ p (lent-reached l)
-lent-reached (after-release κs args r end l p) =
-    made (tables (now (args .0)) (now (args .1 .0))) (tables (now (end .0)) (now (end .1 .0))) (releaseCall (args .1 .1 .0)) _ p (lent-reached l)
-lent-reached {N} {S} (after-run κs args r end l p) =
-    subst (Reached N S) (sym (ap (λ (d : Done Ran). d .after) p)) (afterRun (lent-reached l) (now (args .1 .1 .0)) (args .1 .1 .1 .0))
+-- ---- a run, of any tables: it is its steps, and on sound tables it stops at the end, when the budget is used, or at the first refused entry
+pub run-is-steps : {t u : Tables} {schedule : List ℕ} {budget : ℕ} {r : Ran} → RunMade t schedule budget r u → IsItsSteps t schedule budget (done r u)
+run-is-steps {t} {schedule = schedule} {budget} m = rw (made-run m) (apart.run-is-steps t schedule budget)
 
--- ---- so no two holders of lent tables share a frame unless both read, the list is in order, and the tables are never damaged
-pub lent-apart : {N S : ℕ} {t : Tables} → Lent N S t → (i j frame : ℕ) → i ≢ j → Holds t i → Holds t j
-    → Covers (claimOfSeat t i) frame → Covers (claimOfSeat t j) frame → (claimOfSeat t i .kind ≡ 1) × (claimOfSeat t j .kind ≡ 1)
-lent-apart l = apart (lent-reached l)
+pub run-stops : {t u : Tables} {schedule : List ℕ} {budget : ℕ} {r : Ran} → sound t ≡ true → RunMade t schedule budget r u → Stops schedule budget (done r u)
+run-stops {t} {schedule = schedule} {budget} e m = rw (made-run m) (apart.run-stops t schedule budget e)
 
-pub lent-ordered : {N S : ℕ} {t : Tables} → Lent N S t → Rising (start t) (listOf t)
-lent-ordered l = ordered (lent-reached l)
+-- ---- demand 2, of tables that the library cleared and that only its calls have changed since
+module _ {N S : ℕ} {t : Tables} (l : Lent N S t) where
+  -- two holders share a frame only if both read
+  pub holders-apart : (i j frame : ℕ) → i ≢ j → Holds t i → Holds t j → Covers (claimOfSeat t i) frame → Covers (claimOfSeat t j) frame
+      → (claimOfSeat t i .kind ≡ 1) × (claimOfSeat t j .kind ≡ 1)
+  holders-apart = apart.apart (lent-reached l)
 
-pub lent-sound : {N S : ℕ} {t : Tables} → Lent N S t → sound t ≡ true
-lent-sound l = always-sound (lent-reached l)
+  -- the list is ordered by first frame
+  pub ordered : Rising (start t) (listOf t)
+  ordered = apart.ordered (lent-reached l)
 
--- ---- and a run of 6·N + 8 entries of one seat with a claim, and a budget as large, settles it
-pub lent-settles : {N S : ℕ} (κs : Lfts 3) (args : Dens κs run-kinds.ps) (r : resT run-kinds.r κs .Denot) (end : AtExit (endedOf 3 run-kinds.ps run-kinds.r) κs) (s : ℕ)
-    → Lent N S (tables (now (args .0)) (now (args .1 .0))) → running.Post κs args r end → now (args .1 .1 .0) ≡ replicate (6 * N + 8) s → 6 * N + 8 ≤ args .1 .1 .1 .0
-    → phase (tables (now (args .0)) (now (args .1 .0))) s ≢ 0 → Settled (tables (now (end .0)) (now (end .1 .0))) s
-lent-settles κs args r end s l p e b d =
-    let u = ap (λ (x : Done Ran). x .after) p in
-    rw (u, e) (run-settles (lent-reached l) s d (args .1 .1 .1 .0) b)
+  -- linked claims stand on it, on nodes that differ, and nothing else stands there
+  pub linked-claims-stand : (s : ℕ) → LinkedIn t s → Stands t (own t s)
+  linked-claims-stand = apart.linked-claims-stand (lent-reached l)
+
+  pub nodes-differ : (i j : ℕ) → i ≢ j → phase t i ≢ 0 → phase t j ≢ 0 → own t i ≢ own t j
+  nodes-differ = apart.nodes-differ (lent-reached l)
+
+  pub stands-for-one-seat : (a : ℕ) → Stands t a → OfOneSeat t a
+  stands-for-one-seat = apart.stands-for-one-seat (lent-reached l)
+
+  -- over any calls of the library a linked claim stands as it was, unless its seat gives it up in one of them
+  pub nothing-dropped : (s : ℕ) → LinkedIn t s → {requests : List Request} {u : Tables} → RequestsMade t requests u
+      → StillStands s t u ⊎ GivenUp s t (callsMade t requests)
+  nothing-dropped s h {requests} m = rw (made-requests m) (apart.nothing-dropped (lent-reached l) s h requests)
+
+  -- the tables are never damaged: no call is refused 1
+  pub always-sound : sound t ≡ true
+  always-sound = apart.always-sound (lent-reached l)
+
+  pub never-damaged : {c : Call} {a : Answer} {u : Tables} → CallMade t c a u → a ≢ refused 1
+  never-damaged {c} m = rw (ap (λ (d : Done Answer). d .answer) (made-call m)) (apart.never-damaged (lent-reached l) c)
+
+  pub run-never-damaged : {schedule : List ℕ} {budget : ℕ} {r : Ran} {u : Tables} → RunMade t schedule budget r u → r .refusal ≢ 1
+  run-never-damaged {schedule} {budget} m = rw (ap (λ (d : Done Ran). d .answer) (made-run m)) (apart.run-never-damaged (lent-reached l) schedule budget)
+
+  pub count-never-damaged : {a : Counted} → CountMade t a → a ≢ Counted.refused 1
+  count-never-damaged = count-not-1 always-sound
+
+  pub board-never-damaged : {rows after : List ℕ} {a : Boarded} → BoardMade t rows a after → a ≢ Boarded.refused 1
+  board-never-damaged = board-not-1 always-sound
+
+  -- ---- demand 3: every `wait n` has its cause at node n
+  pub every-wait-has-its-cause : (s n : ℕ) {u : Tables} → CallMade t (stepCall s) (wait n) u → Cause u s n
+  unfolding call
+  every-wait-has-its-cause s n m =
+      let e = made-call m in
+      rw (ap (λ (d : Done Answer). d .after) e) (cause.every-wait-has-its-cause (lent-reached l) s n (sym (ap (λ (d : Done Answer). d .answer) e)))
+
+  -- 6·N + 8 steps of a seat with a claim settle it, and the last of them tells the worker how
+  pub nobody-waits-without-cause : (s : ℕ) → phase t s ≢ 0 → {u : Tables} → StepsMade s (6 * N + 8) t u → Settled u s
+  nobody-waits-without-cause s d m = rw (made-steps m) (cause.nobody-waits-without-cause (lent-reached l) s d)
+
+  pub last-step-tells : (s : ℕ) → phase t s ≢ 0 → {u v : Tables} {a : Answer} → StepsMade s (6 * N + 7) t u → CallMade u (stepCall s) a v → Told s a v
+  unfolding call
+  last-step-tells s d m last =
+      let e = made-call last in
+      rw (ap (λ (d : Done Answer). d .answer) e, ap (λ (d : Done Answer). d .after) e, made-steps m) (cause.last-step-tells (lent-reached l) s d)

@@ -6,21 +6,22 @@ use mathlib.Core.Path.{_≡_}
 use mathlib.Core.Bool.{true}
 use mathlib.Core.List.{List}
 use mathlib.Core.Logic.{_≢_, _⊎_}
-use Rattle.rules.specs.Tables.{Tables, start, marked, phase, own, prev}
+use Rattle.rules.specs.Tables.{Tables, start, phase, own, prev}
 use Rattle.rules.specs.Comparison.{Claim, claimOf}
 use Rattle.rules.specs.Shape.{sound}
-use Rattle.rules.specs.Reach.{listed, listOf}
+use Rattle.rules.specs.Reach.{listOf}
 use Rattle.rules.specs.Answers.{refused}
 use Rattle.rules.specs.Calls.{begin, step, release}
 use Rattle.rules.specs.Run.{run}
-use Rattle.rules.specs.Play.{Call, call, afterAll}
-use Rattle.rules.specs.Reached.{Reached, called}
-use Rattle.rules.specs.Apart.{Covers, claimOfSeat, Holds, Stands, Rising, seatOf, OtherSeatsKept, NodesKept, FetchKept, NoNode, stepsOf, IsItsSteps}
+use Rattle.rules.specs.Play.{Call, call, afterAll, seatOf}
+use Rattle.rules.specs.Reached.{Request, afterRequest, afterRequests, Reached, asked}
+use Rattle.rules.specs.Apart.{Covers, claimOfSeat, Holds, LinkedIn, Stands, OfOneSeat, Rising, OtherSeatsKept, NodesKept, FetchKept, NoNode, stepsOf, IsItsSteps, Stops, GivesUp, GivenUp, callsMade, StillStands}
 use Rattle.rules.proofs.Keeping.CallKeeps.{good}
 use Rattle.rules.proofs.Holding.Exclusion.{both-read}
 use Rattle.rules.proofs.Holding.ListOrder.{rising}
-use Rattle.rules.proofs.Holding.NothingDropped.{stands-still}
-use Rattle.rules.proofs.Laws.RunSteps.{run-is-its-steps, calls-reached}
+use Rattle.rules.proofs.Holding.NothingDropped.{kept-by-requests, stands-until}
+use Rattle.rules.proofs.Holding.Standing.{linked-in-stands, different-nodes, of-one-seat}
+use Rattle.rules.proofs.Laws.RunSteps.{run-is-its-steps, sound-run-stops, calls-reached}
 use Rattle.rules.proofs.Soundness.SoundReached.{reached-sound}
 use Rattle.rules.proofs.Soundness.Refusals.{sound-never-damaged, run-not-1}
 use Rattle.rules.proofs.Frames.SeatFrames.{other-seats-kept}
@@ -36,19 +37,42 @@ apart r i j frame d hi hj ci cj = both-read (good r .inv) i j frame d hi hj (ci 
 pub ordered : {N S : ℕ} {t : Tables} → Reached N S t → Rising (start t) (listOf t)
 ordered r = rising (good r)
 
--- and stays so over every call
-pub stays-ordered : {N S : ℕ} {t : Tables} → Reached N S t → (c : Call) → Rising (start (call t c .after)) (listOf (call t c .after))
-stays-ordered r c = ordered (called r c)
+-- and stays so over every request
+pub stays-ordered : {N S : ℕ} {t : Tables} → Reached N S t → (r : Request) → Rising (start (afterRequest t r)) (listOf (afterRequest t r))
+stays-ordered r request = ordered (asked r request)
 
--- ---- a claim that stands on the list stands there after any one call, or is marked
-pub nothing-dropped : {N S : ℕ} {t : Tables} → Reached N S t → (c : Call) (a : ℕ) → Stands t a
-    → (listed (call t c .after) a ≡ true) ⊎ (marked (call t c .after) a ≡ true)
-nothing-dropped r = stands-still (good r)
+-- ---- a claim that is linked in stands on the list
+pub linked-claims-stand : {N S : ℕ} {t : Tables} → Reached N S t → (s : ℕ) → LinkedIn t s → Stands t (own t s)
+linked-claims-stand r = linked-in-stands (good r)
 
--- a run is its steps, and between them every table is reached too, so nothing is dropped by a run
-pub run-is-steps : (t : Tables) (schedule : List ℕ) (budget : ℕ) → IsItsSteps t schedule (run t schedule budget)
+-- two seats with a claim have different nodes
+pub nodes-differ : {N S : ℕ} {t : Tables} → Reached N S t → (i j : ℕ) → i ≢ j → phase t i ≢ 0 → phase t j ≢ 0 → own t i ≢ own t j
+nodes-differ r = different-nodes (good r)
+
+-- and nothing else stands there: each node that stands is that of one seat, whose claim is linked in
+pub stands-for-one-seat : {N S : ℕ} {t : Tables} → Reached N S t → (a : ℕ) → Stands t a → OfOneSeat t a
+stands-for-one-seat r = of-one-seat (good r)
+
+-- ---- nothing is dropped: over any requests, in any number, a linked claim stands as it was, unless its seat gives it up in one of the calls
+-- that they come to
+pub nothing-dropped : {N S : ℕ} {t : Tables} → Reached N S t → (s : ℕ) → LinkedIn t s → (requests : List Request)
+    → StillStands s t (afterRequests t requests) ⊎ GivenUp s t (callsMade t requests)
+nothing-dropped r = kept-by-requests (good r)
+
+-- so a node that stands is taken off the list or marked by no call but that in which its seat gives it up
+pub stands-until-given-up : {N S : ℕ} {t : Tables} → Reached N S t → (c : Call) (a : ℕ) → Stands t a
+    → Stands (call t c .after) a ⊎ ((s : ℕ) × (own t s ≡ a) × GivesUp s t c)
+stands-until-given-up r = stands-until (good r)
+
+-- ---- a run, in any tables: it is its steps
+pub run-is-steps : (t : Tables) (schedule : List ℕ) (budget : ℕ) → IsItsSteps t schedule budget (run t schedule budget)
 run-is-steps = run-is-its-steps
 
+-- and, unless it is refused as a whole, it stops at the end, when the budget is used, or at the first refused entry
+pub run-stops : (t : Tables) (schedule : List ℕ) (budget : ℕ) → sound t ≡ true → Stops schedule budget (run t schedule budget)
+run-stops = sound-run-stops
+
+-- between its steps every table is reached too
 pub run-reaches : {N S : ℕ} {t : Tables} → Reached N S t → (schedule : List ℕ) (steps : ℕ) → Reached N S (afterAll t (stepsOf schedule steps))
 run-reaches r schedule steps = calls-reached r (stepsOf schedule steps)
 

@@ -1,21 +1,35 @@
--- Demand 3: nobody waits without cause. From every table that is reached, a seat with a claim that is stepped 6·N + 8 times, with no other
--- call between, holds, or waits at a claim that clashes with its own and stands, or is refused 8 because no node is free for it.
--- Nothing else stands here: the words are those of specs/Cause.antt, and each proof is a citation.
+-- Demand 3: nobody waits without cause. In every table that is reached, each `wait n` has its cause at node n; and a seat with a claim that is
+-- stepped 6·N + 8 times, with no other call between, holds, or waits at a claim that clashes with its own and stands, or is refused 8 because
+-- no node is free for it. Nothing else stands here: the words are those of specs/Cause.antt, and each proof is a citation.
 use Prim.Native.Nat.{ℕ, _+_, _*_, _≤_}
 use mathlib.Core.Path.{_≡_}
 use mathlib.Core.Logic.{_≢_, _⊎_}
 use native.Mathlib.Omega.{arith}
 use lib.ListN.{replicate}
 use Rattle.rules.specs.Tables.{Tables, phase}
-use Rattle.rules.specs.Answers.{refused}
+use Rattle.rules.specs.Answers.{wait, refused}
 use Rattle.rules.specs.Calls.{step}
 use Rattle.rules.specs.Run.{refusalOf, run}
 use Rattle.rules.specs.Reached.{Reached}
-use Rattle.rules.specs.Cause.{stepTimes, Settled, RunEnds}
+use Rattle.rules.specs.Cause.{stepTimes, Cause, Settled, Told, RunEnds}
+use Rattle.rules.proofs.Keeping.CallKeeps.{good}
+use Rattle.rules.proofs.Soundness.SoundReached.{bounds}
+use Rattle.rules.proofs.Waiting.EveryWait.{wait-caused}
+use Rattle.rules.proofs.Waiting.StepsAlone.{settled-tells}
 use Rattle.rules.proofs.Waiting.NobodyWaits.{settled, none-or-8, settled-by-run, run-ends}
 
+-- ---- whenever a step answers `wait n`, the claim at n is the cause, in the tables that the step leaves
+pub every-wait-has-its-cause : {N S : ℕ} {t : Tables} → Reached N S t → (s n : ℕ) → step t s .answer ≡ wait n → Cause (step t s .after) s n
+every-wait-has-its-cause r = wait-caused (bounds r) (good r)
+
+-- ---- 6·N + 8 steps of one seat settle its claim
 pub nobody-waits-without-cause : {N S : ℕ} {t : Tables} → Reached N S t → (s : ℕ) → phase t s ≢ 0 → Settled (stepTimes (6 * N + 8) t s) s
 nobody-waits-without-cause {N} r s d = settled r s d (6 * N + 8) (omega arith)
+
+-- and the last of them tells the worker so
+pub last-step-tells : {N S : ℕ} {t : Tables} → Reached N S t → (s : ℕ) → phase t s ≢ 0
+    → Told s (step (stepTimes (6 * N + 7) t s) s .answer) (step (stepTimes (6 * N + 7) t s) s .after)
+last-step-tells {N} r s d = settled-tells (settled r s d (6 * N + 7) (omega arith))
 
 -- each of these steps, and any after them, is accepted or refused 8
 pub steps-accepted : {N S : ℕ} {t : Tables} → Reached N S t → (s : ℕ) → phase t s ≢ 0
@@ -27,9 +41,9 @@ pub run-settles : {N S : ℕ} {t : Tables} → Reached N S t → (s : ℕ) → p
     → Settled (run t (replicate (6 * N + 8) s) budget .after) s
 run-settles {N} r s d budget h = settled-by-run r s d (6 * N + 8) (omega arith) budget h
 
-pub run-stops : {N S : ℕ} {t : Tables} → Reached N S t → (s : ℕ) → phase t s ≢ 0 → (k budget : ℕ) → k ≤ budget
+pub solo-run-ends : {N S : ℕ} {t : Tables} → Reached N S t → (s : ℕ) → phase t s ≢ 0 → (k budget : ℕ) → k ≤ budget
     → RunEnds k (run t (replicate k s) budget .answer)
-run-stops = run-ends
+solo-run-ends = run-ends
 
 -- fewer steps are enough, and any number from there on
 pub fewer-steps-settle : {N S : ℕ} {t : Tables} → Reached N S t → (s : ℕ) → phase t s ≢ 0 → (k : ℕ) → 5 * N + 7 ≤ k → Settled (stepTimes k t s) s

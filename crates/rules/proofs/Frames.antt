@@ -3,4 +3,4 @@
 pub mod SeatFrames
 pub mod NodeFrames
 pub mod ClaimFrames
-pub mod StaysBusy
+pub mod AfterStep

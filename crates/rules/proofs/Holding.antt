@@ -3,3 +3,4 @@
 pub mod Exclusion
 pub mod ListOrder
 pub mod NothingDropped
+pub mod Standing

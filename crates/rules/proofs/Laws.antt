@@ -6,7 +6,9 @@ pub mod Words
 pub mod Shape
 pub mod NodesAlone
 pub mod Listed
+pub mod Free
 pub mod Compared
 pub mod Refused
+pub mod AnswersByPhase
 pub mod RunSteps
 pub mod OneAnswer

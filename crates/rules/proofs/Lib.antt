@@ -1,5 +1,7 @@
 -- The door: what is proved of the rules, each file statements alone.
 pub mod Histories
+pub mod Reaching
+pub mod Refusing
 pub mod Apart
 pub mod Cause
 -- The rooms behind it, in the order in which they may use each other; the first line of each says what it proves.

@@ -4,3 +4,4 @@ pub mod Effects
 pub mod RuleEffects
 pub mod Reasons
 pub mod Accepting
+pub mod RefusedExactly

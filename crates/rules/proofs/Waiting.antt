@@ -9,5 +9,6 @@ pub mod LooseWalkAlone
 pub mod FetchAlone
 pub mod RestsAlone
 pub mod Causes
+pub mod EveryWait
 pub mod StepsAlone
 pub mod NobodyWaits

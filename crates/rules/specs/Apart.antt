@@ -3,16 +3,17 @@
 use Prim.Native.Nat.{ℕ, _≤_, _<_}
 use mathlib.Core.Path.{_≡_}
 use mathlib.Core.Bool.{true, false}
-use mathlib.Core.List.{List, [], _∷_, map}
+use mathlib.Core.List.{List, [], _∷_, _++_, map}
 use mathlib.Core.Logic.{_≢_, _⊎_}
-use lib.ListN.{length, take}
-use Rattle.rules.specs.Tables.{Tables, seatWidth, seatWord, mark, marked, link, phase, own}
+use lib.ListN.{length, take, drop}
+use Rattle.rules.specs.Tables.{Tables, seatCount, seatWidth, seatWord, mark, marked, link, phase, own}
 use Rattle.rules.specs.Comparison.{Claim, claimOf}
 use Rattle.rules.specs.Reach.{listed}
-use Rattle.rules.specs.Answers.{Done}
-use Rattle.rules.specs.Calls.{step}
-use Rattle.rules.specs.Run.{refusalOf}
-use Rattle.rules.specs.Play.{Call, beginCall, stepCall, releaseCall, afterAll}
+use Rattle.rules.specs.Answers.{out, back, refused, Done}
+use Rattle.rules.specs.Calls.{step, release}
+use Rattle.rules.specs.Run.{refusalOf, run}
+use Rattle.rules.specs.Play.{Call, stepCall, releaseCall, call, afterAll}
+use Rattle.rules.specs.Reached.{Request, single, running}
 use Rattle.rules.specs.declared.Ran.{Ran}
 
 -- ---- claims
@@ -26,10 +27,22 @@ claimOfSeat t s = claimOf t (own t s)
 abbrev pub Holds : Tables → ℕ → Type 0
 Holds t s = phase t s ≡ 5
 
+-- the seat's claim is linked in: it validates, waits as a reader, or holds
+abbrev pub LinkedIn : Tables → ℕ → Type 0
+LinkedIn t s = (3 ≤ phase t s) × (phase t s ≤ 5)
+
 -- ---- the list
 -- a node on the list that is neither released nor withdrawn
 abbrev pub Stands : Tables → ℕ → Type 0
 Stands t a = (listed t a ≡ true) × (marked t a ≡ false)
+
+-- the node is that of one seat, whose claim is linked in, and of no other seat that has a claim
+pub record OfOneSeat (t : Tables) (a : ℕ) : Type 0 where
+  pub seat : ℕ
+  pub is-seat : seat < seatCount t
+  pub linked-in : LinkedIn t seat
+  pub owns : own t seat ≡ a
+  pub no-other : (r : ℕ) → phase t r ≢ 0 → own t r ≡ a → r ≡ seat
 
 -- of each two neighbours the second has no lower key
 pub data Rising (key : ℕ → ℕ) : List ℕ → Type 0 where
@@ -38,11 +51,6 @@ pub data Rising (key : ℕ → ℕ) : List ℕ → Type 0 where
   more : {a b : ℕ} {rest : List ℕ} → key a ≤ key b → Rising key (b ∷ rest) → Rising key (a ∷ b ∷ rest)
 
 -- ---- what a call may touch
-abbrev pub seatOf : Call → ℕ
-seatOf (beginCall s c) = s
-seatOf (stepCall s) = s
-seatOf (releaseCall s) = s
-
 -- u has every word of every seat but s from t
 pub record OtherSeatsKept (s : ℕ) (t u : Tables) : Type 0 where
   pub word : (r f : ℕ) → r ≢ s → f < seatWidth → seatWord (u .seats) r f ≡ seatWord (t .seats) r f
@@ -74,6 +82,40 @@ pub data AllAccepted : Tables → List ℕ → Type 0 where
   one-more : {t : Tables} {s : ℕ} {rest : List ℕ} → refusalOf (step t s .answer) ≡ 0 → AllAccepted (step t s .after) rest → AllAccepted t (s ∷ rest)
 
 -- the count of a run is that of the entries stepped, all accepted, and its tables are those after these steps
-pub record IsItsSteps (t : Tables) (schedule : List ℕ) (r : Done Ran) : Type 0 where
+pub record IsItsSteps (t : Tables) (schedule : List ℕ) (budget : ℕ) (r : Done Ran) : Type 0 where
+  pub within-schedule : r .answer .steps ≤ length schedule
+  pub within-budget : r .answer .steps ≤ budget
   pub tables-after : r .after ≡ afterAll t (stepsOf schedule (r .answer .steps))
   pub accepted : AllAccepted t (take (r .answer .steps) schedule)
+
+-- "stops at the end, when the budget is used, or at the first refused entry", and gives "the refusal met or 0"
+pub data Stops (schedule : List ℕ) (budget : ℕ) (r : Done Ran) : Type 0 where
+  at-the-end : r .answer .steps ≡ length schedule → r .answer .refusal ≡ 0 → Stops schedule budget r
+  budget-used : r .answer .steps ≡ budget → r .answer .refusal ≡ 0 → Stops schedule budget r
+  at-a-refusal : (s : ℕ) (rest : List ℕ) → drop (r .answer .steps) schedule ≡ s ∷ rest → r .answer .steps < budget
+      → step (r .after) s .answer ≡ refused (r .answer .refusal) → Stops schedule budget r
+
+-- ---- a claim is given up
+-- by this call: an accepted release of seat s, or a step of it answered `back`
+pub data GivesUp (s : ℕ) (t : Tables) : Call → Type 0 where
+  released : release t s .answer ≡ out → GivesUp s t (releaseCall s)
+  withdrawn : step t s .answer ≡ back → GivesUp s t (stepCall s)
+
+-- by one of these calls, made one after the other
+pub data GivenUp (s : ℕ) : Tables → List Call → Type 0 where
+  now : {t : Tables} {c : Call} {rest : List Call} → GivesUp s t c → GivenUp s t (c ∷ rest)
+  later : {t : Tables} {c : Call} {rest : List Call} → GivenUp s (call t c .after) rest → GivenUp s t (c ∷ rest)
+
+-- the single calls that requests come to: a run is the steps that it took
+unfoldable pub callsMade : Tables → List Request → List Call
+callsMade t [] = []
+callsMade t (single c ∷ rest) = c ∷ callsMade (call t c .after) rest
+callsMade t (running schedule budget ∷ rest) =
+    stepsOf schedule (run t schedule budget .answer .steps) ++ callsMade (run t schedule budget .after) rest
+
+-- in u seat s still has the claim that it has in t: the same frames and kind, on the same node, which stands
+pub record StillStands (s : ℕ) (t u : Tables) : Type 0 where
+  pub same-node : own u s ≡ own t s
+  pub same-claim : claimOfSeat u s ≡ claimOfSeat t s
+  pub linked-in : LinkedIn u s
+  pub stands : Stands u (own t s)

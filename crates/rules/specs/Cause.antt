@@ -3,13 +3,12 @@
 use Prim.Native.Nat.{ℕ, zero, suc, _<_}
 use mathlib.Core.Path.{_≡_}
 use mathlib.Core.Logic.{_≢_, _⊎_}
-use Rattle.rules.specs.Tables.{Tables, seatCount, phase, own, cur}
+use Rattle.rules.specs.Tables.{Tables, seatCount, phase, own}
 use Rattle.rules.specs.Comparison.{claimOf}
-use Rattle.rules.specs.Reach.{lowestFree}
-use Rattle.rules.specs.Fetch.{takenOut}
-use Rattle.rules.specs.Answers.{refused}
+use Rattle.rules.specs.Answers.{Answer, held, wait, refused, done}
 use Rattle.rules.specs.Calls.{step}
-use Rattle.rules.specs.Apart.{Covers, claimOfSeat, Holds, Stands}
+use Rattle.rules.specs.Refusing.{NoNodeFree}
+use Rattle.rules.specs.Apart.{Covers, claimOfSeat, Holds, LinkedIn, Stands}
 use Rattle.rules.specs.declared.Ran.{Ran}
 
 -- ---- steps of one seat with no other call between
@@ -22,20 +21,28 @@ pub data RunEnds (k : ℕ) (r : Ran) : Type 0 where
   all-stepped : r .steps ≡ k → r .refusal ≡ 0 → RunEnds k r
   stopped-at-8 : r .refusal ≡ 8 → r .steps < k → RunEnds k r
 
--- the claim that s waits at: it stands, is another seat's, and both cover a frame which one of them writes
-pub record Cause (t : Tables) (s : ℕ) : Type 0 where
+-- why seat s waits at node n: its claim stands, is another seat's, and both cover a frame which one of them writes
+pub record Cause (t : Tables) (s n : ℕ) : Type 0 where
   pub seat : ℕ
   pub is-seat : seat < seatCount t
   pub other : seat ≢ s
-  pub theirs : own t seat ≡ cur t s
-  pub stands : Stands t (cur t s)
+  pub theirs : own t seat ≡ n
+  pub linked-in : LinkedIn t seat
+  pub stands : Stands t n
   pub frame : ℕ
   pub covered : Covers (claimOfSeat t s) frame
-  pub covered-by-theirs : Covers (claimOf t (cur t s)) frame
-  pub one-writes : (claimOfSeat t s .kind ≡ 2) ⊎ (claimOf t (cur t s) .kind ≡ 2)
+  pub covered-by-theirs : Covers (claimOf t n) frame
+  pub one-writes : (claimOfSeat t s .kind ≡ 2) ⊎ (claimOf t n .kind ≡ 2)
 
--- how it stands with a claim that need not be stepped on: it holds, it waits with cause, or no node is free for it
+-- how it stands with a claim that need not be stepped on, and what a step answers, which changes nothing: it holds, it waits with cause,
+-- or no node is free for it
 pub data Settled (t : Tables) (s : ℕ) : Type 0 where
-  holds : Holds t s → Settled t s
-  waits : (phase t s ≡ 2) ⊎ (phase t s ≡ 4) → Cause t s → Settled t s
-  no-node : phase t s ≡ 6 → step t s .answer ≡ refused 8 → lowestFree t s ≡ 0 → lowestFree (takenOut t) s ≡ 0 → Settled t s
+  holds : Holds t s → step t s ≡ done held t → Settled t s
+  waits : (n : ℕ) → step t s ≡ done (wait n) t → Cause t s n → Settled t s
+  no-node : step t s ≡ done (refused 8) t → phase t s ≡ 6 → NoNodeFree t s → Settled t s
+
+-- what a step of such a claim told the worker, and how the tables then are
+pub data Told (s : ℕ) (answer : Answer) (t : Tables) : Type 0 where
+  told-held : answer ≡ held → Holds t s → Told s answer t
+  told-wait : (n : ℕ) → answer ≡ wait n → Cause t s n → Told s answer t
+  told-8 : answer ≡ refused 8 → phase t s ≡ 6 → NoNodeFree t s → Told s answer t

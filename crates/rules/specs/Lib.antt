@@ -14,5 +14,6 @@ pub mod Script
 pub mod Play
 pub mod Reached
 pub mod Means
+pub mod Refusing
 pub mod Apart
 pub mod Cause

@@ -28,6 +28,11 @@ call t (beginCall s c) = begin t s c
 call t (stepCall s) = step t s
 call t (releaseCall s) = release t s
 
+abbrev pub seatOf : Call → ℕ
+seatOf (beginCall s c) = s
+seatOf (stepCall s) = s
+seatOf (releaseCall s) = s
+
 unfoldable pub callOf : Line → Call
 callOf l =
     if l .code is 1 then beginCall (l .seat) (claim (l .start) (l .end) (l .kind))

@@ -1,12 +1,19 @@
 -- What is on the list, what a seat can reach, and which nodes are free.
-use Prim.Native.Nat.{ℕ, zero, suc, _+_}
+use Prim.Native.Nat.{ℕ, zero, suc, _+_, _<_}
 use mathlib.Core.Bool.{Bool, false, not, _&&_, _||_}
 use mathlib.Core.List.{List, [], _∷_}
+use mathlib.Core.Logic.{_≢_}
 use Rattle.rules.specs.Notation.{if_then_else_, _is_, any, count, lowest}
-use Rattle.rules.specs.Tables.{Tables, nodeCount, seatCount, next, head, own, prev, cur}
+use Rattle.rules.specs.Tables.{Tables, nodeCount, seatCount, link, next, head, own, prev, cur}
 
--- x is met from a "by following next .. (those nodes included)", among the first `hops` nodes. With N hops every node that
--- can be reached is met.
+-- x "can be reached by following next .. (those nodes included)" from a, over any number of nodes. 0 is no node, so nothing is reached
+-- from it, nor through it.
+pub data Reach (link : ℕ → ℕ) (x : ℕ) : ℕ → Type 0 where
+  here : 0 < x → Reach link x x
+  there : {a : ℕ} → 0 < a → Reach link x (link a) → Reach link x a
+
+-- the same as a test: x is met from a among the first `hops` nodes. With N hops nothing is lost: proofs/Reaching.antt says so of every sound
+-- table, one with circles off the list too.
 unfoldable pub met : ℕ → Tables → ℕ → ℕ → Bool
 met zero t a x = false
 met (suc hops) t a x = not (a is 0) && (a is x || met hops t (next t a) x)
@@ -37,6 +44,13 @@ othersReach t s x = any (seatCount t) (λ r. not (r is s) && seatReaches t r x)
 -- "A node is free if it is not on the list and cannot be reached by following next from any other seat's own, prev or cur"
 unfoldable pub free : Tables → ℕ → ℕ → Bool
 free t s x = not (listed t x || othersReach t s x)
+
+-- the same by following next over any number of nodes
+pub record Unreached (t : Tables) (s x : ℕ) : Type 0 where
+  pub off-list : Reach (link t) x (head t) → ⊥
+  pub not-from-own : (r : ℕ) → r < seatCount t → r ≢ s → Reach (link t) x (own t r) → ⊥
+  pub not-from-prev : (r : ℕ) → r < seatCount t → r ≢ s → Reach (link t) x (prev t r) → ⊥
+  pub not-from-cur : (r : ℕ) → r < seatCount t → r ≢ s → Reach (link t) x (cur t r) → ⊥
 
 -- "The lowest free node"; 0 if none is free
 unfoldable pub lowestFree : Tables → ℕ → ℕ

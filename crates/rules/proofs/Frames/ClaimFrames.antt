@@ -6,8 +6,7 @@ use native.Mathlib.Omega.{arith}
 use Rattle.rules.specs.Tables.{Tables, startAt, endAt, kindAt, phaseAt, ownAt, phase, own}
 use Rattle.rules.specs.Comparison.{claimOf}
 use Rattle.rules.specs.Calls.{step}
-use Rattle.rules.specs.Play.{Call, beginCall, stepCall, releaseCall, call}
-use Rattle.rules.specs.Apart.{seatOf}
+use Rattle.rules.specs.Play.{Call, beginCall, stepCall, releaseCall, call, seatOf}
 use Rattle.rules.proofs.Ground.Deciding.{if-same}
 use Rattle.rules.proofs.Laws.Words.{node-zero}
 use Rattle.rules.proofs.Rules.Reasons.{by-no-phase}

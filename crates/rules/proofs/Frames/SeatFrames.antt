@@ -13,8 +13,8 @@ use Rattle.rules.specs.Fetch.{Fetched, writeClaim, takeNode, takenOut}
 use Rattle.rules.specs.Answers.{Answer, Done}
 use Rattle.rules.specs.Steps.{refetched, linkIn}
 use Rattle.rules.specs.Calls.{begun}
-use Rattle.rules.specs.Play.{Call, beginCall, stepCall, releaseCall, call}
-use Rattle.rules.specs.Apart.{OtherSeatsKept, seatOf}
+use Rattle.rules.specs.Play.{Call, beginCall, stepCall, releaseCall, call, seatOf}
+use Rattle.rules.specs.Apart.{OtherSeatsKept}
 use Rattle.rules.proofs.Ground.Logic.{branch}
 use Rattle.rules.proofs.Laws.Shape.{is-sound}
 use Rattle.rules.proofs.Rules.Effects.{Room, Seated}

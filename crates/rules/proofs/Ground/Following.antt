@@ -4,12 +4,8 @@ use mathlib.Core.Path.{_≡_, refl, sym, _∙_, ap}
 use mathlib.Core.Logic.{_≢_, _⊎_, inl, inr}
 use Prim.Native.Nat.{ℕ, suc, _≤_, _<_}
 use native.Mathlib.Omega.{arith}
+use Rattle.rules.specs.Reach.{Reach, here, there}
 use Rattle.rules.proofs.Ground.Deciding.{if-same}
-
--- b is met from a, a included
-pub data Reach (link : ℕ → ℕ) (b : ℕ) : ℕ → Type 0 where
-  here : 0 < b → Reach link b b
-  there : {a : ℕ} → 0 < a → Reach link b (link a) → Reach link b a
 
 pub reach-source : {link : ℕ → ℕ} {b a : ℕ} → Reach link b a → 0 < a
 reach-source (here h) = h

@@ -74,6 +74,10 @@ pub or-neither : (a b : Bool) → (a || b) ≡ false → (a ≡ false) × (b ≡
 or-neither true b e = absurd (true≢false e)
 or-neither false b e = (refl, e)
 
+pub neither : (a b : Bool) → a ≡ false → b ≡ false → (a || b) ≡ false
+neither true b e f = absurd (true≢false e)
+neither false b e f = f
+
 pub not-true : (b : Bool) → not b ≡ true → b ≡ false
 not-true true e = absurd (true≢false (sym e))
 not-true false e = refl
@@ -113,3 +117,8 @@ any-none (suc n) i p e h =
     (λ q. rw q (or-neither (any n p) (p n) e .1))
     (λ q. any-none n i p (or-neither (any n p) (p n) e .0) q)
     (eq-or-lt-of-le {n = i} {m = n} (omega arith))
+
+pub any-of-none : (n : ℕ) (p : ℕ → Bool) → ((i : ℕ) → i < n → p i ≡ false) → any n p ≡ false
+unfolding any
+any-of-none zero p f = refl
+any-of-none (suc n) p f = neither (any n p) (p n) (any-of-none n p (λ i h. f i (omega arith))) (f n (omega arith))

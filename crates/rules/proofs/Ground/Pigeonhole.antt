@@ -6,7 +6,8 @@ use Prim.Native.Nat.{ℕ, zero, suc, _≤_, _<_}
 use native.Mathlib.Omega.{arith}
 use lib.ListN.{length}
 use Rattle.rules.proofs.Ground.Deciding.{if-same}
-use Rattle.rules.proofs.Ground.Following.{Reach, here, there, Ends, stop, more, no-circle}
+use Rattle.rules.proofs.Ground.Following.{Ends, stop, more, no-circle}
+use Rattle.rules.specs.Reach.{Reach, here, there}
 
 -- x is not in the list
 data Off (x : ℕ) : List ℕ → Type 0 where

@@ -4,7 +4,8 @@ use mathlib.Core.Path.{_≡_, sym}
 use mathlib.Core.Logic.{_≢_, inl, inr}
 use Prim.Native.Nat.{ℕ, _≤_, _<_}
 use native.Mathlib.Omega.{arith}
-use Rattle.rules.proofs.Ground.Following.{Reach, linear}
+use Rattle.rules.proofs.Ground.Following.{linear}
+use Rattle.rules.specs.Reach.{Reach}
 use Rattle.rules.proofs.Invariant.View.{Nodes, Seats, holding}
 use Rattle.rules.proofs.Invariant.Clauses.{Ahead, reader-comes, writer-comes, from-head, Invariant}
 use Rattle.rules.proofs.Invariant.Known.{own-proper, ordered-along}

@@ -1,115 +1,163 @@
--- A claim that stands on the list stands there after any call, or is marked: its seat still has it, or has just left it.
+-- A linked claim stays as it is over any calls, unless its seat gives it up: by an accepted release, or a step answered `back`.
 use Prim.Native.Nat.{ℕ, _<_}
 use mathlib.Core.Path.{_≡_, refl, sym, ap, _∙_}
-use mathlib.Core.Bool.{true}
+use mathlib.Core.List.{List, [], _∷_}
 use mathlib.Core.Logic.{_≢_, _⊎_, inl, inr}
 use native.Mathlib.Omega.{arith}
-use borrow.Author.Tests.{eqb-false, eq-eqb}
-use Rattle.rules.specs.Tables.{Tables, phaseAt, ownAt, markAt, mark, marked, link, next, phase, own, cur, setMark}
-use Rattle.rules.specs.Comparison.{Claim}
-use Rattle.rules.specs.Reach.{listed}
-use Rattle.rules.specs.Answers.{Answer, Done}
-use Rattle.rules.specs.Steps.{withdraw, leave}
-use Rattle.rules.specs.Calls.{step}
-use Rattle.rules.specs.Play.{Call, beginCall, stepCall, releaseCall, call}
-use Rattle.rules.specs.Apart.{seatOf, Stands}
+use borrow.Author.Tests.{ne-eqb, eqb-false}
+use Rattle.rules.specs.Tables.{Tables, phaseAt, ownAt, mark, next, phase, own, cur}
+use Rattle.rules.specs.Comparison.{Claim, claimOf}
+use Rattle.rules.specs.Answers.{Answer, back, Done, done, answerOf, answered}
+use Rattle.rules.specs.Steps.{withdraw}
+use Rattle.rules.specs.Calls.{begin, step, release}
+use Rattle.rules.specs.Play.{Call, beginCall, stepCall, releaseCall, call, seatOf, afterAll}
+use Rattle.rules.specs.Reached.{Request, afterRequests}
+use Rattle.rules.specs.Apart.{claimOfSeat, LinkedIn, Stands, GivesUp, released, withdrawn, GivenUp, now, later, callsMade, StillStands}
 use Rattle.rules.proofs.Ground.Deciding.{if-same}
-use Rattle.rules.proofs.Laws.Words.{node-put-same}
+use Rattle.rules.proofs.Laws.AnswersByPhase.{answers-back}
+use Rattle.rules.proofs.Laws.RunSteps.{requests-are-calls}
 use Rattle.rules.proofs.Invariant.View.{Linked, validating, reader-waiting, holding}
-use Rattle.rules.proofs.Invariant.Phases.{linked-busy}
-use Rattle.rules.proofs.Invariant.Clauses.{OnList}
-use Rattle.rules.proofs.Invariant.Known.{own-pos}
+use Rattle.rules.proofs.Invariant.Phases.{linked-busy, linked-in, in-linked}
 use Rattle.rules.proofs.Rules.Effects.{Room, Seated}
-use Rattle.rules.proofs.Rules.RuleEffects.{phase-stored, cur-stored, pass-stored, hold-stored}
-use Rattle.rules.proofs.Rules.Reasons.{Unlinking, takes-out, goes-past, Waking, wakes, stays, reader-holds, reader-unlinks, reader-passes, reader-waits, writer-holds, writer-unlinks, writer-passes, withdraws, Validating, validates-reader, validates-writer, validates, wakes-to-validate, by-phase-3, by-phase-4, by-phase-5}
-use Rattle.rules.proofs.Rules.Accepting.{Beginning, begin-refused, begin-accepted, beginning, step-or-same, Releasing, release-refused, release-accepted, releasing}
-use Rattle.rules.proofs.Keeping.Good.{Good, room, node-room, own-in}
+use Rattle.rules.proofs.Rules.RuleEffects.{phase-stored, cur-stored, pass-stored, hold-stored, withdraw-stored}
+use Rattle.rules.proofs.Rules.Reasons.{Unlinking, takes-out, goes-past, Waking, wakes, stays, reader-holds, reader-unlinks, reader-passes, reader-waits, writer-holds, writer-unlinks, writer-passes, withdraws, Validating, validates-reader, validates-writer, Stepping, in-1, in-2, in-3, in-4, in-6, at-rest}
+use Rattle.rules.proofs.Rules.Accepting.{Beginning, begin-refused, begin-accepted, beginning, Stepped, step-refused, step-accepted, stepped, Releasing, release-refused, release-accepted, releasing}
+use Rattle.rules.proofs.Keeping.Good.{Good, room}
 use Rattle.rules.proofs.Keeping.Hops.{on-list, is-listed}
 use Rattle.rules.proofs.Keeping.CallKeeps.{call-keeps, seat-in}
 use Rattle.rules.proofs.Frames.SeatFrames.{other-seats-kept}
+use Rattle.rules.proofs.Frames.NodeFrames.{step-3-kept, step-4-kept, step-5-kept}
+use Rattle.rules.proofs.Frames.ClaimFrames.{others-claims-kept}
 
--- the seat still has its claim on the list, or its node is marked
-data Retained (s : ℕ) (t u : Tables) : Type 0 where
-  still-linked : Linked (phase u s) → own u s ≡ own t s → Retained s t u
-  now-marked : mark u (own t s) ≡ 1 → Retained s t u
+-- ---- a step of the seat itself
+-- the claim is still linked, on the same node, or the answer is `back`
+data Retained (s : ℕ) (t : Tables) (d : Done Answer) : Type 0 where
+  still-linked : Linked (phase (d .after) s) → own (d .after) s ≡ own t s → Retained s t d
+  told-back : d .answer ≡ back → Retained s t d
 
 stored-linked : {t u : Tables} {s : ℕ} {words : ℕ → ℕ} → Seated (t .seats) (u .seats) s words → Linked (words phaseAt)
-    → words ownAt ≡ own t s → Retained s t u
+    → words ownAt ≡ own t s → Retained s t (answered u s)
 stored-linked {t} {u} {s} w l e = still-linked (rw (w .at-s phaseAt (omega arith)) l) (w .at-s ownAt (omega arith) ∙ e)
 
-module _ {N S : ℕ} {t : Tables} (g : Good N S t) (s : ℕ) where
-  same : Linked (phase t s) → Retained s t t
-  same l = still-linked l refl
+module _ {N S : ℕ} {t : Tables} (g : Good N S t) (s : ℕ) (s-in : s < S) (l : Linked (phase t s)) where
+  abbrev r : Room t s
+  r = room g s s-in
 
-  own-marked : Linked (phase t s) → mark (setMark t (own t s) 1) (own t s) ≡ 1
-  own-marked l =
-      node-put-same (t .nodes) (own t s) markAt 1 (omega arith) (let h = own-pos (g .inv) s (linked-busy l) in omega arith)
-      (node-room g (own t s) (own-in g s))
+  unlinking : {u : Tables} → Unlinking t s u → Retained s t (answered u s)
+  unlinking (takes-out j) = stored-linked (cur-stored t s r (next t (cur t s))) l refl
+  unlinking (goes-past e) = stored-linked (cur-stored t s r (next t (cur t s))) l refl
 
-  module _ (s-in : s < S) where
-    abbrev r : Room t s
-    r = room g s s-in
+  retained-3 : {u : Tables} → Validating t s u → Retained s t (answered u s)
+  retained-3 (validates-reader k (reader-holds f)) = stored-linked (hold-stored t s r) (holding refl) refl
+  retained-3 (validates-reader k (reader-unlinks c m w)) = unlinking w
+  retained-3 (validates-reader k (reader-passes c m f)) = stored-linked (pass-stored t s r) l refl
+  retained-3 (validates-reader k (reader-waits c m f h)) = stored-linked (phase-stored t s r 4) (reader-waiting refl) refl
+  retained-3 (validates-writer k (writer-holds f)) = stored-linked (hold-stored t s r) (holding refl) refl
+  retained-3 (validates-writer k (writer-unlinks d c m w)) = unlinking w
+  retained-3 (validates-writer k (writer-passes d c m f)) = stored-linked (pass-stored t s r) l refl
+  retained-3 (validates-writer k (withdraws d f)) = told-back (answers-back (withdraw t s) s (withdraw-stored t s r .at-s phaseAt (omega arith)))
 
-    unlinking : {u : Tables} → Linked (phase t s) → Unlinking t s u → Retained s t u
-    unlinking l (takes-out j) = stored-linked (cur-stored t s r (next t (cur t s))) l refl
-    unlinking l (goes-past e) = stored-linked (cur-stored t s r (next t (cur t s))) l refl
+  retained-4 : {u : Tables} → Waking t s 3 u → Retained s t (answered u s)
+  retained-4 (wakes m) = stored-linked (phase-stored t s r 3) (validating refl) refl
+  retained-4 (stays m) = still-linked l refl
 
-    retained-3 : {u : Tables} → Linked (phase t s) → Validating t s u → Retained s t u
-    unfolding withdraw
-    retained-3 l (validates-reader k (reader-holds f)) = stored-linked (hold-stored t s r) (holding refl) refl
-    retained-3 l (validates-reader k (reader-unlinks c m w)) = unlinking l w
-    retained-3 l (validates-reader k (reader-passes c m f)) = stored-linked (pass-stored t s r) l refl
-    retained-3 l (validates-reader k (reader-waits c m f h)) = stored-linked (phase-stored t s r 4) (reader-waiting refl) refl
-    retained-3 l (validates-writer k (writer-holds f)) = stored-linked (hold-stored t s r) (holding refl) refl
-    retained-3 l (validates-writer k (writer-unlinks d c m w)) = unlinking l w
-    retained-3 l (validates-writer k (writer-passes d c m f)) = stored-linked (pass-stored t s r) l refl
-    retained-3 l (validates-writer k (withdraws d f)) = now-marked (own-marked l)
+  retained-stepping : {d : Done Answer} → Stepping t s d → Retained s t d
+  retained-stepping (in-1 e w) = let z = linked-in l in absurd (omega arith)
+  retained-stepping (in-2 e w) = let z = linked-in l in absurd (omega arith)
+  retained-stepping (in-3 e w) = retained-3 w
+  retained-stepping (in-4 e w) = retained-4 w
+  retained-stepping (in-6 e w) = let z = linked-in l in absurd (omega arith)
+  retained-stepping (at-rest a b c d e) = still-linked l refl
 
-    retained-4 : {u : Tables} → Linked (phase t s) → Waking t s 3 u → Retained s t u
-    retained-4 l (wakes m) = stored-linked (phase-stored t s r 3) (validating refl) refl
-    retained-4 l (stays m) = same l
+module _ {N S : ℕ} {t : Tables} (g : Good N S t) (s : ℕ) (l : Linked (phase t s)) where
+  retained-step : {d : Done Answer} → Stepped t s d → Retained s t d
+  retained-step (step-refused k x) = still-linked l refl
+  retained-step (step-accepted e h b w) = retained-stepping g s (seat-in g s h) l w
 
-  retained-step : Linked (phase t s) → Retained s t (step t s .after)
-  retained-step l = step-or-same t s (Retained s t) (same l) (λ e h b. elim l [
-    | validating p ↦ rw (by-phase-3 t s p) (retained-3 (seat-in g s h) (validating p) (validates t s))
-    | reader-waiting p ↦ rw (by-phase-4 t s p) (retained-4 (seat-in g s h) (reader-waiting p) (wakes-to-validate t s))
-    | holding p ↦ rw (by-phase-5 t s p) (same (holding p))
-  ])
+  -- no step of a linked claim changes it
+  step-keeps-claim : Linked (phase t s) → claimOf (step t s .after) (own t s) ≡ claimOf t (own t s)
+  step-keeps-claim (validating p) = step-3-kept t s p .claim-of (own t s) (λ z. z)
+  step-keeps-claim (reader-waiting p) = step-4-kept t s p .claim-of (own t s) (λ z. z)
+  step-keeps-claim (holding p) = rw (step-5-kept t s p)
 
-  retained-begin : {c : Claim} {d : Done Answer} → Linked (phase t s) → Beginning t s c d → Retained s t (d .after)
-  retained-begin l (begin-refused k x) = same l
-  retained-begin l (begin-accepted e h p z w) = absurd (linked-busy l z)
+-- ---- what is still linked still stands
+still-stands : {N S : ℕ} {t u : Tables} → Good N S u → (s : ℕ) → Linked (phase u s) → own u s ≡ own t s
+    → claimOf u (own t s) ≡ claimOf t (own t s) → StillStands s t u
+still-stands {t = t} {u} g s l e c =
+    let w = g .inv .linked s l in
+    record {
+      same-node = e;
+      same-claim = ap (claimOf u) e ∙ c;
+      linked-in = linked-in l;
+      stands = rw (← e) (is-listed g (w .on-list), ne-eqb (mark u (own u s)) 1 (w .unmarked));
+    }
 
-  retained-release : {d : Done Answer} → Linked (phase t s) → Releasing t s d → Retained s t (d .after)
-  unfolding leave
-  retained-release l (release-refused k x) = same l
-  retained-release l (release-accepted e h p) = now-marked (own-marked l)
+pub stands-as-it-is : {N S : ℕ} {t : Tables} → Good N S t → (s : ℕ) → Linked (phase t s) → StillStands s t t
+stands-as-it-is g s l = still-stands g s l refl refl
 
-retained : {N S : ℕ} {t : Tables} → Good N S t → (c : Call) → Linked (phase t (seatOf c)) → Retained (seatOf c) t (call t c .after)
-unfolding call
-retained {t = t} g (beginCall s c) l = retained-begin g s l (beginning t s c)
-retained {t = t} g (stepCall s) l = retained-step g s l
-retained {t = t} g (releaseCall s) l = retained-release g s l (releasing t s)
+module _ {N S : ℕ} {t : Tables} (g : Good N S t) where
+  -- ---- a call of the seat itself
+  kept-by-begin : (s : ℕ) (c : Claim) {d : Done Answer} → Linked (phase t s) → Beginning t s c d → StillStands s t (d .after)
+  kept-by-begin s c l (begin-refused k x) = stands-as-it-is g s l
+  kept-by-begin s c l (begin-accepted e h p z w) = absurd (linked-busy l z)
 
-stands-or-marked : {N S : ℕ} {t : Tables} → Good N S t → (c : Call) (a : ℕ) → OnList (link t) a → mark t a ≢ 1
-    → OnList (link (call t c .after)) a ⊎ (mark (call t c .after) a ≡ 1)
-stands-or-marked {t = t} g c a r m =
-    let u = call t c .after in
-    let g′ = call-keeps g c in
-    let w = g .inv .owner r m in
-    let kept = other-seats-kept t c in
-    if-same (w .seat) (seatOf c)
-    (λ e. let own-a : own t (seatOf c) ≡ a = ap (own t) (sym e) ∙ w .owns in
-    elim (retained g c (rw (ap (phase t) e) at (w .linked))) [
-      | still-linked l q ↦ inl (rw (q ∙ own-a) at (g′ .inv .linked (seatOf c) l .on-list))
-      | now-marked q ↦ inr (rw own-a at q)
-    ])
-    (λ d. inl (rw (kept .word (w .seat) ownAt d (omega arith) ∙ w .owns) at
-    (g′ .inv .linked (w .seat) (rw (kept .word (w .seat) phaseAt d (omega arith)) (w .linked)) .on-list)))
+  kept-by-release : (s : ℕ) {d : Done Answer} → Linked (phase t s) → Releasing t s d → release t s ≡ d → StillStands s t (d .after) ⊎ GivesUp s t (releaseCall s)
+  kept-by-release s l (release-refused k x) q = inl (stands-as-it-is g s l)
+  kept-by-release s l (release-accepted e h p) q = inr (released (ap (λ (d : Done Answer). d .answer) q))
 
-pub stands-still : {N S : ℕ} {t : Tables} → Good N S t → (c : Call) (a : ℕ) → Stands t a
-    → (listed (call t c .after) a ≡ true) ⊎ (marked (call t c .after) a ≡ true)
-stands-still {t = t} g c a w = elim (stands-or-marked g c a (on-list t a (w .0)) (eqb-false (mark t a) 1 (w .1))) [
-  | inl r ↦ inl (is-listed (call-keeps g c) r)
-  | inr e ↦ inr (eq-eqb (mark (call t c .after) a) 1 e)
+  kept-by-step : (s : ℕ) → Linked (phase t s) → StillStands s t (step t s .after) ⊎ GivesUp s t (stepCall s)
+  unfolding call
+  kept-by-step s l = elim (retained-step g s l (stepped t s)) [
+    | still-linked m e ↦ inl (still-stands (call-keeps g (stepCall s)) s m e (step-keeps-claim g s l l))
+    | told-back e ↦ inr (withdrawn e)
+  ]
+
+  kept-by-own : (c : Call) → Linked (phase t (seatOf c)) → StillStands (seatOf c) t (call t c .after) ⊎ GivesUp (seatOf c) t c
+  unfolding call
+  kept-by-own (beginCall s c) l = inl (kept-by-begin s c l (beginning t s c))
+  kept-by-own (stepCall s) l = kept-by-step s l
+  kept-by-own (releaseCall s) l = kept-by-release s l (releasing t s) refl
+
+  -- ---- a call of another seat
+  kept-by-other : (c : Call) (s : ℕ) → s ≢ seatOf c → Linked (phase t s) → StillStands s t (call t c .after)
+  kept-by-other c s d l =
+      let kept = other-seats-kept t c in
+      let e : own (call t c .after) s ≡ own t s = kept .word s ownAt d (omega arith) in
+      still-stands (call-keeps g c) s (rw (kept .word s phaseAt d (omega arith)) l) e (ap (claimOf (call t c .after)) (sym e) ∙ others-claims-kept g c s d)
+
+  pub kept-by-call : (c : Call) (s : ℕ) → LinkedIn t s → StillStands s t (call t c .after) ⊎ GivesUp s t c
+  kept-by-call c s l =
+      if-same s (seatOf c)
+      (λ e. rw e (kept-by-own c (rw e at (in-linked (l .0) (l .1)))))
+      (λ d. inl (kept-by-other c s d (in-linked (l .0) (l .1))))
+
+-- ---- calls one after the other
+stands-on : {s : ℕ} {t u v : Tables} → StillStands s t u → StillStands s u v → StillStands s t v
+stands-on a b = record {
+  same-node = b .same-node ∙ a .same-node;
+  same-claim = b .same-claim ∙ a .same-claim;
+  linked-in = b .linked-in;
+  stands = rw (← a .same-node) (b .stands);
+}
+
+kept-by-calls : {N S : ℕ} {t : Tables} → Good N S t → (s : ℕ) → LinkedIn t s → (calls : List Call) → StillStands s t (afterAll t calls) ⊎ GivenUp s t calls
+unfolding afterAll
+kept-by-calls g s l [] = inl (stands-as-it-is g s (in-linked (l .0) (l .1)))
+kept-by-calls g s l (c ∷ calls) = elim (kept-by-call g c s l) [
+  | inr x ↦ inr (now x)
+  | inl a ↦ elim (kept-by-calls (call-keeps g c) s (a .linked-in) calls) [ inl b ↦ inl (stands-on a b) | inr x ↦ inr (later x) ]
 ]
+
+pub kept-by-requests : {N S : ℕ} {t : Tables} → Good N S t → (s : ℕ) → LinkedIn t s → (requests : List Request)
+    → StillStands s t (afterRequests t requests) ⊎ GivenUp s t (callsMade t requests)
+kept-by-requests {t = t} g s l requests = rw (requests-are-calls t requests) (kept-by-calls g s l (callsMade t requests))
+
+-- ---- of a node: it stands until the seat that has it gives it up
+pub stands-until : {N S : ℕ} {t : Tables} → Good N S t → (c : Call) (a : ℕ) → Stands t a
+    → Stands (call t c .after) a ⊎ ((s : ℕ) × (own t s ≡ a) × GivesUp s t c)
+stands-until {t = t} g c a w =
+    let o = g .inv .owner (on-list t a (w .0)) (eqb-false (mark t a) 1 (w .1)) in
+    elim (kept-by-call g c (o .seat) (linked-in (o .linked))) [
+      | inl k ↦ inl (rw (o .owns) at (k .stands))
+      | inr x ↦ inr (o .seat, o .owns, x)
+    ]

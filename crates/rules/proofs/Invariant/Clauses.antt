@@ -3,15 +3,13 @@ use mathlib.Core.Path.{_≡_}
 use mathlib.Core.Logic.{_≢_, _⊎_}
 use Prim.Native.Nat.{ℕ, _≤_, _<_}
 use Rattle.rules.specs.Comparison.{Claim}
-use Rattle.rules.proofs.Ground.Following.{Reach, Ends}
+use Rattle.rules.specs.Refusing.{Proper}
+use Rattle.rules.proofs.Ground.Following.{Ends}
+use Rattle.rules.specs.Reach.{Reach}
 use Rattle.rules.proofs.Laws.Compared.{Precedes}
 use Rattle.rules.proofs.Invariant.View.{Nodes, Seats, claimAt, Unmarked, Outside, Linked}
 
 -- ---- sound shape, as far as the view shows it
-pub record Proper (c : Claim) : Type 0 where
-  pub some : c .start < c .end
-  pub reads-or-writes : (c .kind ≡ 1) ⊎ (c .kind ≡ 2)
-
 -- "nonzero .. names a node of kind 1 or 2"
 pub data Named (N : ℕ) (claims : ℕ → Claim) (a : ℕ) : Type 0 where
   nothing : a ≡ 0 → Named N claims a

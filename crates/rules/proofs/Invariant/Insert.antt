@@ -5,7 +5,8 @@ use mathlib.Core.Logic.{_≢_, _⊎_, inl, inr}
 use Prim.Native.Nat.{ℕ, suc, _≤_, _<_}
 use native.Mathlib.Omega.{arith}
 use Rattle.rules.proofs.Ground.Deciding.{if-same}
-use Rattle.rules.proofs.Ground.Following.{Reach, here, reach-source, reach-on, not-from-0, beyond, linear, more, insert-keeps-reach, insert-adds-own, insert-reaches-own, insert-keeps-list, insert-keeps-ends}
+use Rattle.rules.proofs.Ground.Following.{reach-source, reach-on, not-from-0, beyond, linear, more, insert-keeps-reach, insert-adds-own, insert-reaches-own, insert-keeps-list, insert-keeps-ends}
+use Rattle.rules.specs.Reach.{Reach, here}
 use Rattle.rules.proofs.Invariant.View.{Nodes, Seats, claimAt, Unmarked, relink, Outside, walking, Linked, validating}
 use Rattle.rules.proofs.Invariant.Phases.{outside-busy, linked-busy, not-both}
 use Rattle.rules.proofs.Invariant.Clauses.{nothing, NodeShape, SeatShape, OnList, Seen, from-head, from-prev, from-cur, Ending, Ordered, Standing, Ahead, reader-comes, writer-comes, Invariant}

@@ -5,11 +5,13 @@ use Prim.Native.Nat.{ℕ, _≤_, _<_}
 use native.Mathlib.Omega.{arith}
 use Rattle.rules.specs.Comparison.{Claim}
 use Rattle.rules.proofs.Ground.Deciding.{if-same}
-use Rattle.rules.proofs.Ground.Following.{Reach, here, there, reach-source, reach-target, reach-on, not-from-0, stop}
+use Rattle.rules.proofs.Ground.Following.{reach-source, reach-target, reach-on, not-from-0, stop}
+use Rattle.rules.specs.Reach.{Reach, here, there}
 use Rattle.rules.proofs.Laws.Compared.{Precedes, apart, readers}
 use Rattle.rules.proofs.Invariant.View.{Nodes, Seats, claimAt, Outside}
 use Rattle.rules.proofs.Invariant.Phases.{outside-busy, linked-busy, not-both}
-use Rattle.rules.proofs.Invariant.Clauses.{Proper, Named, nothing, node, NodeShape, Seen, from-head, from-prev, from-cur, Ending, Ordered, Invariant}
+use Rattle.rules.proofs.Invariant.Clauses.{Named, nothing, node, NodeShape, Seen, from-head, from-prev, from-cur, Ending, Ordered, Invariant}
+use Rattle.rules.specs.Refusing.{Proper}
 
 -- ---- what is seen
 pub seen-pos : {link : ℕ → ℕ} {s : Seats} {a : ℕ} → Seen link s a → 0 < a

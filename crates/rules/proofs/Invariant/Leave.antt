@@ -8,7 +8,8 @@ use Rattle.rules.proofs.Ground.Deciding.{if-same}
 use Rattle.rules.proofs.Ground.Following.{not-from-0}
 use Rattle.rules.proofs.Invariant.View.{Nodes, Seats, claimAt, Unmarked, remark, Reseated, Outside, Linked}
 use Rattle.rules.proofs.Invariant.Phases.{outside-busy, linked-busy, outside-not-gone, linked-not-gone}
-use Rattle.rules.proofs.Invariant.Clauses.{Proper, NodeShape, SeatShape, Seen, from-head, from-prev, from-cur, Ahead, reader-comes, writer-comes, Invariant}
+use Rattle.rules.proofs.Invariant.Clauses.{NodeShape, SeatShape, Seen, from-head, from-prev, from-cur, Ahead, reader-comes, writer-comes, Invariant}
+use Rattle.rules.specs.Refusing.{Proper}
 use Rattle.rules.proofs.Invariant.Known.{own-pos, own-proper}
 use Rattle.rules.proofs.Invariant.SeatShapes.{at-rest, idle-seat}
 use Rattle.rules.proofs.Invariant.SeatMoves.{not-stuck}

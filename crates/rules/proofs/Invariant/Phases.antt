@@ -1,7 +1,8 @@
--- The classes of phases exclude each other.
+-- The classes of phases: which exclude each other, and that of linked claims as a range.
 use mathlib.Core.Logic.{_≢_}
-use Prim.Native.Nat.{ℕ}
+use Prim.Native.Nat.{ℕ, _≤_}
 use native.Mathlib.Omega.{arith}
+use Rattle.rules.proofs.Ground.Deciding.{if-same}
 use Rattle.rules.proofs.Invariant.View.{Outside, walking, waiting, Linked, validating, reader-waiting, holding}
 
 pub outside-busy : {p : ℕ} → Outside p → p ≢ 0
@@ -29,3 +30,14 @@ not-both (walking e) (holding d) = omega arith
 not-both (waiting e) (validating d) = omega arith
 not-both (waiting e) (reader-waiting d) = omega arith
 not-both (waiting e) (holding d) = omega arith
+
+-- phases 3, 4 and 5, as a range
+pub linked-in : {p : ℕ} → Linked p → (3 ≤ p) × (p ≤ 5)
+linked-in (validating e) = omega arith
+linked-in (reader-waiting e) = omega arith
+linked-in (holding e) = omega arith
+
+pub in-linked : {p : ℕ} → 3 ≤ p → p ≤ 5 → Linked p
+in-linked {p} h l =
+    if-same p 3 validating (λ d.
+    if-same p 4 reader-waiting (λ d′. holding (omega arith)))

@@ -6,7 +6,7 @@ use Prim.Native.Nat.{ℕ, _≤_, _<_}
 use native.Mathlib.Omega.{arith}
 use Rattle.rules.specs.Comparison.{Claim}
 use Rattle.rules.proofs.Ground.Deciding.{if-same}
-use Rattle.rules.proofs.Ground.Following.{Reach}
+use Rattle.rules.specs.Reach.{Reach}
 use Rattle.rules.proofs.Laws.Compared.{Precedes}
 use Rattle.rules.proofs.Invariant.View.{Nodes, Seats, claimAt, Reseated, Outside, Linked}
 use Rattle.rules.proofs.Invariant.Phases.{outside-busy, linked-busy, not-both}

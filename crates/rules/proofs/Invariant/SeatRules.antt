@@ -3,7 +3,8 @@ use mathlib.Core.Path.{_≡_, refl, sym, _∙_, ap}
 use mathlib.Core.Logic.{_≢_, _⊎_, inl, inr}
 use Prim.Native.Nat.{ℕ, _≤_, _<_}
 use native.Mathlib.Omega.{arith}
-use Rattle.rules.proofs.Ground.Following.{Reach, here, there, reach-source, not-from-0, beyond}
+use Rattle.rules.proofs.Ground.Following.{reach-source, not-from-0, beyond}
+use Rattle.rules.specs.Reach.{Reach, here, there}
 use Rattle.rules.proofs.Laws.Compared.{Precedes}
 use Rattle.rules.proofs.Invariant.View.{Nodes, Seats, claimAt, Marked, Outside, walking, waiting, Linked, validating, reader-waiting, holding}
 use Rattle.rules.proofs.Invariant.Phases.{outside-busy, linked-busy, not-both}

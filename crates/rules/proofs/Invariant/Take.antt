@@ -4,11 +4,13 @@ use mathlib.Core.Logic.{_≢_, _⊎_, inl, inr}
 use Prim.Native.Nat.{ℕ, _≤_, _<_}
 use native.Mathlib.Omega.{arith}
 use Rattle.rules.proofs.Ground.Deciding.{if-same}
-use Rattle.rules.proofs.Ground.Following.{Reach, here, there, reach-on, not-from-0, away-keeps-reach, away-adds-none, away-keeps-ends}
+use Rattle.rules.proofs.Ground.Following.{reach-on, not-from-0, away-keeps-reach, away-adds-none, away-keeps-ends}
+use Rattle.rules.specs.Reach.{Reach, here, there}
 use Rattle.rules.proofs.Laws.Compared.{Precedes}
 use Rattle.rules.proofs.Invariant.View.{Nodes, Seats, claimAt, Reseated, Outside, walking, Linked}
 use Rattle.rules.proofs.Invariant.Phases.{linked-busy, linked-not-gone, not-both}
-use Rattle.rules.proofs.Invariant.Clauses.{Proper, Named, nothing, node, NodeShape, SeatShape, OnList, Seen, from-head, from-prev, from-cur, Ordered, Private, Stuck, Ahead, reader-comes, writer-comes, Invariant}
+use Rattle.rules.proofs.Invariant.Clauses.{Named, nothing, node, NodeShape, SeatShape, OnList, Seen, from-head, from-prev, from-cur, Ordered, Private, Stuck, Ahead, reader-comes, writer-comes, Invariant}
+use Rattle.rules.specs.Refusing.{Proper}
 use Rattle.rules.proofs.Invariant.Known.{seen-pos}
 use Rattle.rules.proofs.Invariant.SeatShapes.{not-waiting, on-its-way}
 use Rattle.rules.proofs.Invariant.SeatMoves.{not-stuck}

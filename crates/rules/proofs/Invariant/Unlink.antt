@@ -5,7 +5,8 @@ use mathlib.Core.Logic.{_≢_, _⊎_, inl, inr}
 use Prim.Native.Nat.{ℕ, _<_}
 use native.Mathlib.Omega.{arith}
 use Rattle.rules.proofs.Ground.Deciding.{if-same}
-use Rattle.rules.proofs.Ground.Following.{Reach, here, there, unlink-keeps-reach, unlink-adds-none, unlink-keeps-ends, unlink-keeps-list, unlink-adds-none-to-list}
+use Rattle.rules.proofs.Ground.Following.{unlink-keeps-reach, unlink-adds-none, unlink-keeps-ends, unlink-keeps-list, unlink-adds-none-to-list}
+use Rattle.rules.specs.Reach.{Reach, here, there}
 use Rattle.rules.proofs.Invariant.View.{Nodes, Seats, claimAt, Marked, Unmarked, relink, Linked}
 use Rattle.rules.proofs.Invariant.Phases.{outside-busy}
 use Rattle.rules.proofs.Invariant.Clauses.{Named, NodeShape, OnList, Seen, from-head, from-prev, from-cur, Ordered, Ahead, reader-comes, writer-comes, Invariant}

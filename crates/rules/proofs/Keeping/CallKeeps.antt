@@ -13,7 +13,7 @@ use Rattle.rules.specs.Steps.{refetched}
 use Rattle.rules.specs.Calls.{begun, step}
 use Rattle.rules.specs.Run.{run}
 use Rattle.rules.specs.Play.{Call, beginCall, stepCall, releaseCall, call, afterAll}
-use Rattle.rules.specs.Reached.{Reached, cleared, called, afterRun}
+use Rattle.rules.specs.Reached.{single, running, Reached, cleared, asked}
 use Rattle.rules.proofs.Ground.Logic.{branch}
 use Rattle.rules.proofs.Laws.Words.{seat-count, fresh-nodes-length, fresh-seats-length, fresh-node-word, fresh-link, fresh-seat-word}
 use Rattle.rules.proofs.Ground.Following.{not-from-0}
@@ -134,5 +134,5 @@ module _ (N S : ℕ) where
 -- ---- every table that is reached
 pub good : {N S : ℕ} {t : Tables} → Reached N S t → Good N S t
 good {N} {S} (cleared a b c d) = fresh-good N S
-good (called r c) = call-keeps (good r) c
-good (afterRun r schedule budget) = run-keeps (good r) schedule budget
+good (asked r (single c)) = call-keeps (good r) c
+good (asked r (running schedule budget)) = run-keeps (good r) schedule budget

@@ -12,7 +12,7 @@ use Rattle.rules.specs.Fetch.{Fetched, writeClaim, enterAtHead, takeNode
 use Rattle.rules.proofs.Laws.Words.{link-node, node-count}
 use Rattle.rules.proofs.Ground.Lowest.{lowest-has}
 use Rattle.rules.proofs.Invariant.View.{nodesOf}
-use Rattle.rules.proofs.Invariant.Clauses.{Proper}
+use Rattle.rules.specs.Refusing.{Proper}
 use Rattle.rules.proofs.Invariant.Take.{Written, take-keeps}
 use Rattle.rules.proofs.Rules.Effects.{stored, reseated, Noded, node-as-found, put-word, put-next}
 use Rattle.rules.proofs.Rules.RuleEffects.{enter-stored}

@@ -10,7 +10,7 @@ use Rattle.rules.specs.Tables.{Tables, tables, beforeNodes, nodeWidth, s
 use Rattle.rules.specs.Comparison.{claimOf}
 use Rattle.rules.specs.Steps.{linkIn}
 use Rattle.rules.proofs.Laws.Words.{link-put-same, link-put-other, link-put-field, node-put-link, node-put-same, node-put-field, node-put-node, put-link-length, put-node-length}
-use Rattle.rules.proofs.Ground.Following.{here}
+use Rattle.rules.specs.Reach.{here}
 use Rattle.rules.proofs.Laws.Compared.{Precedes}
 use Rattle.rules.proofs.Invariant.View.{nodesOf, seatsOf, Reseated, walking, Linked}
 use Rattle.rules.proofs.Invariant.Phases.{outside-busy, linked-busy}

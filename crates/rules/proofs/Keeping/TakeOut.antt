@@ -12,7 +12,8 @@ use Rattle.rules.specs.Fetch.{keptFrom, kept, linkThrough, takenOut}
 use Rattle.rules.proofs.Ground.Logic.{branch}
 use Rattle.rules.proofs.Ground.Deciding.{if-true}
 use Rattle.rules.proofs.Laws.Words.{link-put-same, link-put-other, node-put-link, node-count, put-link-self, put-link-twice}
-use Rattle.rules.proofs.Ground.Following.{Reach, here, there, reach-target, reach-next, Ends, stop, more, ends-tail, no-circle, unlink-keeps-ends}
+use Rattle.rules.proofs.Ground.Following.{reach-target, reach-next, Ends, stop, more, ends-tail, no-circle, unlink-keeps-ends}
+use Rattle.rules.specs.Reach.{Reach, here, there}
 use Rattle.rules.proofs.Ground.Pigeonhole.{short}
 use Rattle.rules.proofs.Invariant.View.{seatsOf}
 use Rattle.rules.proofs.Invariant.Clauses.{OnList, from-head, Owner}

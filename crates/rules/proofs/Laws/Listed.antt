@@ -1,16 +1,33 @@
--- The tests `met` and `listed` against following links: what is met is reached and, where the walk ends within the hops, the other way
--- round.
+-- The test `met` against following links: what is met is reached and, where no link leads past N and the hops are N, the other way round,
+-- also if the walk goes round in a circle.
 use Prim.Native.Nat.{ℕ, zero, suc, _≤_, _<_}
 use mathlib.Core.Path.{_≡_, refl}
 use mathlib.Core.Bool.{true, false, not, _||_}
 use mathlib.Core.Logic.{_≢_, inl, inr}
 use native.Mathlib.Omega.{arith}
 use borrow.Author.Tests.{eqb-true, eqb-false, eq-eqb, ne-eqb}
-use Rattle.rules.specs.Notation.{_is_}
+use Rattle.rules.specs.Notation.{if_then_else_, _is_}
 use Rattle.rules.specs.Tables.{Tables, link, next}
-use Rattle.rules.specs.Reach.{met}
-use Rattle.rules.proofs.Ground.Logic.{both, and-both, or-case, or-left, or-right, not-true, of-not, clash}
-use Rattle.rules.proofs.Ground.Following.{Reach, here, there, not-from-0, Ends, stop, more}
+use Rattle.rules.specs.Reach.{met, Reach, here, there}
+use Rattle.rules.proofs.Ground.Logic.{branch, both, and-both, or-case, or-left, or-right, not-true, of-not, clash}
+use Rattle.rules.proofs.Ground.Following.{not-from-0, beyond, Ends, stop, more}
+use Rattle.rules.proofs.Ground.Pigeonhole.{short}
+use Rattle.rules.proofs.Ground.Deciding.{if-same}
+
+-- ---- a walk cut at x: it ends there, so that it passes no node twice
+module _ (link : ℕ → ℕ) (x : ℕ) where
+  abbrev cut : ℕ → ℕ
+  cut a = if a is x then 0 else link a
+
+  cut-ends : {a : ℕ} → Reach link x a → (k : ℕ) × Ends cut a k
+  cut-ends (here h) = (1, more {n = 0} h (rw (eq-eqb x x refl) stop))
+  cut-ends (there {a = a} h r) =
+      if-same a x
+      (λ e. (1, more {n = 0} h (rw (eq-eqb a x e) stop)))
+      (λ d. let q = cut-ends r in (suc (q .0), more {n = q .0} h (rw (ne-eqb a x d) (q .1))))
+
+  cut-small : (N : ℕ) → ((b : ℕ) → link b ≤ N) → (b : ℕ) → cut b ≤ N
+  cut-small N small b = branch (λ v. v ≤ N) (b is x) (λ e. omega arith) (λ e. small b)
 
 module _ (t : Tables) (x : ℕ) where
   pub met-reach : (h a : ℕ) → met h t a x ≡ true → Reach (link t) x a
@@ -34,9 +51,17 @@ module _ (t : Tables) (x : ℕ) where
   met-here zero p z = absurd (omega arith)
   met-here (suc h) p z = met-first h x z (or-left (x is x) (met h t (next t x) x) (eq-eqb x x refl))
 
-  pub reach-met : {a k : ℕ} → Ends (link t) a k → (h : ℕ) → k ≤ h → Reach (link t) x a → met h t a x ≡ true
-  reach-met stop h l r = absurd (not-from-0 r refl)
-  reach-met (more p e) zero l r = absurd (omega arith)
-  reach-met (more {a = a} p e) (suc h) l (here q) = met-here (suc h) (omega arith) (omega arith)
-  reach-met (more {a = a} p e) (suc h) l (there q r) =
-      met-first h a (omega arith) (or-right (a is x) (met h t (next t a) x) (reach-met e h (omega arith) r))
+  -- what is reached is met within the hops, if the walk that is cut at x ends within them
+  cut-met : {a k : ℕ} → Ends (cut (link t) x) a k → (h : ℕ) → k ≤ h → Reach (link t) x a → met h t a x ≡ true
+  cut-met stop h l r = absurd (not-from-0 r refl)
+  cut-met (more p e) zero l r = absurd (omega arith)
+  cut-met (more {a = a} p e) (suc h) l r =
+      if-same a x
+      (λ q. rw q (met-here (suc h) (omega arith) (omega arith)))
+      (λ d. let uncut = ne-eqb a x d in
+      let further = rw uncut at (cut-met e h (omega arith) (rw uncut (beyond d r))) in
+      met-first h a (omega arith) (or-right (a is x) (met h t (next t a) x) further))
+
+  -- where no link leads past N, N hops are enough
+  pub reach-met : (N : ℕ) → ((b : ℕ) → link t b ≤ N) → {a : ℕ} → a ≤ N → Reach (link t) x a → met N t a x ≡ true
+  reach-met N small l r = let q = cut-ends (link t) x r in cut-met (q .1) N (short N (cut-small (link t) x N small) l (q .1)) r

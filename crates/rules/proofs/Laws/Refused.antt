@@ -10,7 +10,7 @@ use Rattle.rules.specs.Shape.{sound, isKind}
 use borrow.Author.Tests.{eqb-false}
 use Rattle.rules.specs.Reach.{lowestFree}
 use Rattle.rules.specs.Fetch.{Fetched, takenOut, fetchAgain, fetch}
-use Rattle.rules.specs.Answers.{Answer, Done, done, answerOf, answered}
+use Rattle.rules.specs.Answers.{Answer, node, out, on, wait, held, back, refused, Done, done, answerOf, answered}
 use Rattle.rules.specs.Steps.{walking, waitingToEnter, validating, readerWaiting, refetched, withdrawn, stepByPhase}
 use Rattle.rules.specs.Calls.{begun, begin, step, release}
 use Rattle.rules.specs.Run.{refusalOf}
@@ -20,6 +20,16 @@ use Rattle.rules.proofs.Ground.Logic.{branch}
 -- what is refused leaves t
 abbrev pub Keeps : Tables → Done Answer → Type 0
 Keeps t d = refusalOf (d .answer) ≢ 0 → d .after ≡ t
+
+-- an answer that is a refusal is the refusal of its number
+pub refused-as : (a : Answer) → refusalOf a ≢ 0 → a ≡ refused (refusalOf a)
+refused-as (node n) d = absurd (d refl)
+refused-as out d = absurd (d refl)
+refused-as on d = absurd (d refl)
+refused-as (wait n) d = absurd (d refl)
+refused-as held d = absurd (d refl)
+refused-as back d = absurd (d refl)
+refused-as (refused number) d = refl
 
 -- an answer from the seat's phase is no refusal
 pub answer-accepts : (t : Tables) (s : ℕ) → refusalOf (answerOf t s) ≡ 0

@@ -10,18 +10,19 @@ use Rattle.rules.specs.Tables.{Tables}
 use Rattle.rules.specs.Shape.{sound}
 use Rattle.rules.specs.Comparison.{Claim}
 use Rattle.rules.specs.Fetch.{Fetched}
-use Rattle.rules.specs.Answers.{Answer, node, out, on, wait, held, back, refused, Done}
+use Rattle.rules.specs.Answers.{Answer, refused, Done}
 use Rattle.rules.specs.Steps.{refetched}
 use Rattle.rules.specs.Calls.{begun, step}
 use Rattle.rules.specs.Run.{refusalOf, runSteps, run}
 use Rattle.rules.specs.Play.{Call, beginCall, stepCall, releaseCall, call}
-use Rattle.rules.specs.Reached.{Reached, called}
+use Rattle.rules.specs.Refusing.{Refuses}
+use Rattle.rules.specs.Reached.{single, Reached, asked}
 use Rattle.rules.specs.declared.Ran.{Ran}
 use Rattle.rules.proofs.Ground.Logic.{branch, clash}
-use Rattle.rules.proofs.Laws.Refused.{answer-accepts}
+use Rattle.rules.proofs.Laws.Refused.{refused-as, answer-accepts}
 use Rattle.rules.proofs.Rules.Reasons.{Stepping, in-1, in-2, in-3, in-4, in-6, at-rest}
 use Rattle.rules.proofs.Soundness.SoundReached.{reached-sound}
-use Rattle.rules.proofs.Rules.Accepting.{Refuses, Beginning, begin-refused, begin-accepted, beginning, Stepped, step-refused, step-accepted, stepped, Releasing, release-refused, release-accepted, releasing}
+use Rattle.rules.proofs.Rules.Accepting.{refuses-1, Beginning, begin-refused, begin-accepted, beginning, Stepped, step-refused, step-accepted, stepped, Releasing, release-refused, release-accepted, releasing}
 
 -- the refusals of an accepted begin and an accepted step: none, or 8
 pub data NoneOr8 (a : Answer) : Type 0 where
@@ -50,8 +51,8 @@ none-or-8-not-1 (no-refusal e) q = let z = ap refusalOf q in omega arith
 none-or-8-not-1 (refusal-8 e) q = let z = ap refusalOf (sym e ∙ q) in omega arith
 
 module _ (t : Tables) (e : sound t ≡ true) (s : ℕ) where
-  refused-not-1 : {number : ℕ} → Refuses t number → refused number ≢ refused 1
-  refused-not-1 r q = clash (sound t) e (r .one-damaged (ap refusalOf q))
+  refused-not-1 : {c : Call} {number : ℕ} → Refuses t c number → refused number ≢ refused 1
+  refused-not-1 r q = clash (sound t) e (refuses-1 r (ap refusalOf q))
 
   begin-not-1 : {c : Claim} {d : Done Answer} → Beginning t s c d → d .answer ≢ refused 1
   begin-not-1 (begin-refused k r) = refused-not-1 r
@@ -73,13 +74,7 @@ sound-never-damaged t e (releaseCall s) = release-not-1 t e s (releasing t s)
 
 -- ---- nor is a run, nor any of its steps
 refusal-1 : (a : Answer) → refusalOf a ≡ 1 → a ≡ refused 1
-refusal-1 (node n) e = absurd (omega arith)
-refusal-1 out e = absurd (omega arith)
-refusal-1 on e = absurd (omega arith)
-refusal-1 (wait n) e = absurd (omega arith)
-refusal-1 held e = absurd (omega arith)
-refusal-1 back e = absurd (omega arith)
-refusal-1 (refused k) e = ap refused e
+refusal-1 a e = refused-as a (λ z. let q = sym z ∙ e in omega arith) ∙ ap refused e
 
 run-steps-not-1 : {N S : ℕ} (budget : ℕ) (t : Tables) (schedule : List ℕ) → Reached N S t → runSteps budget t schedule .answer .refusal ≢ 1
 unfolding runSteps call
@@ -87,7 +82,7 @@ run-steps-not-1 zero t schedule r = omega arith
 run-steps-not-1 (suc budget) t [] r = omega arith
 run-steps-not-1 (suc budget) t (s ∷ rest) r =
     branch (λ (d : Done Ran). d .answer .refusal ≢ 1) (refusalOf (step t s .answer) is 0)
-    (λ e. run-steps-not-1 budget (step t s .after) rest (called r (stepCall s)))
+    (λ e. run-steps-not-1 budget (step t s .after) rest (asked r (single (stepCall s))))
     (λ e q. sound-never-damaged t (reached-sound r) (stepCall s) (refusal-1 (step t s .answer) q))
 
 pub run-not-1 : {N S : ℕ} {t : Tables} → Reached N S t → (schedule : List ℕ) (budget : ℕ) → run t schedule budget .answer .refusal ≢ 1

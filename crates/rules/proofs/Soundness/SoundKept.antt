@@ -10,7 +10,7 @@ use Rattle.rules.specs.Notation.{_is_}
 use Rattle.rules.specs.Tables.{Tables, beforeNodes, nodeWidth, putLink, nodeCount, seatCount, phaseAt, link, next, head, phase, own, prev, cur, setLink, setMark, setPhase, setPrev, setCur}
 use Rattle.rules.specs.Comparison.{Claim, claimOf}
 use Rattle.rules.specs.Shape.{endsWithin, sound}
-use Rattle.rules.specs.Reach.{met, listed, othersReach, free, lowestFree}
+use Rattle.rules.specs.Reach.{met, listed, othersReach, free, lowestFree, Reach, there}
 use Rattle.rules.specs.Fetch.{Fetched, writeClaim, enterAtHead, takeNode, takenOut}
 use Rattle.rules.specs.Answers.{Answer, Done}
 use Rattle.rules.specs.Steps.{linkIn, pass, hold, withdraw, leave, refetched}
@@ -19,10 +19,11 @@ use Rattle.rules.proofs.Ground.Logic.{branch, or-neither, not-true, cla
 use Rattle.rules.proofs.Laws.Words.{link-put-same, link-put-other, put-link-length, node-count}
 use Rattle.rules.proofs.Laws.Shape.{is-sound, sound-is}
 use Rattle.rules.proofs.Ground.Lowest.{lowest-has}
-use Rattle.rules.proofs.Ground.Following.{Reach, there, reach-target, ends-tail, no-circle, unlink-keeps-ends, unlink-adds-none}
+use Rattle.rules.proofs.Ground.Following.{reach-target, ends-tail, no-circle, unlink-keeps-ends, unlink-adds-none}
 use Rattle.rules.proofs.Ground.Pigeonhole.{short}
 use Rattle.rules.proofs.Laws.Listed.{reach-met}
-use Rattle.rules.proofs.Invariant.Clauses.{Proper, Named, nothing, node, SeatShape, OnList, Ending}
+use Rattle.rules.proofs.Invariant.Clauses.{Named, nothing, node, SeatShape, OnList, Ending}
+use Rattle.rules.specs.Refusing.{Proper}
 use Rattle.rules.proofs.Invariant.Known.{named-in, named-proper}
 use Rattle.rules.proofs.Invariant.SeatShapes.{not-waiting, on-its-way, at-rest as resting-seat, idle-seat}
 use Rattle.rules.proofs.Rules.Effects.{Room, only-links}
@@ -96,7 +97,9 @@ module _ {N S : ℕ} {t : Tables} (g : Shaped N S t) where
   unfolding free listed
   free-off-list s a e r =
       let on = met (nodeCount t) t (head t) a in
-      clash on (reach-met t a (g .view .ends .1) (nodeCount t) list-short r) (or-neither on (othersReach t s a) (not-true (on || othersReach t s a) e) .0)
+      let small : (b : ℕ) → link t b ≤ N = λ b. named-in (g .view .nodes .links b) in
+      let is-on : on ≡ true = rw (node-count t N (g .nodes-long)) (reach-met t a N small (small 0) r) in
+      clash on is-on (or-neither on (othersReach t s a) (not-true (on || othersReach t s a) e) .0)
 
   -- the claim is written first, and then the seat reads the head
   take-shaped : (s a : ℕ) (c : Claim) → s < S → lowestFree t s ≡ a → a ≢ 0 → Proper c → Shaped N S (takeNode t s a c)

@@ -8,7 +8,7 @@ use native.Mathlib.Omega.{arith}
 use Rattle.rules.specs.Notation.{_is_}
 use Rattle.rules.specs.Tables.{Tables, nodeCount, link, next}
 use Rattle.rules.specs.Shape.{endsWithin, sound}
-use Rattle.rules.specs.Reached.{Reached, cleared, called, afterRun}
+use Rattle.rules.specs.Reached.{Reached, cleared, asked}
 use Rattle.rules.proofs.Ground.Logic.{or-right}
 use Rattle.rules.proofs.Laws.Shape.{Names, ZeroNode, ClaimNode, SeatSound, Sound, sound-is}
 use Rattle.rules.proofs.Laws.Words.{node-count, seat-count}
@@ -37,8 +37,7 @@ pub record Bounds (N S : ℕ) : Type 0 where
 
 pub bounds : {N S : ℕ} {t : Tables} → Reached N S t → Bounds N S
 bounds (cleared a b c d) = record { some-nodes = a; few-nodes = b; some-seats = c; few-seats = d }
-bounds (called r c) = bounds r
-bounds (afterRun r schedule budget) = bounds r
+bounds (asked r request) = bounds r
 
 module _ {N S : ℕ} {t : Tables} (g : Shaped N S t) where
   count : nodeCount t ≡ N

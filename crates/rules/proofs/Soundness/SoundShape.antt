@@ -20,7 +20,8 @@ use Rattle.rules.proofs.Laws.Words.{link-put-same, link-put-other, link
 use Rattle.rules.proofs.Laws.Shape.{Names, ClaimNode, Sound}
 use Rattle.rules.proofs.Ground.Following.{stop, more, ends-tail, unlink-keeps-ends, away-keeps-ends}
 use Rattle.rules.proofs.Invariant.View.{Nodes, Seats, nodesOf, seatsOf, claimAt, relink, remark, Reseated}
-use Rattle.rules.proofs.Invariant.Clauses.{Proper, Named, nothing, node, Blank, NodeShape, SeatShape, OnList, Ending}
+use Rattle.rules.proofs.Invariant.Clauses.{Named, nothing, node, Blank, NodeShape, SeatShape, OnList, Ending}
+use Rattle.rules.specs.Refusing.{Proper}
 use Rattle.rules.proofs.Invariant.Unlink.{relink-shape}
 use Rattle.rules.proofs.Invariant.Leave.{remark-shape}
 use Rattle.rules.proofs.Invariant.Take.{Written, written-shape, seat-same}

@@ -7,13 +7,13 @@ use mathlib.Core.Logic.{_≢_, _⊎_}
 use native.Mathlib.Omega.{arith}
 use borrow.Author.Tests.{eq-eqb, ne-eqb}
 use Rattle.rules.specs.Tables.{Tables, nodeWidth, nextAt, phaseAt, ownAt, prevAt, curAt, nodeWord, mark, link, next, phase, own, prev, cur, setLink, setPhase}
-use Rattle.rules.specs.Reach.{lowestFree}
+use Rattle.rules.specs.Reach.{lowestFree, Reach}
 use Rattle.rules.specs.Fetch.{takenOut}
 use Rattle.rules.specs.Steps.{joined, walking, waitingToEnter, validating, readerWaiting, stepByPhase}
 use Rattle.rules.specs.Calls.{step}
 use Rattle.rules.proofs.Ground.Logic.{clash}
 use Rattle.rules.proofs.Laws.Words.{link-put-same, link-put-other, node-put-link, seat-count}
-use Rattle.rules.proofs.Ground.Following.{Reach, Ends, unlink-keeps-reach, unlink-adds-none, unlink-adds-none-to-list, unlink-keeps-ends}
+use Rattle.rules.proofs.Ground.Following.{Ends, unlink-keeps-reach, unlink-adds-none, unlink-adds-none-to-list, unlink-keeps-ends}
 use Rattle.rules.proofs.Laws.Shape.{sound-is}
 use Rattle.rules.proofs.Rules.RuleEffects.{cur-stored, phase-stored}
 use Rattle.rules.proofs.Rules.Reasons.{Joined, Unlinking, takes-out, goes-past, Walking, walks, Waking, wakes-to-walk, wakes-to-validate, Validating, validates, by-phase-1, by-phase-2, by-phase-3, by-phase-4}

@@ -7,19 +7,20 @@ use native.Mathlib.Decide.{decLe}
 use borrow.Author.Tests.{ne-eqb}
 use Rattle.rules.specs.Tables.{Tables, start, kind, mark, link, phase, own, cur}
 use Rattle.rules.specs.Comparison.{Claim, claimOf}
-use Rattle.rules.specs.Reach.{lowestFree}
+use Rattle.rules.specs.Reach.{lowestFree, here}
 use Rattle.rules.specs.Fetch.{takenOut, fetch, fetchAgain}
-use Rattle.rules.specs.Answers.{refused, done}
+use Rattle.rules.specs.Answers.{Answer, wait, held, refused, Done, done, answered}
 use Rattle.rules.specs.Steps.{waitingToEnter, readerWaiting, refetched}
 use Rattle.rules.specs.Calls.{step}
 use Rattle.rules.specs.Apart.{Covers}
 use Rattle.rules.specs.Cause.{Cause, Settled, holds, waits, no-node}
 use Rattle.rules.proofs.Laws.Words.{seat-count}
-use Rattle.rules.proofs.Ground.Following.{here}
+use Rattle.rules.proofs.Laws.AnswersByPhase.{answers-held, answers-wait}
 use Rattle.rules.proofs.Laws.Compared.{Precedes, apart, readers}
 use Rattle.rules.proofs.Invariant.View.{seatsOf, waiting, reader-waiting}
-use Rattle.rules.proofs.Invariant.Phases.{linked-busy}
-use Rattle.rules.proofs.Invariant.Clauses.{Proper, Seen, from-cur}
+use Rattle.rules.proofs.Invariant.Phases.{linked-busy, linked-in}
+use Rattle.rules.proofs.Invariant.Clauses.{Seen, from-cur}
+use Rattle.rules.specs.Refusing.{Proper}
 use Rattle.rules.proofs.Invariant.Known.{seen-proper, own-proper, hidden}
 use Rattle.rules.proofs.Rules.Reasons.{by-phase-2, by-phase-4, by-phase-5, by-phase-6}
 use Rattle.rules.proofs.Keeping.Good.{Good}
@@ -66,14 +67,24 @@ unfolding refetched fetch fetchAgain
 stays-withdrawn t s c e e′ = rw (e, e′)
 
 module _ {N S : ℕ} (b : Bounds N S) (s : ℕ) (s-in : s < S) {t : Tables} (g : Good N S t) where
+  held-on : phase t s ≡ 5 → step t s ≡ done held t
+  held-on p = accepted b s s-in g (omega arith) ∙ by-phase-5 t s p ∙ ap (λ a. done a t) (answers-held t s p)
+
+  waits-on : (phase t s ≡ 2) ⊎ (phase t s ≡ 4) → mark t (cur t s) ≢ 1 → step t s ≡ done (wait (cur t s)) t
+  waits-on (inl p) m =
+      accepted b s s-in g (omega arith) ∙ by-phase-2 t s p ∙ ap (λ u. answered u s) (stays-waiting t s m)
+      ∙ ap (λ a. done a t) (answers-wait t s (inl p))
+  waits-on (inr p) m =
+      accepted b s s-in g (omega arith) ∙ by-phase-4 t s p ∙ ap (λ u. answered u s) (stays-reader-waiting t s m)
+      ∙ ap (λ a. done a t) (answers-wait t s (inr p))
+
   refused-8 : phase t s ≡ 6 → lowestFree t s ≡ 0 → lowestFree (takenOut t) s ≡ 0 → step t s ≡ done (refused 8) t
   refused-8 p e e′ = accepted b s s-in g (omega arith) ∙ by-phase-6 t s p ∙ stays-withdrawn t s (claimOf t (own t s)) e e′
 
   pub rest-stays : AtRest s t → step t s .after ≡ t
-  rest-stays (rests-holding p) = rw (accepted b s s-in g (omega arith), by-phase-5 t s p)
-  rest-stays (rests-waiting (inl p) m) = rw (accepted b s s-in g (omega arith), by-phase-2 t s p) (stays-waiting t s m)
-  rest-stays (rests-waiting (inr p) m) = rw (accepted b s s-in g (omega arith), by-phase-4 t s p) (stays-reader-waiting t s m)
-  rest-stays (rests-refused p e e′) = rw (refused-8 p e e′)
+  rest-stays (rests-holding p) = ap (λ (d : Done Answer). d .after) (held-on p)
+  rest-stays (rests-waiting p m) = ap (λ (d : Done Answer). d .after) (waits-on p m)
+  rest-stays (rests-refused p e e′) = ap (λ (d : Done Answer). d .after) (refused-8 p e e′)
 
   -- ---- and whoever waits has a cause: the claim at cur stands, so it has an owner
   module _ (m : mark t (cur t s) ≢ 1) (pos : 0 < cur t s) where
@@ -81,8 +92,8 @@ module _ {N S : ℕ} (b : Bounds N S) (s : ℕ) (s-in : s < S) {t : Tables} (g :
     seen = from-cur s (here pos)
 
     cause : (f : ℕ) → Covers (claimOf t (own t s)) f → Covers (claimOf t (cur t s)) f
-        → (kind t (own t s) ≡ 2) ⊎ (kind t (cur t s) ≡ 2) → own t s ≢ cur t s → Cause t s
-    cause f co cc w d =
+        → (kind t (own t s) ≡ 2) ⊎ (kind t (cur t s) ≡ 2) → own t s ≢ cur t s → Cause t s (cur t s)
+    cause f in-own in-cur w d =
         let on = g .inv .seen-listed seen m in
         let o = g .inv .owner on m in
         record {
@@ -90,21 +101,22 @@ module _ {N S : ℕ} (b : Bounds N S) (s : ℕ) (s-in : s < S) {t : Tables} (g :
           is-seat = rw (seat-count t S (g .seats-long)) (busy-in g (o .seat) (linked-busy (o .linked)));
           other = λ e. d (ap (own t) (sym e) ∙ o .owns);
           theirs = o .owns;
+          linked-in = linked-in (o .linked);
           stands = (is-listed g on, ne-eqb (mark t (cur t s)) 1 m);
           frame = f;
-          covered = co;
-          covered-by-theirs = cc;
+          covered = in-own;
+          covered-by-theirs = in-cur;
           one-writes = w;
         }
 
-  cause-2 : phase t s ≡ 2 → mark t (cur t s) ≢ 1 → Cause t s
+  cause-2 : phase t s ≡ 2 → mark t (cur t s) ≢ 1 → Cause t s (cur t s)
   cause-2 p m =
       let pos = g .inv .seats s .at-cur (inl p) in
       let k = g .inv .stuck s .at-2 p in
       let w = clash-shares (seen-proper (g .inv) (seen m pos)) (own-proper (g .inv) s (omega arith)) (k .0) (k .1) in
       cause m pos (w .frame) (w .in-o) (w .in-c) (w .writes) (λ e. hidden (g .inv) {i = s} (waiting p) (rw e (seen m pos)))
 
-  cause-4 : phase t s ≡ 4 → mark t (cur t s) ≢ 1 → Cause t s
+  cause-4 : phase t s ≡ 4 → mark t (cur t s) ≢ 1 → Cause t s (cur t s)
   cause-4 p m =
       let pos = g .inv .seats s .at-cur (inr p) in
       let k = g .inv .stuck s .at-4 p in
@@ -115,8 +127,11 @@ module _ {N S : ℕ} (b : Bounds N S) (s : ℕ) (s-in : s < S) {t : Tables} (g :
       (inr (elim (theirs .reads-or-writes) [ inl z ↦ absurd (k .1 z) | inr z ↦ z ]))
       (λ e. k .1 (ap (kind t) (sym e) ∙ k .0))
 
+  pub waits-with-cause : (phase t s ≡ 2) ⊎ (phase t s ≡ 4) → mark t (cur t s) ≢ 1 → Cause t s (cur t s)
+  waits-with-cause (inl p) m = cause-2 p m
+  waits-with-cause (inr p) m = cause-4 p m
+
   pub rest-settled : AtRest s t → Settled t s
-  rest-settled (rests-holding p) = holds p
-  rest-settled (rests-waiting (inl p) m) = waits (inl p) (cause-2 p m)
-  rest-settled (rests-waiting (inr p) m) = waits (inr p) (cause-4 p m)
-  rest-settled (rests-refused p e e′) = no-node p (rw (refused-8 p e e′)) e e′
+  rest-settled (rests-holding p) = holds p (held-on p)
+  rest-settled (rests-waiting p m) = waits (cur t s) (waits-on p m) (waits-with-cause p m)
+  rest-settled (rests-refused p e e′) = no-node (refused-8 p e e′) p (record { at-first = e; marked-out = e′ })

@@ -1,23 +1,23 @@
 -- Steps of one seat alone, counted: they settle its claim, each is accepted until one is refused 8, and a run of them does the same.
 use Prim.Native.Nat.{ℕ, zero, suc, _+_, _≤_, _<_}
-use mathlib.Core.Path.{_≡_, refl, sym, ap}
+use mathlib.Core.Path.{_≡_, refl, sym, ap, subst}
 use mathlib.Core.Logic.{_≢_}
 use native.Mathlib.Omega.{arith}
 use lib.ListN.{replicate}
 use borrow.Author.Tests.{eqb-false}
 use Rattle.rules.specs.Notation.{_is_}
 use Rattle.rules.specs.Tables.{Tables, phase}
-use Rattle.rules.specs.Answers.{Done}
+use Rattle.rules.specs.Answers.{Answer, Done, done}
 use Rattle.rules.specs.Calls.{step}
 use Rattle.rules.specs.Run.{ran, refusalOf, runSteps, run}
-use Rattle.rules.specs.Cause.{stepTimes, Settled, RunEnds, all-stepped, stopped-at-8}
+use Rattle.rules.specs.Cause.{stepTimes, Settled, holds, waits, no-node, Told, told-held, told-wait, told-8, RunEnds, all-stepped, stopped-at-8}
 use Rattle.rules.specs.declared.Ran.{Ran}
 use Rattle.rules.proofs.Ground.Logic.{branch}
 use Rattle.rules.proofs.Laws.Shape.{sound-is}
 use Rattle.rules.proofs.Laws.Refused.{step-keeps as refused-keeps}
 use Rattle.rules.proofs.Rules.Reasons.{steps}
 use Rattle.rules.proofs.Soundness.Refusals.{NoneOr8, no-refusal, refusal-8, stepping-none-or-8}
-use Rattle.rules.proofs.Frames.StaysBusy.{step-stays-busy}
+use Rattle.rules.proofs.Frames.AfterStep.{step-stays-busy}
 use Rattle.rules.proofs.Keeping.Good.{Good}
 use Rattle.rules.proofs.Keeping.CallKeeps.{step-keeps}
 use Rattle.rules.proofs.Soundness.SoundReached.{Bounds, good-sound}
@@ -44,6 +44,17 @@ module _ {N S : ℕ} (b : Bounds N S) (s : ℕ) (s-in : s < S) where
 
   pub settled-after : (k : ℕ) (t : Tables) → Good N S t → Within (alone s) (AtRest s) k t → Settled (stepTimes k t s) s
   settled-after k t g w = rest-settled b s s-in (times-good k s g) (at-rest-after k t g w)
+
+-- ---- what the next step then tells
+pub settled-tells : {t : Tables} {s : ℕ} → Settled t s → Told s (step t s .answer) (step t s .after)
+settled-tells {t} {s} w = elim w [
+  | holds h e ↦ so e (told-held refl h)
+  | waits n e c ↦ so e (told-wait n refl c)
+  | no-node e p n ↦ so e (told-8 refl p n)
+]
+  where
+    so : {a : Answer} → step t s ≡ done a t → Told s a t → Told s (step t s .answer) (step t s .after)
+    so e told = subst (λ (d : Done Answer). Told s (d .answer) (d .after)) (sym e) told
 
 -- ---- each step is accepted, or refused 8
 pub times-busy : (k : ℕ) (t : Tables) (s : ℕ) → phase t s ≢ 0 → phase (stepTimes k t s) s ≢ 0

@@ -9,7 +9,8 @@ use Rattle.rules.specs.Tables.{Tables, startAt, endAt, kindAt, markAt, p
 use Rattle.rules.specs.Comparison.{claimOf}
 use Rattle.rules.specs.Steps.{moveTo, linkIn, pass}
 use Rattle.rules.proofs.Ground.Deciding.{if-same}
-use Rattle.rules.proofs.Ground.Following.{Reach, here, reach-source, not-from-0, beyond, Ends, ends-tail}
+use Rattle.rules.proofs.Ground.Following.{reach-source, not-from-0, beyond, Ends, ends-tail}
+use Rattle.rules.specs.Reach.{Reach, here}
 use Rattle.rules.proofs.Laws.Compared.{Precedes, apart, readers}
 use Rattle.rules.proofs.Invariant.View.{walking, validating}
 use Rattle.rules.proofs.Invariant.Phases.{outside-busy}

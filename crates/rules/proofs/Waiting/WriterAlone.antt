@@ -8,7 +8,8 @@ use native.Mathlib.Omega.{arith}
 use Rattle.rules.specs.Tables.{Tables, startAt, endAt, kindAt, markAt, phaseAt, ownAt, curAt, start, end, kind, mark, link, phase, own, cur}
 use Rattle.rules.specs.Steps.{pass}
 use Rattle.rules.proofs.Ground.Logic.{not-of}
-use Rattle.rules.proofs.Ground.Following.{Reach, here, there, reach-source, not-from-0, beyond, Ends, ends-tail}
+use Rattle.rules.proofs.Ground.Following.{reach-source, not-from-0, beyond, Ends, ends-tail}
+use Rattle.rules.specs.Reach.{Reach, here, there}
 use Rattle.rules.proofs.Rules.RuleEffects.{pass-stored, hold-stored, withdraw-stored}
 use Rattle.rules.proofs.Rules.Reasons.{writer-holds, writer-unlinks, writer-passes, withdraws, Validating, validates-reader, validates-writer}
 use Rattle.rules.proofs.Keeping.Good.{Good, room}

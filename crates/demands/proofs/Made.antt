@@ -1,0 +1,88 @@
+-- What the library's calls did, under names: the tables that a call was lent, what it was told, what it answered, and the tables that it left.
+-- What ties them together is the call's own promise, as the checker reads it from the source: `args` is what the call was given, in the
+-- order of its parameters, `r` its result, `end` what the lent tables hold when it returns.
+use Prim.Native.Nat.{ℕ, suc, _+_}
+use mathlib.Core.List.{List, [], _∷_}
+use borrow.Fn.Kinds.{Dens, resT, endedOf}
+use contract.Lifetimes.{Lfts}
+use denote.Ref.{now}
+use denote.Triple.Clauses.{AtExit}
+use Rattle.rules.specs.Tables.{Tables, tables, nodeCount, seatCount}
+use Rattle.rules.specs.Comparison.{claim}
+use Rattle.rules.specs.Answers.{Answer}
+use Rattle.rules.specs.FreeCount.{Counted}
+use Rattle.rules.specs.Board.{Boarded}
+use Rattle.rules.specs.Means.{means, meansCount, meansBoard}
+use Rattle.rules.specs.Play.{Call, beginCall, stepCall, releaseCall}
+use Rattle.rules.specs.Reached.{Request, single, running}
+use Rattle.rules.specs.declared.Ran.{Ran}
+use Rattle.claims.proofs.clear.Reads as clearing
+use Rattle.claims.proofs.clear.Kinds as clear-kinds
+use Rattle.claims.proofs.begin.Reads as beginning
+use Rattle.claims.proofs.begin.Kinds as begin-kinds
+use Rattle.claims.proofs.step.Reads as stepping
+use Rattle.claims.proofs.step.Kinds as step-kinds
+use Rattle.claims.proofs.release.Reads as releasing
+use Rattle.claims.proofs.release.Kinds as release-kinds
+use Rattle.claims.proofs.free_count.Reads as counting
+use Rattle.claims.proofs.free_count.Kinds as count-kinds
+use Rattle.run.proofs.run.Reads as run-reads
+use Rattle.run.proofs.run.Kinds as run-kinds
+use Rattle.board.proofs.board.Reads as board-reads
+use Rattle.board.proofs.board.Kinds as board-kinds
+
+-- clear: the tables before, the number returned, the tables after
+pub data ClearMade : Tables → ℕ → Tables → Type 0 where
+  clear-made : (κs : Lfts 2) (args : Dens κs clear-kinds.ps) (r : resT clear-kinds.r κs .Denot) (end : AtExit (endedOf 2 clear-kinds.ps clear-kinds.r) κs)
+      → clearing.Post κs args r end
+      → ClearMade (tables (now (args .0)) (now (args .1 .0))) r (tables (now (end .0)) (now (end .1 .0)))
+
+-- begin, step or release: the tables before, the call with its numbers, the answer, the tables after
+pub data CallMade : Tables → Call → Answer → Tables → Type 0 where
+  begin-made : (κs : Lfts 2) (args : Dens κs begin-kinds.ps) (r : resT begin-kinds.r κs .Denot) (end : AtExit (endedOf 2 begin-kinds.ps begin-kinds.r) κs)
+      → beginning.Post κs args r end
+      → CallMade (tables (now (args .0)) (now (args .1 .0)))
+      (beginCall (args .1 .1 .0) (claim (args .1 .1 .1 .0) (args .1 .1 .1 .1 .0) (args .1 .1 .1 .1 .1 .0)))
+      (means r) (tables (now (end .0)) (now (end .1 .0)))
+  step-made : (κs : Lfts 2) (args : Dens κs step-kinds.ps) (r : resT step-kinds.r κs .Denot) (end : AtExit (endedOf 2 step-kinds.ps step-kinds.r) κs)
+      → stepping.Post κs args r end
+      → CallMade (tables (now (args .0)) (now (args .1 .0))) (stepCall (args .1 .1 .0)) (means r) (tables (now (end .0)) (now (end .1 .0)))
+  release-made : (κs : Lfts 2) (args : Dens κs release-kinds.ps) (r : resT release-kinds.r κs .Denot) (end : AtExit (endedOf 2 release-kinds.ps release-kinds.r) κs)
+      → releasing.Post κs args r end
+      → CallMade (tables (now (args .0)) (now (args .1 .0))) (releaseCall (args .1 .1 .0)) (means r) (tables (now (end .0)) (now (end .1 .0)))
+
+-- run: the tables before, the schedule, the budget, what it answered, the tables after
+pub data RunMade : Tables → List ℕ → ℕ → Ran → Tables → Type 0 where
+  run-made : (κs : Lfts 3) (args : Dens κs run-kinds.ps) (r : resT run-kinds.r κs .Denot) (end : AtExit (endedOf 3 run-kinds.ps run-kinds.r) κs)
+      → run-reads.Post κs args r end
+      → RunMade (tables (now (args .0)) (now (args .1 .0))) (now (args .1 .1 .0)) (args .1 .1 .1 .0) r (tables (now (end .0)) (now (end .1 .0)))
+
+-- free count: the tables, and what it answered
+pub data CountMade : Tables → Counted → Type 0 where
+  count-made : (κs : Lfts 2) (args : Dens κs count-kinds.ps) (r : resT count-kinds.r κs .Denot) (end : AtExit (endedOf 2 count-kinds.ps count-kinds.r) κs)
+      → counting.Post κs args r end
+      → CountMade (tables (now (args .0)) (now (args .1 .0))) (meansCount r)
+
+-- board on numbers: the tables, the lent list, what it answered, the list afterwards
+pub data BoardMade : Tables → List ℕ → Boarded → List ℕ → Type 0 where
+  board-made : (κs : Lfts 3) (args : Dens κs board-kinds.ps) (r : resT board-kinds.r κs .Denot) (end : AtExit (endedOf 3 board-kinds.ps board-kinds.r) κs)
+      → board-reads.Post κs args r end
+      → BoardMade (tables (now (args .0)) (now (args .1 .0))) (now (args .1 .1 .0)) (meansBoard r) (now (end .1 .1 .0))
+
+-- ---- one after the other
+pub data RequestMade : Tables → Request → Tables → Type 0 where
+  a-call : {t u : Tables} {c : Call} {a : Answer} → CallMade t c a u → RequestMade t (single c) u
+  a-run : {t u : Tables} {schedule : List ℕ} {budget : ℕ} {r : Ran} → RunMade t schedule budget r u → RequestMade t (running schedule budget) u
+
+pub data RequestsMade : Tables → List Request → Tables → Type 0 where
+  no-more : {t : Tables} → RequestsMade t [] t
+  first : {t u v : Tables} {r : Request} {rest : List Request} → RequestMade t r u → RequestsMade u rest v → RequestsMade t (r ∷ rest) v
+
+-- so many steps of seat s
+pub data StepsMade (s : ℕ) : ℕ → Tables → Tables → Type 0 where
+  no-step : {t : Tables} → StepsMade s 0 t t
+  a-step : {k : ℕ} {t u v : Tables} {a : Answer} → CallMade t (stepCall s) a u → StepsMade s k u v → StepsMade s (suc k) t v
+
+-- tables of N nodes and S seats that the library's clear accepted, and that were changed since by its calls alone, refused ones among them
+pub data Lent : ℕ → ℕ → Tables → Type 0 where
+  lent : {t u v : Tables} {requests : List Request} → ClearMade t 0 u → RequestsMade u requests v → Lent (nodeCount t) (seatCount t) v

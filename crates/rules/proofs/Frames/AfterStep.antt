@@ -1,0 +1,103 @@
+-- Where a step leaves its seat: with a claim, if it had one, and waiting only at a node that is not marked. Of any tables that have room for
+-- the seat.
+use Prim.Native.Nat.{ℕ}
+use mathlib.Core.Path.{_≡_, refl}
+use mathlib.Core.List.{List}
+use mathlib.Core.Logic.{_≢_, _⊎_, inl, inr}
+use native.Mathlib.Omega.{arith}
+use Rattle.rules.specs.Notation.{_is_}
+use Rattle.rules.specs.Tables.{Tables, phaseAt, curAt, mark, link, next, head, phase, own, prev, cur, setPhase}
+use Rattle.rules.specs.Comparison.{Claim}
+use Rattle.rules.specs.Fetch.{Fetched, writeClaim, takeNode, takenOut}
+use Rattle.rules.specs.Answers.{Answer, Done}
+use Rattle.rules.specs.Steps.{linkIn, hold, refetched}
+use Rattle.rules.specs.Calls.{step}
+use Rattle.rules.proofs.Ground.Logic.{branch}
+use Rattle.rules.proofs.Rules.Effects.{Room, Seated}
+use Rattle.rules.proofs.Rules.RuleEffects.{phase-stored, cur-stored, place-stored, pass-stored, start-stored, hold-stored, withdraw-stored, enter-stored}
+use Rattle.rules.proofs.Rules.Reasons.{Unlinking, takes-out, goes-past, as-reader, as-writer, links-in, restarts, rereads, Walking, inserts, unlinks, passes, waits, Waking, wakes, stays, reader-holds, reader-unlinks, reader-passes, reader-waits, writer-holds, writer-unlinks, writer-passes, withdraws, Validating, validates-reader, validates-writer, Fetching, found, found-then, none, Stepping, in-1, in-2, in-3, in-4, in-6, at-rest}
+use Rattle.rules.proofs.Rules.Accepting.{Stepped, step-refused, step-accepted, stepped}
+use Rattle.rules.proofs.Frames.SeatFrames.{sound-room}
+use Rattle.rules.proofs.Keeping.TakeOut.{taken-out-seats}
+
+-- after a step: the seat has a claim, and where it waits is not marked
+pub record Left (u : Tables) (s : ℕ) : Type 0 where
+  pub busy : phase u s ≢ 0
+  pub unmarked : (phase u s ≡ 2) ⊎ (phase u s ≡ 4) → mark u (cur u s) ≢ 1
+
+pub not-waiting : {u : Tables} {s : ℕ} → phase u s ≢ 0 → phase u s ≢ 2 → phase u s ≢ 4 → Left u s
+not-waiting b d₂ d₄ = record { busy = b; unmarked = λ p. absurd (elim p [ inl e ↦ d₂ e | inr e ↦ d₄ e ]) }
+
+moved : {before : List ℕ} {u : Tables} {s : ℕ} {words : ℕ → ℕ} → Seated before (u .seats) s words → words phaseAt ≢ 0 → words phaseAt ≢ 2 → words phaseAt ≢ 4 → Left u s
+moved w b d₂ d₄ = let e = w .at-s phaseAt (omega arith) in not-waiting (rw e b) (rw e d₂) (rw e d₄)
+
+module _ (t : Tables) (s : ℕ) (r : Room t s) where
+  turned : (P : ℕ) → P ≢ 0 → mark t (cur t s) ≢ 1 → Left (setPhase t s P) s
+  turned P z m =
+      let w = phase-stored t s r P in
+      record { busy = rw (w .at-s phaseAt (omega arith)) z; unmarked = λ p. rw (w .at-s curAt (omega arith)) m }
+
+  -- in phase 1 or 3 the seat moves on without another phase
+  module _ (p : (phase t s ≡ 1) ⊎ (phase t s ≡ 3)) where
+    goes-on : {u : Tables} {words : ℕ → ℕ} → Seated (t .seats) (u .seats) s words → words phaseAt ≡ phase t s → Left u s
+    goes-on w e = elim p [ inl q ↦ moved w (omega arith) (omega arith) (omega arith) | inr q ↦ moved w (omega arith) (omega arith) (omega arith) ]
+
+    unlinking-leaves : {u : Tables} → Unlinking t s u → Left u s
+    unlinking-leaves (takes-out j) = goes-on (cur-stored t s r (next t (cur t s))) refl
+    unlinking-leaves (goes-past e) = goes-on (cur-stored t s r (next t (cur t s))) refl
+
+  walking-leaves : {u : Tables} → phase t s ≡ 1 → Walking t s u → Left u s
+  unfolding linkIn
+  walking-leaves p (inserts f (links-in j (as-reader k))) = moved (start-stored t s r 3 (own t s) (next (linkIn t s) (own t s))) (omega arith) (omega arith) (omega arith)
+  walking-leaves p (inserts f (links-in j (as-writer k))) = moved (start-stored t s r 3 0 (head (linkIn t s))) (omega arith) (omega arith) (omega arith)
+  walking-leaves p (inserts f (restarts j m)) = goes-on (inl p) (place-stored t s r 0 (head t)) refl
+  walking-leaves p (inserts f (rereads j m)) = goes-on (inl p) (cur-stored t s r (link t (prev t s))) refl
+  walking-leaves p (unlinks c m w) = unlinking-leaves (inl p) w
+  walking-leaves p (passes c m f) = goes-on (inl p) (pass-stored t s r) refl
+  walking-leaves p (waits c m f f′) = turned 2 (omega arith) m
+
+  waking-leaves : {P : ℕ} {u : Tables} → phase t s ≢ 0 → P ≢ 0 → P ≢ 2 → P ≢ 4 → Waking t s P u → Left u s
+  waking-leaves {P} b z d₂ d₄ (wakes m) = moved (phase-stored t s r P) z d₂ d₄
+  waking-leaves b z d₂ d₄ (stays m) = record { busy = b; unmarked = λ p. m }
+
+  holding-leaves : Left (hold t s) s
+  holding-leaves = moved (hold-stored t s r) (omega arith) (omega arith) (omega arith)
+
+  validating-leaves : {u : Tables} → phase t s ≡ 3 → Validating t s u → Left u s
+  validating-leaves p (validates-reader k (reader-holds f)) = holding-leaves
+  validating-leaves p (validates-reader k (reader-unlinks c m w)) = unlinking-leaves (inr p) w
+  validating-leaves p (validates-reader k (reader-passes c m f)) = goes-on (inr p) (pass-stored t s r) refl
+  validating-leaves p (validates-reader k (reader-waits c m f h)) = turned 4 (omega arith) m
+  validating-leaves p (validates-writer k (writer-holds f)) = holding-leaves
+  validating-leaves p (validates-writer k (writer-unlinks d c m w)) = unlinking-leaves (inr p) w
+  validating-leaves p (validates-writer k (writer-passes d c m f)) = goes-on (inr p) (pass-stored t s r) refl
+  validating-leaves p (validates-writer k (withdraws d f)) = moved (withdraw-stored t s r) (omega arith) (omega arith) (omega arith)
+
+  taking-leaves : (a : ℕ) (c : Claim) → Left (takeNode t s a c) s
+  unfolding takeNode writeClaim
+  taking-leaves a c = moved (enter-stored (writeClaim t a c) s r a) (omega arith) (omega arith) (omega arith)
+
+fetching-leaves : {t : Tables} {s : ℕ} {c : Claim} {f : Fetched} → Room t s → phase t s ≡ 6 → Fetching t s c f → Left (f .after) s
+fetching-leaves {t} {s} {c} r p (found a e z) = taking-leaves t s r a c
+fetching-leaves {t} {s} {c} r p (found-then a e e′ z) = taking-leaves (takenOut t) s (rw (taken-out-seats t) r) a c
+fetching-leaves r p (none e e′) = not-waiting (omega arith) (omega arith) (omega arith)
+
+module _ (t : Tables) (s : ℕ) where
+  refetched-leaves : (f : Fetched) → phase t s ≡ 6 → Left (f .after) s → Left (refetched t s f .after) s
+  unfolding refetched
+  refetched-leaves f p w = branch (λ (d : Done Answer). Left (d .after) s) (f .node is 0) (λ e. not-waiting (omega arith) (omega arith) (omega arith)) (λ e. w)
+
+  pub stepping-leaves : {d : Done Answer} → Room t s → phase t s ≢ 0 → Stepping t s d → Left (d .after) s
+  stepping-leaves r b (in-1 e w) = walking-leaves t s r e w
+  stepping-leaves r b (in-2 e w) = waking-leaves t s r b (omega arith) (omega arith) (omega arith) w
+  stepping-leaves r b (in-3 e w) = validating-leaves t s r e w
+  stepping-leaves r b (in-4 e w) = waking-leaves t s r b (omega arith) (omega arith) (omega arith) w
+  stepping-leaves r b (in-6 {f = f} e w) = refetched-leaves f e (fetching-leaves r e w)
+  stepping-leaves r b (at-rest d₁ d₂ d₃ d₄ d₆) = not-waiting b d₂ d₄
+
+  stepped-busy : {d : Done Answer} → phase t s ≢ 0 → Stepped t s d → phase (d .after) s ≢ 0
+  stepped-busy b (step-refused k r) = b
+  stepped-busy b (step-accepted e h b′ w) = stepping-leaves (sound-room t s e h) b w .busy
+
+  pub step-stays-busy : phase t s ≢ 0 → phase (step t s .after) s ≢ 0
+  step-stays-busy b = stepped-busy b (stepped t s)

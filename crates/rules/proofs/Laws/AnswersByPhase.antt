@@ -1,0 +1,48 @@
+-- What a step answers, from the seat's new phase and the other way round.
+use Prim.Native.Nat.{ℕ}
+use mathlib.Core.Path.{_≡_, refl, sym, ap, _∙_}
+use mathlib.Core.Logic.{_≢_, _⊎_, inl, inr}
+use native.Mathlib.Omega.{arith}
+use borrow.Author.Tests.{eqb-true}
+use Rattle.rules.specs.Notation.{_is_}
+use Rattle.rules.specs.Tables.{Tables, phase, cur}
+use Rattle.rules.specs.Answers.{Answer, node, out, on, wait, held, back, refused, answerOf}
+use Rattle.rules.proofs.Ground.Logic.{branch}
+
+module _ (t : Tables) (s : ℕ) where
+  pub answers-wait : (phase t s ≡ 2) ⊎ (phase t s ≡ 4) → answerOf t s ≡ wait (cur t s)
+  unfolding answerOf
+  answers-wait (inl p) = rw p
+  answers-wait (inr p) = rw p
+
+  pub answers-held : phase t s ≡ 5 → answerOf t s ≡ held
+  unfolding answerOf
+  answers-held p = rw p
+
+  pub answers-back : phase t s ≡ 6 → answerOf t s ≡ back
+  unfolding answerOf
+  answers-back p = rw p
+
+  -- a seat that is told to wait is in phase 2 or 4, and waits at its cur
+  pub waits-in : (n : ℕ) → answerOf t s ≡ wait n → ((phase t s ≡ 2) ⊎ (phase t s ≡ 4)) × (cur t s ≡ n)
+  unfolding answerOf
+  waits-in n =
+      branch (λ a. a ≡ wait n → ((phase t s ≡ 2) ⊎ (phase t s ≡ 4)) × (cur t s ≡ n)) (phase t s is 2)
+      (λ e q. (inl (eqb-true (phase t s) 2 e), cc))
+      (λ e. branch (λ a. a ≡ wait n → ((phase t s ≡ 2) ⊎ (phase t s ≡ 4)) × (cur t s ≡ n)) (phase t s is 4)
+      (λ e q. (inr (eqb-true (phase t s) 4 e), cc))
+      (λ e. branch (λ a. a ≡ wait n → ((phase t s ≡ 2) ⊎ (phase t s ≡ 4)) × (cur t s ≡ n)) (phase t s is 5)
+      (λ e q. let z : _≡_ {A = ℕ} 0 1 = cc in absurd (omega arith))
+      (λ e. branch (λ a. a ≡ wait n → ((phase t s ≡ 2) ⊎ (phase t s ≡ 4)) × (cur t s ≡ n)) (phase t s is 6)
+      (λ e q. let z : _≡_ {A = ℕ} 0 1 = cc in absurd (omega arith))
+      (λ e q. let z : _≡_ {A = ℕ} 0 1 = cc in absurd (omega arith)))))
+
+  -- such an answer is no refusal
+  pub answers-no-refusal : (k : ℕ) → answerOf t s ≡ refused k → ⊥
+  unfolding answerOf
+  answers-no-refusal k =
+      branch (λ a. a ≡ refused k → ⊥) (phase t s is 2) (λ e q. let z : _≡_ {A = ℕ} 0 1 = cc in omega arith)
+      (λ e. branch (λ a. a ≡ refused k → ⊥) (phase t s is 4) (λ e q. let z : _≡_ {A = ℕ} 0 1 = cc in omega arith)
+      (λ e. branch (λ a. a ≡ refused k → ⊥) (phase t s is 5) (λ e q. let z : _≡_ {A = ℕ} 0 1 = cc in omega arith)
+      (λ e. branch (λ a. a ≡ refused k → ⊥) (phase t s is 6) (λ e q. let z : _≡_ {A = ℕ} 0 1 = cc in omega arith)
+      (λ e q. let z : _≡_ {A = ℕ} 0 1 = cc in omega arith))))

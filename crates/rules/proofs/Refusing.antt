@@ -1,0 +1,60 @@
+-- Demand 1: every call refuses exactly what and where document 01 says, and a refused call changes nothing that it was lent. Of any tables, any
+-- lists and any numbers. Nothing else stands here: the words are those of specs/Refusing.antt, and each proof is a citation.
+use Prim.Native.Nat.{ℕ, _/_}
+use mathlib.Core.Path.{_≡_, ap}
+use mathlib.Core.List.{List}
+use mathlib.Core.Logic.{_≢_}
+use lib.ListN.{length}
+use Rattle.rules.specs.Tables.{Tables}
+use Rattle.rules.specs.Answers.{Answer, refused, Done, done}
+use Rattle.rules.specs.Calls.{clear}
+use Rattle.rules.specs.FreeCount.{Counted, freeCount}
+use Rattle.rules.specs.Run.{ran, run}
+use Rattle.rules.specs.Board.{Boarded, shown, board, rowWidth, boardNumbers}
+use Rattle.rules.specs.Play.{Call, call}
+use Rattle.rules.specs.Refusing.{Refuses, ClearRefuses, DamageRefuses, BoardRefuses}
+use Rattle.rules.specs.declared.Row.{Row}
+use Rattle.rules.proofs.Laws.RunSteps.{damaged-run-refused}
+use Rattle.rules.proofs.Rules.RefusedExactly as exact
+
+-- ---- begin, step and release are refused only as the table says
+pub refused-only : (t : Tables) (c : Call) (k : ℕ) → call t c .answer ≡ refused k → Refuses t c k
+refused-only = exact.call-by-table
+
+-- and wherever it says so, with both tables as found
+pub refused-there : (t : Tables) (c : Call) (k : ℕ) → Refuses t c k → call t c ≡ done (refused k) t
+refused-there = exact.table-refused
+
+pub refused-changes-nothing : (t : Tables) (c : Call) (k : ℕ) → call t c .answer ≡ refused k → call t c .after ≡ t
+refused-changes-nothing t c k q = ap (λ (d : Done Answer). d .after) (refused-there t c k (refused-only t c k q))
+
+-- ---- clear: what is not 0 is its refusal
+pub clear-only : (t : Tables) (k : ℕ) → clear t .answer ≡ k → k ≢ 0 → ClearRefuses t k
+clear-only = exact.clear-by-table
+
+pub clear-there : (t : Tables) (k : ℕ) → ClearRefuses t k → clear t ≡ done k t
+clear-there = exact.clear-refused
+
+-- ---- run as a whole, "0 steps, refusal 1"; how any other run ends is said in Apart
+pub run-there : (t : Tables) (schedule : List ℕ) (budget k : ℕ) → DamageRefuses t k → run t schedule budget ≡ done (ran 0 k) t
+run-there = damaged-run-refused
+
+-- ---- free count
+pub count-only : (t : Tables) (k : ℕ) → freeCount t ≡ Counted.refused k → DamageRefuses t k
+count-only = exact.count-by-table
+
+pub count-there : (t : Tables) (k : ℕ) → DamageRefuses t k → freeCount t ≡ Counted.refused k
+count-there = exact.count-refused
+
+-- ---- the board on rows, and on numbers, four to a row: the lent list stays
+pub board-only : (t : Tables) (lent : List Row) (k : ℕ) → board t lent .answer ≡ Boarded.refused k → BoardRefuses t (length lent) k
+board-only = exact.board-by-table
+
+pub board-there : (t : Tables) (lent : List Row) (k : ℕ) → BoardRefuses t (length lent) k → board t lent ≡ shown (Boarded.refused k) lent
+board-there = exact.board-refused
+
+pub numbers-only : (t : Tables) (lent : List ℕ) (k : ℕ) → boardNumbers t lent .answer ≡ Boarded.refused k → BoardRefuses t (length lent / rowWidth) k
+numbers-only = exact.numbers-by-table
+
+pub numbers-there : (t : Tables) (lent : List ℕ) (k : ℕ) → BoardRefuses t (length lent / rowWidth) k → boardNumbers t lent ≡ shown (Boarded.refused k) lent
+numbers-there = exact.numbers-refused

@@ -1,0 +1,179 @@
+-- The calls refuse exactly as the tables of specs/Refusing.antt say, and what is refused changes nothing. Of any tables and numbers.
+use Prim.Native.Nat.{ℕ, _/_, _≤_, _<_}
+use mathlib.Core.Path.{_≡_, refl, sym, ap, subst, _∙_}
+use mathlib.Core.Bool.{Bool, true, false, not, _||_}
+use mathlib.Core.List.{List}
+use mathlib.Core.Logic.{_≢_, _⊎_, inl, inr}
+use native.Mathlib.Omega.{arith}
+use lib.ListN.{length}
+use borrow.Author.Tests.{eqb-true, ltb-true, ltb-false, lt-ltb, le-leb, lt-leb, eq-eqb, ne-eqb, not-false}
+use Rattle.rules.specs.Notation.{if_then_else_, _is_, _<?_}
+use Rattle.rules.specs.Tables.{Tables, seatCount, phase, own}
+use Rattle.rules.specs.Comparison.{Claim, claimOf}
+use Rattle.rules.specs.Shape.{lengthsFit, sound, isKind}
+use Rattle.rules.specs.Reach.{lowestFree}
+use Rattle.rules.specs.Fetch.{Fetched, fetched, takenOut, fetch, fetchAgain}
+use Rattle.rules.specs.Answers.{Answer, node, refused, out, Done, done}
+use Rattle.rules.specs.Steps.{refetched}
+use Rattle.rules.specs.Calls.{begun, clear, begin, step, release}
+use Rattle.rules.specs.FreeCount.{Counted, freeCount}
+use Rattle.rules.specs.Board.{Boarded, Shown, shown, holders, board, rowWidth, boardNumbers}
+use Rattle.rules.specs.Run.{refusalOf}
+use Rattle.rules.specs.Play.{Call, beginCall, stepCall, releaseCall, call, seatOf}
+use Rattle.rules.specs.Refusing.{HasSeat, Proper, NoNodeFree, Refuses, damaged, no-seat, no-frames, no-kind, not-idle, idle, not-holding, none-to-begin, none-again, ClearRefuses, lengths-wrong, DamageRefuses, tables-damaged, BoardRefuses, board-damaged, too-few-rows}
+use Rattle.rules.specs.declared.Row.{Row}
+use Rattle.rules.proofs.Ground.Logic.{branch, not-true, neither, or-left, or-right}
+use Rattle.rules.proofs.Laws.AnswersByPhase.{answers-no-refusal}
+use Rattle.rules.proofs.Rules.Reasons.{Fetching, found, found-then, none, Stepping, in-1, in-2, in-3, in-4, in-6, at-rest, by-phase-6}
+use Rattle.rules.proofs.Rules.Accepting.{Beginning, begin-refused, begin-accepted, beginning, Stepped, step-refused, step-accepted, stepped, Releasing, release-refused, release-accepted, releasing, step-is}
+
+-- ---- a refused begin, step or release is one of the table
+same-number : {t : Tables} {c : Call} {j k : ℕ} → Refuses t c j → refused j ≡ refused k → Refuses t c k
+same-number {t} {c} r q = subst (Refuses t c) (ap refusalOf q) r
+
+not-refused : {A : Type 0} {n k : ℕ} → node n ≡ refused k → A
+not-refused q = let z : _≡_ {A = ℕ} 0 1 = cc in absurd (omega arith)
+
+module _ (t : Tables) (s k : ℕ) (has : HasSeat t s) where
+  begun-refused : (c : Claim) {f : Fetched} → Proper c → phase t s ≡ 0 → Fetching t s c f → begun t f .answer ≡ refused k → Refuses t (beginCall s c) k
+  unfolding begun
+  begun-refused c p z (found a e d) q = not-refused (rw (ne-eqb a 0 d) at q)
+  begun-refused c p z (found-then a e e′ d) q = not-refused (rw (ne-eqb a 0 d) at q)
+  begun-refused c p z (none e e′) q = same-number (none-to-begin has p z (record { at-first = e; marked-out = e′ })) q
+
+  refetched-refused : (c : Claim) {f : Fetched} → phase t s ≡ 6 → Fetching t s c f → refetched t s f .answer ≡ refused k → Refuses t (stepCall s) k
+  unfolding refetched
+  refetched-refused c z (found a e d) q = absurd (answers-no-refusal _ s k (rw (ne-eqb a 0 d) at q))
+  refetched-refused c z (found-then a e e′ d) q = absurd (answers-no-refusal _ s k (rw (ne-eqb a 0 d) at q))
+  refetched-refused c z (none e e′) q = same-number (none-again has z (record { at-first = e; marked-out = e′ })) q
+
+  stepping-refused : {d : Done Answer} → Stepping t s d → d .answer ≡ refused k → Refuses t (stepCall s) k
+  stepping-refused (in-1 {u = u} e w) q = absurd (answers-no-refusal u s k q)
+  stepping-refused (in-2 {u = u} e w) q = absurd (answers-no-refusal u s k q)
+  stepping-refused (in-3 {u = u} e w) q = absurd (answers-no-refusal u s k q)
+  stepping-refused (in-4 {u = u} e w) q = absurd (answers-no-refusal u s k q)
+  stepping-refused (in-6 e w) q = refetched-refused (claimOf t (own t s)) e w q
+  stepping-refused (at-rest a b c d e) q = absurd (answers-no-refusal t s k q)
+
+seat-of : {t : Tables} {s : ℕ} → sound t ≡ true → s < seatCount t → HasSeat t s
+seat-of e h = record { is-sound = e; is-seat = h }
+
+module _ (t : Tables) (s k : ℕ) where
+  begin-by-table : (c : Claim) {d : Done Answer} → Beginning t s c d → d .answer ≡ refused k → Refuses t (beginCall s c) k
+  begin-by-table c (begin-refused number x) q = same-number x q
+  begin-by-table c (begin-accepted e h p z w) q = begun-refused t s k (seat-of e h) c p z w q
+
+  step-by-table : {d : Done Answer} → Stepped t s d → d .answer ≡ refused k → Refuses t (stepCall s) k
+  step-by-table (step-refused number x) q = same-number x q
+  step-by-table (step-accepted e h b w) q = stepping-refused t s k (seat-of e h) w q
+
+  release-by-table : {d : Done Answer} → Releasing t s d → d .answer ≡ refused k → Refuses t (releaseCall s) k
+  release-by-table (release-refused number x) q = same-number x q
+  release-by-table (release-accepted e h p) q = let z : _≡_ {A = ℕ} 0 1 = cc in absurd (omega arith)
+
+pub call-by-table : (t : Tables) (c : Call) (k : ℕ) → call t c .answer ≡ refused k → Refuses t c k
+unfolding call
+call-by-table t (beginCall s c) k = begin-by-table t s k c (beginning t s c)
+call-by-table t (stepCall s) k = step-by-table t s k (stepped t s)
+call-by-table t (releaseCall s) k = release-by-table t s k (releasing t s)
+
+-- ---- what the table says is refused, with nothing changed
+no-node-found : (t : Tables) (s : ℕ) (c : Claim) → NoNodeFree t s → fetch t s c ≡ fetched 0 t
+unfolding fetch fetchAgain
+no-node-found t s c n = rw (n .at-first, n .marked-out)
+
+is-a-kind : (k : ℕ) → (k ≡ 1) ⊎ (k ≡ 2) → isKind k ≡ true
+unfolding isKind
+is-a-kind k (inl e) = or-left (k is 1) (k is 2) (eq-eqb k 1 e)
+is-a-kind k (inr e) = or-right (k is 1) (k is 2) (eq-eqb k 2 e)
+
+no-kind-at-all : (k : ℕ) → k ≢ 1 → k ≢ 2 → isKind k ≡ false
+unfolding isKind
+no-kind-at-all k d d′ = neither (k is 1) (k is 2) (ne-eqb k 1 d) (ne-eqb k 2 d′)
+
+damaged-refused : (t : Tables) (c : Call) → sound t ≡ false → call t c ≡ done (refused 1) t
+unfolding call begin step release
+damaged-refused t (beginCall s c) e = rw e
+damaged-refused t (stepCall s) e = rw e
+damaged-refused t (releaseCall s) e = rw e
+
+past-refused : (t : Tables) (c : Call) → sound t ≡ true → seatCount t ≤ seatOf c → call t c ≡ done (refused 2) t
+unfolding call begin step release
+past-refused t (beginCall s c) e h = rw (e, le-leb (seatCount t) s h)
+past-refused t (stepCall s) e h = rw (e, le-leb (seatCount t) s h)
+past-refused t (releaseCall s) e h = rw (e, le-leb (seatCount t) s h)
+
+pub table-refused : (t : Tables) (c : Call) (k : ℕ) → Refuses t c k → call t c ≡ done (refused k) t
+unfolding call begin step release begun refetched
+table-refused t c k (damaged e) = damaged-refused t c e
+table-refused t c k (no-seat e h) = past-refused t c e h
+table-refused t _ k (no-frames {s = s} {c = c} w h) = rw (w .is-sound, lt-leb (seatCount t) s (w .is-seat), le-leb (c .end) (c .start) h)
+table-refused t _ k (no-kind {s = s} {c = c} w h d d′) =
+    rw (w .is-sound, lt-leb (seatCount t) s (w .is-seat), lt-leb (c .end) (c .start) h, no-kind-at-all (c .kind) d d′)
+table-refused t _ k (not-idle {s = s} {c = c} w p d) =
+    rw (w .is-sound, lt-leb (seatCount t) s (w .is-seat), lt-leb (c .end) (c .start) (p .some), is-a-kind (c .kind) (p .reads-or-writes), ne-eqb (phase t s) 0 d)
+table-refused t _ k (idle {s = s} w e) = rw (w .is-sound, lt-leb (seatCount t) s (w .is-seat), eq-eqb (phase t s) 0 e)
+table-refused t _ k (not-holding {s = s} w d) = rw (w .is-sound, lt-leb (seatCount t) s (w .is-seat), ne-eqb (phase t s) 5 d)
+table-refused t _ k (none-to-begin {s = s} {c = c} w p e n) =
+    rw (w .is-sound, lt-leb (seatCount t) s (w .is-seat), lt-leb (c .end) (c .start) (p .some), is-a-kind (c .kind) (p .reads-or-writes), eq-eqb (phase t s) 0 e, no-node-found t s c n)
+table-refused t _ k (none-again {s = s} w e n) =
+    step-is t s (w .is-sound) (w .is-seat) (omega arith) ∙ by-phase-6 t s e ∙ rw (no-node-found t s (claimOf t (own t s)) n)
+
+-- ---- clear, free count and board
+pub clear-by-table : (t : Tables) (k : ℕ) → clear t .answer ≡ k → k ≢ 0 → ClearRefuses t k
+unfolding clear
+clear-by-table t k =
+    branch (λ (d : Done ℕ). d .answer ≡ k → k ≢ 0 → ClearRefuses t k) (not (lengthsFit t))
+    (λ e q z. subst (ClearRefuses t) q (lengths-wrong (not-true (lengthsFit t) e)))
+    (λ e q z. absurd (z (sym q)))
+
+pub clear-refused : (t : Tables) (k : ℕ) → ClearRefuses t k → clear t ≡ done k t
+unfolding clear
+clear-refused t k (lengths-wrong e) = rw e
+
+pub count-by-table : (t : Tables) (k : ℕ) → freeCount t ≡ Counted.refused k → DamageRefuses t k
+unfolding freeCount
+count-by-table t k =
+    branch (λ a. a ≡ Counted.refused k → DamageRefuses t k) (not (sound t))
+    (λ e q. let n : 1 ≡ k = cc in subst (DamageRefuses t) n (tables-damaged (not-true (sound t) e)))
+    (λ e q. let z : _≡_ {A = ℕ} 0 1 = cc in absurd (omega arith))
+
+pub count-refused : (t : Tables) (k : ℕ) → DamageRefuses t k → freeCount t ≡ Counted.refused k
+unfolding freeCount
+count-refused t k (tables-damaged e) = rw e
+
+-- the board on rows and on numbers, over what is lent, how many rows that has and what is answered where nothing is refused
+module _ {A : Type 0} (t : Tables) (lent after : List A) (rows number covered : ℕ) where
+  abbrev boarding : Shown A
+  boarding =
+      if not (sound t) then shown (Boarded.refused 1) lent
+      else if rows <? length (holders t) then shown (Boarded.refused 9) lent
+      else shown (Boarded.filled number covered) after
+
+  boarding-by-table : (k : ℕ) → boarding .answer ≡ Boarded.refused k → BoardRefuses t rows k
+  boarding-by-table k =
+      branch (λ (x : Shown A). x .answer ≡ Boarded.refused k → BoardRefuses t rows k) (not (sound t))
+      (λ e q. let n : 1 ≡ k = cc in subst (BoardRefuses t rows) n (board-damaged (not-true (sound t) e)))
+      (λ e. branch (λ (x : Shown A). x .answer ≡ Boarded.refused k → BoardRefuses t rows k) (rows <? length (holders t))
+      (λ f q. let n : 9 ≡ k = cc in subst (BoardRefuses t rows) n (too-few-rows (not-false (sound t) e) (ltb-true rows (length (holders t)) f)))
+      (λ f q. let z : _≡_ {A = ℕ} 0 1 = cc in absurd (omega arith)))
+
+  boarding-refused : (k : ℕ) → BoardRefuses t rows k → boarding ≡ shown (Boarded.refused k) lent
+  boarding-refused k (board-damaged e) = rw e
+  boarding-refused k (too-few-rows e h) = rw (e, lt-ltb rows (length (holders t)) h)
+
+pub board-by-table : (t : Tables) (lent : List Row) (k : ℕ) → board t lent .answer ≡ Boarded.refused k → BoardRefuses t (length lent) k
+unfolding board
+board-by-table t lent k = boarding-by-table t lent _ (length lent) _ _ k
+
+pub board-refused : (t : Tables) (lent : List Row) (k : ℕ) → BoardRefuses t (length lent) k → board t lent ≡ shown (Boarded.refused k) lent
+unfolding board
+board-refused t lent k = boarding-refused t lent _ (length lent) _ _ k
+
+pub numbers-by-table : (t : Tables) (lent : List ℕ) (k : ℕ) → boardNumbers t lent .answer ≡ Boarded.refused k → BoardRefuses t (length lent / rowWidth) k
+unfolding boardNumbers
+numbers-by-table t lent k = boarding-by-table t lent _ (length lent / rowWidth) _ _ k
+
+pub numbers-refused : (t : Tables) (lent : List ℕ) (k : ℕ) → BoardRefuses t (length lent / rowWidth) k → boardNumbers t lent ≡ shown (Boarded.refused k) lent
+unfolding boardNumbers
+numbers-refused t lent k = boarding-refused t lent _ (length lent / rowWidth) _ _ k

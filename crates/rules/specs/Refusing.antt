@@ -1,0 +1,63 @@
+-- The words in which demand 1 is stated: of each call, its refusals and when each is met, by what the lent tables and the numbers are. Every
+-- case also says that none before it was met, so the order of the refusals stands here a second time, apart from the lists of tests in
+-- Calls, Run, Board and Script. proofs/Refusing.antt says that the calls refuse exactly so, and that a refused call changes nothing.
+use Prim.Native.Nat.{ℕ, _≤_, _<_}
+use mathlib.Core.Path.{_≡_}
+use mathlib.Core.Bool.{true, false}
+use mathlib.Core.Logic.{_≢_, _⊎_}
+use lib.ListN.{length}
+use Rattle.rules.specs.Tables.{Tables, seatCount, phase}
+use Rattle.rules.specs.Comparison.{Claim}
+use Rattle.rules.specs.Shape.{lengthsFit, sound}
+use Rattle.rules.specs.Reach.{lowestFree}
+use Rattle.rules.specs.Fetch.{takenOut}
+use Rattle.rules.specs.Board.{holders}
+use Rattle.rules.specs.Play.{Call, beginCall, stepCall, releaseCall, seatOf}
+
+-- the tables are sound and have the seat
+pub record HasSeat (t : Tables) (s : ℕ) : Type 0 where
+  pub is-sound : sound t ≡ true
+  pub is-seat : s < seatCount t
+
+-- a claim that may be begun: it covers some frame, and reads or writes
+pub record Proper (c : Claim) : Type 0 where
+  pub some : c .start < c .end
+  pub reads-or-writes : (c .kind ≡ 1) ⊎ (c .kind ≡ 2)
+
+-- fetch finds no free node for seat s, nor with the marked nodes taken out
+pub record NoNodeFree (t : Tables) (s : ℕ) : Type 0 where
+  pub at-first : lowestFree t s ≡ 0
+  pub marked-out : lowestFree (takenOut t) s ≡ 0
+
+-- ---- begin, step and release: | no | when |
+pub data Refuses (t : Tables) : Call → ℕ → Type 0 where
+  -- "1: tables damaged"
+  damaged : {call : Call} → sound t ≡ false → Refuses t call 1
+  -- "2: seat number not below S"
+  no-seat : {call : Call} → sound t ≡ true → seatCount t ≤ seatOf call → Refuses t call 2
+  -- "3: begin: start ≥ end"
+  no-frames : {s : ℕ} {c : Claim} → HasSeat t s → c .end ≤ c .start → Refuses t (beginCall s c) 3
+  -- "4: begin: kind not 1 or 2"
+  no-kind : {s : ℕ} {c : Claim} → HasSeat t s → c .start < c .end → c .kind ≢ 1 → c .kind ≢ 2 → Refuses t (beginCall s c) 4
+  -- "5: begin: seat not idle"
+  not-idle : {s : ℕ} {c : Claim} → HasSeat t s → Proper c → phase t s ≢ 0 → Refuses t (beginCall s c) 5
+  -- "6: step: seat idle"
+  idle : {s : ℕ} → HasSeat t s → phase t s ≡ 0 → Refuses t (stepCall s) 6
+  -- "7: release: phase not 5"
+  not-holding : {s : ℕ} → HasSeat t s → phase t s ≢ 5 → Refuses t (releaseCall s) 7
+  -- "8: begin, or step in phase 6: fetch found none"
+  none-to-begin : {s : ℕ} {c : Claim} → HasSeat t s → Proper c → phase t s ≡ 0 → NoNodeFree t s → Refuses t (beginCall s c) 8
+  none-again : {s : ℕ} → HasSeat t s → phase t s ≡ 6 → NoNodeFree t s → Refuses t (stepCall s) 8
+
+-- ---- clear: "1: .. for clear: only lengths wrong"
+pub data ClearRefuses (t : Tables) : ℕ → Type 0 where
+  lengths-wrong : lengthsFit t ≡ false → ClearRefuses t 1
+
+-- ---- run as a whole and free count: "1: tables damaged"
+pub data DamageRefuses (t : Tables) : ℕ → Type 0 where
+  tables-damaged : sound t ≡ false → DamageRefuses t 1
+
+-- ---- board, lent so many rows: 1, then "9: board: fewer rows than holders"
+pub data BoardRefuses (t : Tables) (rows : ℕ) : ℕ → Type 0 where
+  board-damaged : sound t ≡ false → BoardRefuses t rows 1
+  too-few-rows : sound t ≡ true → rows < length (holders t) → BoardRefuses t rows 9
