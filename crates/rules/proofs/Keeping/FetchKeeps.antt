@@ -10,7 +10,7 @@ use Rattle.rules.specs.Comparison.{Claim}
 use Rattle.rules.specs.Reach.{free, lowestFree}
 use Rattle.rules.specs.Fetch.{Fetched, writeClaim, enterAtHead, takeNode}
 use Rattle.rules.proofs.Laws.Words.{link-node, node-count}
-use Rattle.rules.proofs.Ground.Lowest.{lowest-has}
+use Rattle.rules.proofs.Ground.Counting.{lowest-has}
 use Rattle.rules.proofs.Invariant.View.{nodesOf}
 use Rattle.rules.proofs.Invariant.Clauses.{Proper}
 use Rattle.rules.proofs.Invariant.Take.{Written, take-keeps}

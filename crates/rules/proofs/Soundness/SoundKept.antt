@@ -18,7 +18,7 @@ use Rattle.rules.specs.Calls.{begun, begin, step, release}
 use Rattle.rules.proofs.Ground.Logic.{branch, or-neither, not-true, clash}
 use Rattle.rules.proofs.Laws.Words.{link-put-same, link-put-other, put-link-length, node-count}
 use Rattle.rules.proofs.Laws.Shape.{is-sound, sound-is}
-use Rattle.rules.proofs.Ground.Lowest.{lowest-has}
+use Rattle.rules.proofs.Ground.Counting.{lowest-has}
 use Rattle.rules.proofs.Ground.Following.{Reach, there, reach-target, ends-tail, no-circle, unlink-keeps-ends, unlink-adds-none}
 use Rattle.rules.proofs.Ground.Pigeonhole.{short}
 use Rattle.rules.proofs.Laws.Listed.{reach-met}
