@@ -33,6 +33,7 @@ use Rattle.rules.proofs.Keeping.Good.{link-in-words}
 use Rattle.rules.proofs.Rules.RuleEffects.{phase-stored, cur-stored, place-stored, start-stored, hold-stored, withdraw-stored, leave-stored, enter-stored}
 use Rattle.rules.proofs.Rules.Reasons.{Unlinking, takes-out, goes-past, Starting, as-reader, as-writer, Inserting, links-in, restarts, rereads, Walking, inserts, unlinks, passes, waits, Waking, wakes, stays, reader-holds, reader-unlinks, reader-passes, reader-waits, writer-holds, writer-unlinks, writer-passes, withdraws, Validating, validates-reader, validates-writer, Fetching, found, found-then, none, Stepping, in-1, in-2, in-3, in-4, in-6, at-rest}
 use Rattle.rules.proofs.Rules.Accepting.{Beginning, begin-refused, begin-accepted, beginning, Stepped, step-refused, step-accepted, stepped, Releasing, release-refused, release-accepted, releasing}
+use Rattle.rules.proofs.Keeping.Aside.{linked-in}
 use Rattle.rules.proofs.Keeping.FetchKeeps.{written}
 use Rattle.rules.proofs.Keeping.TakeOut.{taken-out-keeps}
 use Rattle.rules.proofs.Soundness.SoundShape.{SoundView, Shaped, within-ends, shaped-room, seat-moves, link-passes-over, claim-marked, claim-put, sound-shaped}
@@ -78,7 +79,7 @@ module _ {N S : ℕ} (t : Tables) (p c : ℕ) (w : OnWay N S t p) (e : link t p 
 module _ {N S : ℕ} {t : Tables} (g : Shaped N S t) where
   list-short : g .view .ends .0 ≤ nodeCount t
   list-short =
-      rw (node-count t N (g .nodes-long))
+      rw (node-count t N (g .aside .nodes-long))
       (short N (λ b. named-in (g .view .nodes .links b)) (named-in (g .view .nodes .links 0)) (g .view .ends .1))
 
   taken-out-shaped : Shaped N S (takenOut t)
@@ -103,10 +104,10 @@ module _ {N S : ℕ} {t : Tables} (g : Shaped N S t) where
   unfolding takeNode enterAtHead writeClaim lowestFree
   take-shaped s a c s-in e z p =
       let w = lowest-has (nodeCount t) (free t s) a e z in
-      let l : a ≤ N = rw (node-count t N (g .nodes-long)) at (w .1) in
+      let l : a ≤ N = rw (node-count t N (g .aside .nodes-long)) at (w .1) in
       let put = claim-put g a c z l p (free-off-list s a (w .0)) in
       let there : Named N (claimOf (writeClaim t a c)) a = node (omega arith) l (written t a c z (shaped-room g a l) p .proper) in
-      seat-moves put (enter-stored (writeClaim t a c) s (let h = g .seats-long in omega arith) a)
+      seat-moves put (enter-stored (writeClaim t a c) s (let h = g .aside .seats-long in omega arith) a)
       (on-its-way (omega arith) (omega arith) (not-waiting (omega arith) (omega arith)) (omega arith) there (nothing refl) (put .view .nodes .links 0))
 
 fetch-shaped : {N S : ℕ} {t : Tables} {s : ℕ} {c : Claim} {f : Fetched} → Shaped N S t → s < S → Proper c → Fetching t s c f → Shaped N S (f .after)
@@ -121,7 +122,7 @@ OnFoot P = (P ≡ 1) ⊎ (P ≡ 3)
 
 module _ {N S : ℕ} {t : Tables} (g : Shaped N S t) (s : ℕ) (s-in : s < S) (busy : phase t s ≢ 0) where
   room : Room t s
-  room = let l = g .seats-long in omega arith
+  room = let l = g .aside .seats-long in omega arith
 
   abbrev shape : SeatShape N (claimOf t) (phase t s) (own t s) (prev t s) (cur t s)
   shape = g .view .seats s
@@ -201,8 +202,7 @@ module _ {N S : ℕ} {t : Tables} (g : Shaped N S t) (s : ℕ) (s-in : s < S) (b
   linked-shaped : Ending (link (linkIn t s)) (head (linkIn t s)) → Shaped N S (linkIn t s)
   unfolding linkIn
   linked-shaped e = record {
-    nodes-long = put-link-length (putLink (t .nodes) (own t s) (cur t s)) (prev t s) (own t s) ∙ put-link-length (t .nodes) (own t s) (cur t s) ∙ g .nodes-long;
-    seats-long = g .seats-long;
+    aside = linked-in (g .aside) s;
     view = subst (λ n. SoundView N n (seatsOf t)) (only-links t (linkIn t s) (link-in-words t s))
         (record { nodes = relink-shape (link (linkIn t s)) (g .view .nodes) linked-ways; seats = g .view .seats; ends = e });
   }
