@@ -80,6 +80,11 @@ seatWord seats s field = getD seats (seatWidth * s + field) 0
 unfoldable pub putSeat : List ℕ → ℕ → ℕ → ℕ → List ℕ
 putSeat seats s field value = set seats (seatWidth * s + field) value
 
+-- the first words of a seat become 0
+unfoldable pub clearWords : ℕ → List ℕ → ℕ → List ℕ
+clearWords zero seats s = seats
+clearWords (suc field) seats s = putSeat (clearWords field seats s) s field 0
+
 -- ---- N and S, from the lengths
 unfoldable pub nodeCountOf : List ℕ → ℕ
 nodeCountOf nodes = (length nodes - beforeNodes) / nodeWidth
@@ -156,6 +161,10 @@ setPrev = setSeat prevAt
 
 abbrev pub setCur : Tables → ℕ → ℕ → Tables
 setCur = setSeat curAt
+
+-- 0 in every word of a seat
+abbrev pub clearSeat : Tables → ℕ → Tables
+clearSeat t s = tables (t .nodes) (clearWords seatWidth (t .seats) s)
 
 -- ---- "Clear writes 0 everywhere; that table is fresh."
 abbrev pub zeros : ℕ → List ℕ

@@ -129,7 +129,7 @@ module _ (N S : ℕ) where
   }
 
   fresh-good : Good N S t₀
-  fresh-good = record { aside = record { nodes-long = fresh-nodes-length N S; seats-long = fresh-seats-length N S }; inv = fresh-invariant }
+  fresh-good = record { aside = record { nodes-long = fresh-nodes-length N S; seats-long = fresh-seats-length N S; seat = λ s. record { idle = λ z f h. fresh-seat-word N S s f } }; inv = fresh-invariant }
 
 -- ---- every table that is reached
 pub good : {N S : ℕ} {t : Tables} → Reached N S t → Good N S t

@@ -17,7 +17,7 @@ use Rattle.rules.proofs.Invariant.Take.{Written, take-keeps}
 use Rattle.rules.proofs.Rules.Effects.{stored, reseated, Noded, node-as-found, put-word, put-next}
 use Rattle.rules.proofs.Rules.RuleEffects.{enter-stored}
 use Rattle.rules.proofs.Rules.Reasons.{Fetching, found, found-then, none}
-use Rattle.rules.proofs.Keeping.Aside.{seat-put, claim-put}
+use Rattle.rules.proofs.Keeping.Aside.{not-idle, seat-put, claim-put}
 use Rattle.rules.proofs.Keeping.Good.{Good, room, node-room}
 use Rattle.rules.proofs.Keeping.TakeOut.{taken-out-good, taken-out-seats}
 use Rattle.rules.proofs.Keeping.Hops.{is-free}
@@ -60,7 +60,7 @@ module _ {N S : ℕ} {t : Tables} (g : Good N S t) (s : ℕ) (s-in : s < S) (c :
       let same-head : head u ≡ head t = wrote .links 0 (λ e. z (sym e)) in
       let sat = enter-stored u s (room g s s-in) a in
       record {
-        aside = seat-put (claim-put (g .aside) a c) sat;
+        aside = seat-put (claim-put (g .aside) a c) sat (not-idle (omega arith));
         inv = take-keeps (g .inv) (is-free g s a f z h) (written t a c z (node-room g a h) proper) (reseated t (enterAtHead u s a) sat) same-head h may;
       }
 

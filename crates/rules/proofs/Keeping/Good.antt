@@ -17,11 +17,11 @@ use Rattle.rules.proofs.Invariant.Phases.{outside-busy, linked-busy}
 use Rattle.rules.proofs.Invariant.Clauses.{Ordered, from-prev, Invariant}
 use Rattle.rules.proofs.Invariant.Known.{Known, named-in, precedes-ordered, own-pos, own-proper, hidden}
 use Rattle.rules.proofs.Invariant.Unlink.{unlink-keeps}
-use Rattle.rules.proofs.Invariant.Insert.{Starts, insert-keeps}
+use Rattle.rules.proofs.Invariant.Insert.{Starts, reader, writer, insert-keeps}
 use Rattle.rules.proofs.Invariant.Leave.{Leaves, leave-keeps}
 use Rattle.rules.proofs.Rules.Effects.{Room, Seated, reseated, only-links, only-marks}
 use Rattle.rules.proofs.Rules.Reasons.{Joined}
-use Rattle.rules.proofs.Keeping.Aside.{Aside, link-put, word-put, seat-put, linked-in}
+use Rattle.rules.proofs.Keeping.Aside.{SeatAside, not-idle, Aside, link-put, word-put, seat-put, linked-in}
 
 pub record Good (N S : ℕ) (t : Tables) : Type 0 where
   pub aside : Aside N S t
@@ -38,12 +38,12 @@ pub same-view : {N S : ℕ} {t u : Tables} → Good N S t → Aside N S u → no
 same-view {N} g w e e′ = record { aside = w; inv = subst₂ (Invariant N) e e′ (g .inv) }
 
 -- ---- a seat moves
-pub moves : {N S : ℕ} {t : Tables} {s : ℕ} {words : ℕ → ℕ} {seats : List ℕ} → Good N S t → Seated (t .seats) seats s words
+pub moves : {N S : ℕ} {t : Tables} {s : ℕ} {words : ℕ → ℕ} {seats : List ℕ} → Good N S t → Seated (t .seats) seats s words → SeatAside words
     → (Reseated (seatsOf t) (seatsOf (tables (t .nodes) seats)) s (words phaseAt) (words ownAt) (words prevAt) (words curAt)
     → Invariant N (nodesOf t) (seatsOf (tables (t .nodes) seats)))
     → Good N S (tables (t .nodes) seats)
-moves {t = t} {seats = seats} g w f =
-    record { aside = seat-put (g .aside) w; inv = f (reseated t (tables (t .nodes) seats) w) }
+moves {t = t} {seats = seats} g w k f =
+    record { aside = seat-put (g .aside) w k; inv = f (reseated t (tables (t .nodes) seats) w) }
 
 -- ---- a link that led to a marked node passes over it
 pub passes-over : {N S : ℕ} {t : Tables} → Good N S t → (p out : ℕ) → p ≤ N → Known (link t) (seatsOf t) p
@@ -99,9 +99,9 @@ module _ {N S : ℕ} {t : Tables} (g : Good N S t) (s : ℕ) where
     unfolding linkIn
     old-links a d d′ = link-put-other (putLink (t .nodes) o c) p a o (λ e. d′ (sym e)) ∙ link-put-other (t .nodes) o a c (λ e. d (sym e))
 
-    linked-aside : {seats : List ℕ} {words : ℕ → ℕ} → Seated (t .seats) seats s words → Aside N S (tables (linkIn t s .nodes) seats)
+    linked-aside : {seats : List ℕ} {words : ℕ → ℕ} → Seated (t .seats) seats s words → SeatAside words → Aside N S (tables (linkIn t s .nodes) seats)
     unfolding linkIn
-    linked-aside w = seat-put (linked-in (g .aside) s) w
+    linked-aside w k = seat-put (linked-in (g .aside) s) w k
 
     in-front : 0 < link t p → Ordered (claimOf t o) (claimOf t (link t p))
     in-front h =
@@ -114,22 +114,22 @@ module _ {N S : ℕ} {t : Tables} (g : Good N S t) (s : ℕ) where
     pub links-in-good : {seats : List ℕ} {words : ℕ → ℕ} → Seated (t .seats) seats s words → words ownAt ≡ o
         → Starts (nodesOf t) (link (linkIn t s)) o p (words phaseAt) (words prevAt) (words curAt) → Good N S (tables (linkIn t s .nodes) seats)
     links-in-good {seats} {words} w e st = record {
-      aside = linked-aside w;
+      aside = linked-aside w (not-idle (elim st [ reader p k q c ↦ omega arith | writer p k q c ↦ omega arith ]));
       inv = subst (λ n. Invariant N n (seatsOf (tables (linkIn t s .nodes) seats))) (only-links t (linkIn t s) (link-in-words t s))
           (insert-keeps (g .inv) (link (linkIn t s)) s (words phaseAt) (words prevAt) (words curAt) walks (join .unmarked)
           (new-own ∙ sym (join .to-cur)) new-prev old-links (rw e at (reseated t (tables (linkIn t s .nodes) seats) w)) st in-front);
     }
 
   -- ---- own is marked and the seat leaves
-  pub leaves-good : {seats : List ℕ} {words : ℕ → ℕ} → Linked (phase t s) → Seated (t .seats) seats s words
+  pub leaves-good : {seats : List ℕ} {words : ℕ → ℕ} → Linked (phase t s) → Seated (t .seats) seats s words → SeatAside words
       → words prevAt ≡ 0 → words curAt ≡ 0 → Leaves o (words phaseAt) (words ownAt) → Good N S (tables (setMark t o 1 .nodes) seats)
-  leaves-good {seats} {words} l w ep ec lv =
+  leaves-good {seats} {words} l w k ep ec lv =
       let h : o ≢ 0 = let x = own-pos (g .inv) s (linked-busy l) in omega arith in
       let ns = t .nodes in
       let u = tables (setMark t o 1 .nodes) seats in
       let r : Reseated (seatsOf t) (seatsOf u) s (words phaseAt) (words ownAt) 0 0 = rw (ep, ec) at (reseated t u w) in
       record {
-        aside = seat-put (word-put (g .aside) markAt o 1) w;
+        aside = seat-put (word-put (g .aside) markAt o 1) w k;
         inv = subst (λ n. Invariant N n (seatsOf u))
             (only-marks t (setMark t o 1) (λ a f b d. node-put-field ns o a markAt f 1 (omega arith) b (λ e. d (sym e)))
             (λ a. link-put-field ns o a markAt 1 (omega arith) (omega arith)))

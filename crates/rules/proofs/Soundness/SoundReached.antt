@@ -62,7 +62,7 @@ module _ {N S : ℕ} {t : Tables} (g : Shaped N S t) where
   seat-shape : (s : ℕ) → SeatSound t s
   seat-shape s = let h = g .view .seats s in record {
     phase-small = h .is-phase;
-    idle = h .idle;
+    idle = g .aside .seat s .idle;
     owning = λ b. let o = h .owning b in omega arith;
     resting = h .resting;
     waiting = λ p. let c = h .at-cur p in omega arith;

@@ -26,7 +26,7 @@ use Rattle.rules.proofs.Invariant.Leave.{remark-shape}
 use Rattle.rules.proofs.Invariant.Take.{Written, written-shape, seat-same}
 use Rattle.rules.proofs.Rules.Effects.{Seated, reseated, only-links, only-marks}
 use Rattle.rules.proofs.Keeping.Aside as aside
-use Rattle.rules.proofs.Keeping.Aside.{Aside}
+use Rattle.rules.proofs.Keeping.Aside.{SeatAside, Aside}
 use Rattle.rules.proofs.Keeping.FetchKeeps.{written}
 
 pub record SoundView (N : ℕ) (n : Nodes) (s : Seats) : Type 0 where
@@ -91,10 +91,10 @@ pub shaped-room : {N S : ℕ} {t : Tables} → Shaped N S t → (a : ℕ) → a 
 shaped-room g a h = let l = g .aside .nodes-long in omega arith
 
 module _ {N S : ℕ} {t : Tables} (g : Shaped N S t) where
-  pub seat-moves : {s : ℕ} {words : ℕ → ℕ} {seats : List ℕ} → Seated (t .seats) seats s words
+  pub seat-moves : {s : ℕ} {words : ℕ → ℕ} {seats : List ℕ} → Seated (t .seats) seats s words → SeatAside words
       → SeatShape N (claimOf t) (words phaseAt) (words ownAt) (words prevAt) (words curAt) → Shaped N S (tables (t .nodes) seats)
-  seat-moves {seats = seats} w h = record {
-    aside = aside.seat-put (g .aside) w;
+  seat-moves {seats = seats} w k h = record {
+    aside = aside.seat-put (g .aside) w k;
     view = reseat-keeps-shape (g .view) (reseated t (tables (t .nodes) seats) w) h;
   }
 
@@ -182,7 +182,7 @@ module _ {t : Tables} (w : Sound t) where
 
   pub sound-shaped : Shaped (nodeCount t) (seatCount t) t
   sound-shaped = record {
-    aside = record { nodes-long = w .nodes-length; seats-long = w .seats-length };
+    aside = record { nodes-long = w .nodes-length; seats-long = w .seats-length; seat = λ s. record { idle = w .seat s .idle } };
     view = record {
       nodes = record {
         head-unmarked = node-zero (t .nodes) markAt;
@@ -192,7 +192,6 @@ module _ {t : Tables} (w : Sound t) where
       };
       seats = λ s. let h = w .seat s in record {
         is-phase = h .phase-small;
-        idle = h .idle;
         owning = λ b. let o = h .owning b in omega arith;
         resting = h .resting;
         at-cur = λ p. let c = h .waiting p in omega arith;
