@@ -40,6 +40,10 @@ markAt = 4
 abbrev pub nodeWidth : ℕ
 nodeWidth = 5
 
+-- a word before node 1, by its place
+abbrev pub topWord : List ℕ → ℕ → ℕ
+topWord nodes place = getD nodes place 0
+
 -- "Nodes are numbered 1 to N."
 unfoldable pub nodeWord : List ℕ → ℕ → ℕ → ℕ
 nodeWord nodes zero field = 0
@@ -51,7 +55,7 @@ putNode nodes (suc m) field value = set nodes (beforeNodes + nodeWidth * m + fie
 
 -- "The link of prev" is head if prev is 0, else prev's next.
 unfoldable pub linkWord : List ℕ → ℕ → ℕ
-linkWord nodes zero = getD nodes headAt 0
+linkWord nodes zero = topWord nodes headAt
 linkWord nodes (suc m) = nodeWord nodes (suc m) nextAt
 
 unfoldable pub putLink : List ℕ → ℕ → ℕ → List ℕ
