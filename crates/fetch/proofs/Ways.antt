@@ -12,9 +12,9 @@ use Rattle.rules.specs.Comparison.{Claim}
 use Rattle.rules.specs.Shape.{endsWithin, sound}
 use Rattle.rules.specs.Reach.{free, lowestFree, countFree}
 use Rattle.rules.specs.Fetch.{takenOut, writeClaim, enterAtHead, takeNode, fetched, fetchAgain, fetch}
+use Rattle.rules.proofs.Ground.Counting.{count-cut}
 use Rattle.rules.proofs.Laws.Shape.{is-sound}
 use Rattle.nodesets.specs.Set.{has, members}
-use Rattle.nodesets.proofs.Counting.{count-cut}
 use Rattle.reach.specs.FreeSet.{IsFreeSet}
 use Rattle.reach.proofs.TakingOut.{Going, going-end, going-left, going-skip, going-keep}
 use Rattle.rules.proofs.Laws.NodesAlone.{ends-alone, taken-out-alone}

@@ -14,8 +14,8 @@ use lib.Pow.{shl-exact, mod-pow-add}
 use borrow.Author.Tests.{eq-eqb, eqb-true, lt-ltb, le-ltb, ltb-true}
 use Rattle.rules.specs.Notation.{if_then_else_, _is_, _<?_, count}
 use Rattle.rules.proofs.Ground.Logic.{same, or-right}
+use Rattle.rules.proofs.Ground.Counting.{count-none, count-first}
 use Rattle.nodesets.specs.Word.{inWord, addWord}
-use Rattle.nodesets.proofs.Counting.{count-none, count-first}
 
 -- ---- a digit is 0 or 1
 digit : (x : ℕ) → (x % 2 ≡ 0) ⊎ (x % 2 ≡ 1)

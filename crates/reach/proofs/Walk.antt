@@ -13,8 +13,8 @@ use Rattle.rules.specs.Notation.{_is_}
 use Rattle.rules.specs.Tables.{Tables, nodeCount, next}
 use Rattle.rules.specs.Reach.{met}
 use Rattle.rules.proofs.Ground.Logic.{either, or-left, or-right, or-case, or-neither, clash}
+use Rattle.rules.proofs.Ground.Counting.{count-full, count-more}
 use Rattle.nodesets.specs.Set.{has, add, members}
-use Rattle.nodesets.proofs.Counting.{count-full, count-more}
 use Rattle.nodesets.proofs.Set.{has-add, add-length}
 use Rattle.reach.specs.Walks.{Links, reachFrom}
 

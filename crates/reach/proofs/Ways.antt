@@ -16,9 +16,9 @@ use Rattle.rules.specs.Shape.{sound}
 use Rattle.rules.specs.Reach.{free, lowestFree}
 use Rattle.rules.specs.Fetch.{keptFrom, kept, takenOut}
 use Rattle.rules.proofs.Ground.Logic.{both}
+use Rattle.rules.proofs.Ground.Counting.{lowest-cut}
 use Rattle.rules.proofs.Laws.Shape.{is-sound}
 use Rattle.nodesets.specs.Set.{has, none, add}
-use Rattle.nodesets.proofs.Counting.{lowest-cut}
 use Rattle.nodesets.proofs.Set.{add-again}
 use Rattle.reach.specs.Walks.{Links, reachFrom, reachSeat, reachSeats, reachOthers, addAll}
 use Rattle.reach.specs.FreeSet.{IsFreeSet}

@@ -15,7 +15,7 @@ use Rattle.rules.specs.Calls.{begin, step, release}
 use Rattle.rules.specs.Run.{run}
 use Rattle.rules.specs.Play.{Call, call, afterAll, seatOf}
 use Rattle.rules.specs.Reached.{Request, afterRequest, afterRequests, Reached, asked}
-use Rattle.rules.specs.Apart.{Covers, claimOfSeat, Holds, LinkedIn, Stands, OfOneSeat, Rising, OtherSeatsKept, NodesKept, FetchKept, NoNode, stepsOf, IsItsSteps, Stops, GivesUp, GivenUp, callsMade, StillStands}
+use Rattle.rules.specs.Apart.{Covers, claimOfSeat, Holds, LinkedIn, Stands, OfOneSeat, Rising, OtherSeatsKept, NodesKept, FetchKept, NoNode, NoPlace, stepsOf, IsItsSteps, Stops, GivesUp, GivenUp, callsMade, StillStands}
 use Rattle.rules.proofs.Keeping.CallKeeps.{good}
 use Rattle.rules.proofs.Holding.Exclusion.{both-read}
 use Rattle.rules.proofs.Holding.ListOrder.{rising}
@@ -96,21 +96,21 @@ pub begin-touches : (t : Tables) (s : ℕ) (c : Claim) → FetchKept s t (begin 
 begin-touches = begin-kept
 
 -- release, the mark of own
-pub release-touches : (t : Tables) (s : ℕ) → NodesKept NoNode (λ a. a ≡ own t s) NoNode t (release t s .after)
+pub release-touches : (t : Tables) (s : ℕ) → NodesKept NoNode (λ a. a ≡ own t s) NoNode NoPlace t (release t s .after)
 release-touches = release-kept
 
 -- a step, by its phase: the links of own and prev, where the claim is linked in or a marked node is unlinked
-pub walking-touches : (t : Tables) (s : ℕ) → phase t s ≡ 1 → NodesKept (λ a. (a ≡ own t s) ⊎ (a ≡ prev t s)) NoNode NoNode t (step t s .after)
+pub walking-touches : (t : Tables) (s : ℕ) → phase t s ≡ 1 → NodesKept (λ a. (a ≡ own t s) ⊎ (a ≡ prev t s)) NoNode NoNode NoPlace t (step t s .after)
 walking-touches = step-1-kept
 
-pub waiting-touches : (t : Tables) (s : ℕ) → phase t s ≡ 2 → NodesKept NoNode NoNode NoNode t (step t s .after)
+pub waiting-touches : (t : Tables) (s : ℕ) → phase t s ≡ 2 → NodesKept NoNode NoNode NoNode NoPlace t (step t s .after)
 waiting-touches = step-2-kept
 
 -- the link of prev, where a marked node is unlinked, and the mark of own, where the claim is withdrawn
-pub validating-touches : (t : Tables) (s : ℕ) → phase t s ≡ 3 → NodesKept (λ a. a ≡ prev t s) (λ a. a ≡ own t s) NoNode t (step t s .after)
+pub validating-touches : (t : Tables) (s : ℕ) → phase t s ≡ 3 → NodesKept (λ a. a ≡ prev t s) (λ a. a ≡ own t s) NoNode NoPlace t (step t s .after)
 validating-touches = step-3-kept
 
-pub reader-waiting-touches : (t : Tables) (s : ℕ) → phase t s ≡ 4 → NodesKept NoNode NoNode NoNode t (step t s .after)
+pub reader-waiting-touches : (t : Tables) (s : ℕ) → phase t s ≡ 4 → NodesKept NoNode NoNode NoNode NoPlace t (step t s .after)
 reader-waiting-touches = step-4-kept
 
 pub holding-touches : (t : Tables) (s : ℕ) → phase t s ≡ 5 → step t s .after ≡ t

@@ -2,6 +2,6 @@
 -- passes at most N nodes. They may use the notation of specs/ and its relation of reaching, and nothing else of this project.
 pub mod Deciding
 pub mod Logic
-pub mod Lowest
+pub mod Counting
 pub mod Following
 pub mod Pigeonhole

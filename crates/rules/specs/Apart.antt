@@ -6,7 +6,7 @@ use mathlib.Core.Bool.{true, false}
 use mathlib.Core.List.{List, [], _∷_, _++_, map}
 use mathlib.Core.Logic.{_≢_, _⊎_}
 use lib.ListN.{length, take, drop}
-use Rattle.rules.specs.Tables.{Tables, seatCount, seatWidth, seatWord, mark, marked, link, phase, own}
+use Rattle.rules.specs.Tables.{Tables, headAt, beforeNodes, topWord, seatCount, seatWidth, seatWord, mark, marked, link, phase, own}
 use Rattle.rules.specs.Comparison.{Claim, claimOf}
 use Rattle.rules.specs.Reach.{listed}
 use Rattle.rules.specs.Answers.{out, back, refused, Done}
@@ -56,20 +56,25 @@ pub record OtherSeatsKept (s : ℕ) (t u : Tables) : Type 0 where
   pub word : (r f : ℕ) → r ≢ s → f < seatWidth → seatWord (u .seats) r f ≡ seatWord (t .seats) r f
   pub same-length : length (u .seats) ≡ length (t .seats)
 
--- u has every word of the nodes from t, but for the links of these nodes (0: the head), the marks of these, the claims of these
-pub record NodesKept (links marks claims : ℕ → Type 0) (t u : Tables) : Type 0 where
+-- u has every word of the nodes from t, but for the links of these nodes (0: the head), the marks of these, the claims of these, and the
+-- words at these places before node 1, where beside the head no word stands yet
+pub record NodesKept (links marks claims places : ℕ → Type 0) (t u : Tables) : Type 0 where
   pub link-of : (a : ℕ) → (links a → ⊥) → link u a ≡ link t a
   pub mark-of : (a : ℕ) → (marks a → ⊥) → mark u a ≡ mark t a
   pub claim-of : (a : ℕ) → (claims a → ⊥) → claimOf u a ≡ claimOf t a
+  pub word-at : (i : ℕ) → i < beforeNodes → i ≢ headAt → (places i → ⊥) → topWord (u .nodes) i ≡ topWord (t .nodes) i
   pub same-length : length (u .nodes) ≡ length (t .nodes)
 
 abbrev pub NoNode : ℕ → Type 0
 NoNode a = ⊥
 
+abbrev pub NoPlace : ℕ → Type 0
+NoPlace i = ⊥
+
 -- of a fetch for seat s: the node taken, which is then the seat's own; and the links of the head and of the claims that stand, since
 -- marked nodes may have been taken out first
 abbrev pub FetchKept : ℕ → Tables → Tables → Type 0
-FetchKept s t u = NodesKept (λ a. (a ≡ own u s) ⊎ ((a ≡ 0) ⊎ Stands t a)) (λ a. a ≡ own u s) (λ a. a ≡ own u s) t u
+FetchKept s t u = NodesKept (λ a. (a ≡ own u s) ⊎ ((a ≡ 0) ⊎ Stands t a)) (λ a. a ≡ own u s) (λ a. a ≡ own u s) NoPlace t u
 
 -- ---- a run is its steps
 -- the first k entries of a schedule, each as a call of its own

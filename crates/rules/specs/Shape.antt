@@ -2,8 +2,8 @@
 use Prim.Native.Nat.{ℕ, zero, suc, _+_, _*_}
 use mathlib.Core.Bool.{Bool, not, _&&_, _||_}
 use lib.ListN.{length}
-use Rattle.rules.specs.Notation.{_is_, _≤?_, _<?_, all}
-use Rattle.rules.specs.Tables.{Tables, nodeCount, seatCount, beforeNodes, nodeWidth, seatWidth, start, end, kind, mark, next, head, phase, own, prev, cur}
+use Rattle.rules.specs.Notation.{if_then_else_, _is_, _≤?_, _<?_, all}
+use Rattle.rules.specs.Tables.{Tables, nodeCount, seatCount, beforeNodes, nodeWidth, seatWidth, seatWord, start, end, kind, mark, next, head, phase, own, prev, cur}
 
 -- "lengths fit", where "N is 1 to 256" and "S is 1 to 64"
 unfoldable pub nodesFit : Tables → Bool
@@ -38,8 +38,11 @@ unfoldable pub isPhase : Tables → ℕ → Bool
 isPhase t s = phase t s ≤? 6
 
 -- "an idle seat (0) has zeros in all four words, any other has own nonzero"
+unfoldable pub zeroSeat : Tables → ℕ → Bool
+zeroSeat t s = all seatWidth (λ field. seatWord (t .seats) s field is 0)
+
 unfoldable pub idleOrOwning : Tables → ℕ → Bool
-idleOrOwning t s = phase t s is 0 && own t s is 0 && prev t s is 0 && cur t s is 0 || not (phase t s is 0) && not (own t s is 0)
+idleOrOwning t s = if phase t s is 0 then zeroSeat t s else not (own t s is 0)
 
 -- "in phases 5 and 6 prev and cur are 0"
 unfoldable pub restingAtZero : Tables → ℕ → Bool

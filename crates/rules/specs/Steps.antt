@@ -2,7 +2,7 @@
 use Prim.Native.Nat.{ℕ}
 use mathlib.Core.Bool.{Bool, not, _&&_, _||_}
 use Rattle.rules.specs.Notation.{if_then_else_, _is_, _≤?_}
-use Rattle.rules.specs.Tables.{Tables, start, end, marked, link, next, head, phase, own, prev, cur, setLink, setMark, setPhase, setOwn, setPrev, setCur}
+use Rattle.rules.specs.Tables.{Tables, start, end, marked, link, next, head, phase, own, prev, cur, setLink, setMark, setPhase, setPrev, setCur, clearSeat}
 use Rattle.rules.specs.Comparison.{claimOf, reads, compare, byComparison}
 use Rattle.rules.specs.Fetch.{Fetched, fetch}
 use Rattle.rules.specs.Answers.{Answer, refused, Done, done, answered}
@@ -58,7 +58,7 @@ withdraw t s = moveTo (setMark t (own t s) 1) s 6 0 0
 
 -- "Release: own is marked and the seat idle."
 unfoldable pub leave : Tables → ℕ → Tables
-leave t s = setOwn (moveTo (setMark t (own t s) 1) s 0 0 0) s 0
+leave t s = clearSeat (setMark t (own t s) 1) s
 
 -- | 1 walking | cur 0: insert. cur marked: unlink. Else compare cur with own: +1: prev becomes cur, cur its next; 0: phase 2;
 -- −1: insert |

@@ -40,6 +40,10 @@ markAt = 4
 abbrev pub nodeWidth : ℕ
 nodeWidth = 5
 
+-- a word before node 1, by its place
+abbrev pub topWord : List ℕ → ℕ → ℕ
+topWord nodes place = getD nodes place 0
+
 -- "Nodes are numbered 1 to N."
 unfoldable pub nodeWord : List ℕ → ℕ → ℕ → ℕ
 nodeWord nodes zero field = 0
@@ -51,7 +55,7 @@ putNode nodes (suc m) field value = set nodes (beforeNodes + nodeWidth * m + fie
 
 -- "The link of prev" is head if prev is 0, else prev's next.
 unfoldable pub linkWord : List ℕ → ℕ → ℕ
-linkWord nodes zero = getD nodes headAt 0
+linkWord nodes zero = topWord nodes headAt
 linkWord nodes (suc m) = nodeWord nodes (suc m) nextAt
 
 unfoldable pub putLink : List ℕ → ℕ → ℕ → List ℕ
@@ -79,6 +83,11 @@ seatWord seats s field = getD seats (seatWidth * s + field) 0
 
 unfoldable pub putSeat : List ℕ → ℕ → ℕ → ℕ → List ℕ
 putSeat seats s field value = set seats (seatWidth * s + field) value
+
+-- the first words of a seat become 0
+unfoldable pub clearWords : ℕ → List ℕ → ℕ → List ℕ
+clearWords zero seats s = seats
+clearWords (suc field) seats s = putSeat (clearWords field seats s) s field 0
 
 -- ---- N and S, from the lengths
 unfoldable pub nodeCountOf : List ℕ → ℕ
@@ -156,6 +165,10 @@ setPrev = setSeat prevAt
 
 abbrev pub setCur : Tables → ℕ → ℕ → Tables
 setCur = setSeat curAt
+
+-- 0 in every word of a seat
+abbrev pub clearSeat : Tables → ℕ → Tables
+clearSeat t s = tables (t .nodes) (clearWords seatWidth (t .seats) s)
 
 -- ---- "Clear writes 0 everywhere; that table is fresh."
 abbrev pub zeros : ℕ → List ℕ

@@ -10,7 +10,7 @@ use lib.Dec.{eqb, leb, ltb}
 use borrow.Author.Tests.{not-true, not-false, eq-eqb, ne-eqb, eqb-true, eqb-false, ltb-true, ltb-false, le-leb, lt-leb}
 use Rattle.rules.specs.Notation.{_is_, all}
 use Rattle.rules.specs.Tables.{Tables, tables, nodeWord, linkWord, seatWord, nodeCountOf, seatCountOf, startAt, endAt, kindAt, markAt, phaseAt, ownAt, prevAt, curAt}
-use Rattle.rules.specs.Shape.{nodesFit, seatsFit, lengthsFit, isKind, zeroNode, claimNode, names, nodeSound, isPhase, idleOrOwning, restingAtZero, waitingAtCur, seatSound, endsWithin, nodesSound, seatsSound, sound}
+use Rattle.rules.specs.Shape.{nodesFit, seatsFit, lengthsFit, isKind, zeroNode, claimNode, names, nodeSound, isPhase, zeroSeat, idleOrOwning, restingAtZero, waitingAtCur, seatSound, endsWithin, nodesSound, seatsSound, sound}
 use Rattle.rules.proofs.Ground.Logic.{either, or-case, or-neither, and-left, all-fails}
 use Rattle.rules.proofs.Laws.Words.{link-past}
 use Rattle.rules.proofs.Laws.Shape.{nodes-fit, named, name-of, name-small, lengths-fit}
@@ -153,7 +153,7 @@ module _ (l : List ℕ) (o v c : ℕ) where
 
 -- ---- a seat by its phase, and every seat
 idle-case : (a b c f g h : Bool) → (a ≡ true → f ≡ true) → (b ≡ true → g ≡ true) → (c ≡ true → h ≡ true)
-    → (a && b && c) ≡ ((a && b && c || false) && true && true && f && g && h)
+    → (a && b && c) ≡ (a && b && c && true && true && f && g && h)
 idle-case true true true f g h p q r = rw (p refl, q refl, r refl)
 idle-case true true false f g h p q r = refl
 idle-case true false c f g h p q r = refl
@@ -185,7 +185,7 @@ module _ (l t : List ℕ) (s p o v c : ℕ) (isCur : c ≡ seatWord t s curAt) (
   zero-named a z = name-of (tables l []) a (inl (eqb-true a 0 z))
 
   pub seat-idle : p ≡ 0 → (eqb o 0 && eqb v 0 && eqb c 0) ≡ seatSound (tables l t) s
-  unfolding seatSound isPhase idleOrOwning restingAtZero waitingAtCur names
+  unfolding seatSound isPhase zeroSeat idleOrOwning restingAtZero waitingAtCur names all
   seat-idle e =
       rw (← isPhaseOf, ← isCur, ← isPrev, ← isOwn, e)
       (idle-case (eqb o 0) (eqb v 0) (eqb c 0) (names (tables l []) o) (names (tables l []) v) (names (tables l []) c) (zero-named o) (zero-named v) (zero-named c))

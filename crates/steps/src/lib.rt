@@ -324,6 +324,5 @@ pub fn leave(nodes: &mut [u32], seats: &mut [u32], s: u32)
 {
     let own = words::seat_word(seats, s, words::OWN);
     words::put_node(nodes, own, words::MARK, 1);
-    move_to(seats, s, 0, 0, 0);
-    words::put_seat(seats, s, words::OWN, 0);
+    words::clear_seat(seats, s);
 }

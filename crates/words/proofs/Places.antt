@@ -6,9 +6,10 @@ use mathlib.Core.Bool.{true, _&&_}
 use lib.Dec.{eqb, leb, ltb}
 use mathlib.Core.Logic.{_≢_}
 use native.Mathlib.Omega.{arith}
+use native.Mathlib.Numerals.{add-one}
 use borrow.Author.Tests.{leb-true, le-leb, ltb-true}
 use lib.ListN.{getD, set, length}
-use Rattle.rules.specs.Tables.{tables, beforeNodes, nodeWidth, seatWidth, nodeCountOf, seatCountOf, headAt, nextAt, nodeWord, putNode, linkWord, putLink}
+use Rattle.rules.specs.Tables.{tables, beforeNodes, nodeWidth, seatWidth, nodeCountOf, seatCountOf, headAt, nextAt, nodeWord, putNode, linkWord, putLink, putSeat, clearWords}
 use Rattle.rules.specs.Shape.{nodesFit, seatsFit}
 use Rattle.rules.proofs.Ground.Logic.{same, and-left, and-right}
 use Rattle.rules.proofs.Laws.Words.{link-node, put-link-node}
@@ -39,6 +40,18 @@ store-head l l′ a v z e = rw z e
 
 pub store-next : (l l′ : List ℕ) (a v : ℕ) → a ≢ 0 → l′ ≡ putNode l a nextAt v → l′ ≡ putLink l a v
 store-next l l′ a v z e = e ∙ sym (put-link-node l a v z)
+
+-- ---- the words of a seat, one after the other
+pub clear-none : (l : List ℕ) (s : ℕ) → l ≡ clearWords 0 l s
+unfolding clearWords
+clear-none l s = refl
+
+pub clear-more : (l m m′ : List ℕ) (s f : ℕ) → m′ ≡ putSeat m s f 0 → m ≡ clearWords f l s → m′ ≡ clearWords (f + 1) l s
+unfolding clearWords
+clear-more l m m′ s f p q = rw (add-one f, ← q) p
+
+pub clear-all : (l m : List ℕ) (s f : ℕ) → m ≡ clearWords f l s → seatWidth ≤ f → f ≤ seatWidth → m ≡ clearWords seatWidth l s
+clear-all l m s f p h i = let e : f ≡ seatWidth = omega arith in rw e at p
 
 -- ---- lengths: N nodes take no more words than there are
 pub nodes-within : (l : List ℕ) (n : ℕ) → n ≡ nodeCountOf l → nodeWidth * n ≤ length l

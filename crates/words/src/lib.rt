@@ -3,7 +3,7 @@
 ghost use mathlib.Core.Path.{_≡_};
 ghost use lib.ListN.{getD, set};
 ghost use mathlib.Core.List.{[]};
-ghost use Rattle.rules.specs.Tables.{tables, beforeNodes, nodeWidth, seatWidth, nodeWord, putNode, linkWord, putLink, seatWord, putSeat, nodeCountOf, seatCountOf, zeros};
+ghost use Rattle.rules.specs.Tables.{tables, beforeNodes, nodeWidth, seatWidth, nodeWord, putNode, linkWord, putLink, seatWord, putSeat, clearWords, nodeCountOf, seatCountOf, zeros};
 ghost use Prim.Native.Nat.{_+_, _*_, _<_, _≤_};
 ghost use Rattle.rules.specs.Shape.{nodesFit, seatsFit};
 
@@ -139,6 +139,17 @@ pub fn put_seat(seats: &mut [u32], s: u32, field: u32, value: u32)
         return;
     }
     put(seats, SEAT_WIDTH * s as usize + field as usize, value);
+}
+
+// 0 in every word of a seat
+pub fn clear_seat(seats: &mut [u32], s: u32)
+    ensures { λ r. ⌜ now (seats .exit) ≡ clearWords seatWidth (now (seats .entry)) s ⌝ }
+{
+    let mut field: u32 = 0;
+    while (field as usize) < SEAT_WIDTH {
+        put_seat(seats, s, field, 0);
+        field += 1;
+    }
 }
 
 pub fn node_count(nodes: &[u32]) -> usize

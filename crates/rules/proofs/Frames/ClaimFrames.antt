@@ -55,6 +55,6 @@ others-claims-kept {t = t} g c r d =
     (if-same (own t r) 0
     (λ z. rw z (no-claim t u))
     (λ z. claims-kept t c (own t r) (λ e.
-    let busy-r : phase u r ≢ 0 = λ p. z (sym same-own ∙ g′ .inv .seats r .idle p .0) in
-    let busy-s : phase u s ≢ 0 = λ p. z (e ∙ g′ .inv .seats s .idle p .0) in
+    let busy-r : phase u r ≢ 0 = λ p. z (sym same-own ∙ g′ .aside .seat r .idle p ownAt (omega arith)) in
+    let busy-s : phase u s ≢ 0 = λ p. z (e ∙ g′ .aside .seat s .idle p ownAt (omega arith)) in
     g′ .inv .distinct r s d busy-r busy-s (same-own ∙ e))))

@@ -8,16 +8,16 @@ use native.Mathlib.Omega.{arith}
 use lib.ListN.{length}
 use borrow.Author.Tests.{eqb-false, eq-eqb}
 use Rattle.rules.specs.Notation.{_is_}
-use Rattle.rules.specs.Tables.{Tables, nodeWidth, nodeCount, startAt, endAt, kindAt, markAt, nextAt, ownAt, nodeWord, linkWord, marked, next, head, phase, own, prev, cur, setNode, setLink, setMark}
+use Rattle.rules.specs.Tables.{Tables, nodeWidth, nodeCount, startAt, endAt, kindAt, markAt, nextAt, ownAt, topWord, nodeWord, linkWord, marked, next, head, phase, own, prev, cur, setNode, setLink, setMark}
 use Rattle.rules.specs.Comparison.{Claim, claim, claimOf}
 use Rattle.rules.specs.Reach.{met, listed}
 use Rattle.rules.specs.Fetch.{Fetched, fetch, keptFrom, kept, linkThrough, takenOut, writeClaim, enterAtHead, takeNode}
 use Rattle.rules.specs.Answers.{Answer, Done}
 use Rattle.rules.specs.Steps.{linkIn, pass, hold, withdraw, leave, refetched}
 use Rattle.rules.specs.Calls.{begun, begin, step, release}
-use Rattle.rules.specs.Apart.{Stands, NodesKept, NoNode, FetchKept}
+use Rattle.rules.specs.Apart.{Stands, NodesKept, NoNode, NoPlace, FetchKept}
 use Rattle.rules.proofs.Ground.Logic.{branch, or-left, or-right}
-use Rattle.rules.proofs.Laws.Words.{node-put-field, node-put-node, node-put-link, link-put-field, link-put-other, put-node-length, put-link-length}
+use Rattle.rules.proofs.Laws.Words.{node-put-field, node-put-node, node-put-link, link-put-field, link-put-other, top-put-node, top-put-link, put-node-length, put-link-length}
 use Rattle.rules.proofs.Laws.Listed.{met-first}
 use Rattle.rules.proofs.Rules.Effects.{Room}
 use Rattle.rules.proofs.Rules.RuleEffects.{enter-stored}
@@ -27,24 +27,26 @@ use Rattle.rules.proofs.Rules.Reasons.{Unlinking, takes-out, goes-past,
 use Rattle.rules.proofs.Rules.Accepting.{Beginning, begin-refused, begin-accepted, beginning, step-or-same, Releasing, release-refused, release-accepted, releasing}
 
 -- ---- keeping, in general
-pub kept-same : {L M C : ℕ → Type 0} (t : Tables) → NodesKept L M C t t
-kept-same t = record { link-of = λ a d. refl; mark-of = λ a d. refl; claim-of = λ a d. refl; same-length = refl }
+pub kept-same : {L M C P : ℕ → Type 0} (t : Tables) → NodesKept L M C P t t
+kept-same t = record { link-of = λ a d. refl; mark-of = λ a d. refl; claim-of = λ a d. refl; word-at = λ i h n d. refl; same-length = refl }
 
-pub kept-then : {L M C : ℕ → Type 0} {t u v : Tables} → NodesKept L M C t u → NodesKept L M C u v → NodesKept L M C t v
+pub kept-then : {L M C P : ℕ → Type 0} {t u v : Tables} → NodesKept L M C P t u → NodesKept L M C P u v → NodesKept L M C P t v
 kept-then f g = record {
   link-of = λ a d. g .link-of a d ∙ f .link-of a d;
   mark-of = λ a d. g .mark-of a d ∙ f .mark-of a d;
   claim-of = λ a d. g .claim-of a d ∙ f .claim-of a d;
+  word-at = λ i h n d. g .word-at i h n d ∙ f .word-at i h n d;
   same-length = g .same-length ∙ f .same-length;
 }
 
 -- more may have changed
-pub kept-but : {L M C L′ M′ C′ : ℕ → Type 0} {t u : Tables} → ((a : ℕ) → L a → L′ a) → ((a : ℕ) → M a → M′ a) → ((a : ℕ) → C a → C′ a)
-    → NodesKept L M C t u → NodesKept L′ M′ C′ t u
+pub kept-but : {L M C P L′ M′ C′ : ℕ → Type 0} {t u : Tables} → ((a : ℕ) → L a → L′ a) → ((a : ℕ) → M a → M′ a) → ((a : ℕ) → C a → C′ a)
+    → NodesKept L M C P t u → NodesKept L′ M′ C′ P t u
 kept-but l m c f = record {
   link-of = λ a d. f .link-of a (λ x. d (l a x));
   mark-of = λ a d. f .mark-of a (λ x. d (m a x));
   claim-of = λ a d. f .claim-of a (λ x. d (c a x));
+  word-at = f .word-at;
   same-length = f .same-length;
 }
 
@@ -60,41 +62,45 @@ same-claim t u a e = λ i. record {
   kind = e kindAt (omega arith) (omega arith) (omega arith) i;
 }
 
-link-kept : (t : Tables) (a v : ℕ) → NodesKept (Just a) NoNode NoNode t (setLink t a v)
+link-kept : (t : Tables) (a v : ℕ) → NodesKept (Just a) NoNode NoNode NoPlace t (setLink t a v)
 link-kept t a v = record {
   link-of = λ b d. link-put-other (t .nodes) a b v (λ e. d (sym e));
   mark-of = λ b d. node-put-link (t .nodes) a b markAt v (omega arith) (omega arith);
   claim-of = λ b d. same-claim t (setLink t a v) b (λ f h x y. node-put-link (t .nodes) a b f v h x);
+  word-at = λ i h n d. top-put-link (t .nodes) i a v h n;
   same-length = put-link-length (t .nodes) a v;
 }
 
-mark-kept : (t : Tables) (a v : ℕ) → NodesKept NoNode (Just a) NoNode t (setMark t a v)
+mark-kept : (t : Tables) (a v : ℕ) → NodesKept NoNode (Just a) NoNode NoPlace t (setMark t a v)
 mark-kept t a v = record {
   link-of = λ b d. link-put-field (t .nodes) a b markAt v (omega arith) (omega arith);
   mark-of = λ b d. node-put-node (t .nodes) a b markAt markAt v (omega arith) (omega arith) (λ e. d (sym e));
   claim-of = λ b d. same-claim t (setMark t a v) b (λ f h x y. node-put-field (t .nodes) a b markAt f v (omega arith) h (λ e. y (sym e)));
+  word-at = λ i h n d. top-put-node (t .nodes) i a markAt v h;
   same-length = put-node-length (t .nodes) a markAt v;
 }
 
 -- a word of a claim
-word-kept : (t : Tables) (f a v : ℕ) → f < nodeWidth → f ≢ nextAt → f ≢ markAt → NodesKept NoNode NoNode (Just a) t (setNode f t a v)
+word-kept : (t : Tables) (f a v : ℕ) → f < nodeWidth → f ≢ nextAt → f ≢ markAt → NodesKept NoNode NoNode (Just a) NoPlace t (setNode f t a v)
 word-kept t f a v h x y = record {
   link-of = λ b d. link-put-field (t .nodes) a b f v h x;
   mark-of = λ b d. node-put-field (t .nodes) a b f markAt v h (omega arith) y;
   claim-of = λ b d. same-claim t (setNode f t a v) b (λ g k x y. node-put-node (t .nodes) a b f g v h k (λ e. d (sym e)));
+  word-at = λ i l n d. top-put-node (t .nodes) i a f v l;
   same-length = put-node-length (t .nodes) a f v;
 }
 
 -- ---- what the seats do changes no node
-seats-aside : {L M C : ℕ → Type 0} {t u v : Tables} → v .nodes ≡ u .nodes → NodesKept L M C t u → NodesKept L M C t v
+seats-aside : {L M C P : ℕ → Type 0} {t u v : Tables} → v .nodes ≡ u .nodes → NodesKept L M C P t u → NodesKept L M C P t v
 seats-aside {v = v} e f = record {
   link-of = λ a d. ap (λ l. linkWord l a) e ∙ f .link-of a d;
   mark-of = λ a d. ap (λ l. nodeWord l a markAt) e ∙ f .mark-of a d;
   claim-of = λ a d. ap (λ l. claim (nodeWord l a startAt) (nodeWord l a endAt) (nodeWord l a kindAt)) e ∙ f .claim-of a d;
+  word-at = λ i h n d. ap (λ l. topWord l i) e ∙ f .word-at i h n d;
   same-length = ap length e ∙ f .same-length;
 }
 
-pub only-seats : {L M C : ℕ → Type 0} {t u : Tables} → u .nodes ≡ t .nodes → NodesKept L M C t u
+pub only-seats : {L M C P : ℕ → Type 0} {t u : Tables} → u .nodes ≡ t .nodes → NodesKept L M C P t u
 only-seats {t = t} e = seats-aside e (kept-same t)
 
 -- ---- phase 1: the links of own and prev
@@ -108,24 +114,24 @@ abbrev pub Own : Tables → ℕ → ℕ → Type 0
 Own t s a = a ≡ own t s
 
 module _ (t : Tables) (s : ℕ) where
-  unlinking : {u : Tables} → Unlinking t s u → NodesKept (Prev t s) NoNode NoNode t u
+  unlinking : {u : Tables} → Unlinking t s u → NodesKept (Prev t s) NoNode NoNode NoPlace t u
   unlinking (takes-out j) = seats-aside refl (link-kept t (prev t s) (next t (cur t s)))
   unlinking (goes-past e) = only-seats refl
 
-  linking-in : NodesKept (OwnOrPrev t s) NoNode NoNode t (linkIn t s)
+  linking-in : NodesKept (OwnOrPrev t s) NoNode NoNode NoPlace t (linkIn t s)
   unfolding linkIn
   linking-in =
       kept-then
       (kept-but (λ a x. inl x) (λ a x. x) (λ a x. x) (link-kept t (own t s) (cur t s)))
       (kept-but (λ a x. inr x) (λ a x. x) (λ a x. x) (link-kept (setLink t (own t s) (cur t s)) (prev t s) (own t s)))
 
-  inserting : {u : Tables} → Inserting t s u → NodesKept (OwnOrPrev t s) NoNode NoNode t u
+  inserting : {u : Tables} → Inserting t s u → NodesKept (OwnOrPrev t s) NoNode NoNode NoPlace t u
   inserting (links-in j (as-reader k)) = seats-aside refl linking-in
   inserting (links-in j (as-writer k)) = seats-aside refl linking-in
   inserting (restarts j m) = only-seats refl
   inserting (rereads j m) = only-seats refl
 
-  walking : {u : Tables} → Walking t s u → NodesKept (OwnOrPrev t s) NoNode NoNode t u
+  walking : {u : Tables} → Walking t s u → NodesKept (OwnOrPrev t s) NoNode NoNode NoPlace t u
   unfolding pass
   walking (inserts f w) = inserting w
   walking (unlinks c m w) = kept-but (λ a x. inr x) (λ a x. x) (λ a x. x) (unlinking w)
@@ -133,12 +139,12 @@ module _ (t : Tables) (s : ℕ) where
   walking (waits c m f f′) = only-seats refl
 
   -- ---- phases 2 and 4: none
-  waking : {P : ℕ} {u : Tables} → Waking t s P u → NodesKept NoNode NoNode NoNode t u
+  waking : {P : ℕ} {u : Tables} → Waking t s P u → NodesKept NoNode NoNode NoNode NoPlace t u
   waking (wakes m) = only-seats refl
   waking (stays m) = only-seats refl
 
   -- ---- phase 3: the link of prev, the mark of own
-  validating : {u : Tables} → Validating t s u → NodesKept (Prev t s) (Own t s) NoNode t u
+  validating : {u : Tables} → Validating t s u → NodesKept (Prev t s) (Own t s) NoNode NoPlace t u
   unfolding pass hold withdraw
   validating (validates-reader k (reader-holds f)) = only-seats refl
   validating (validates-reader k (reader-unlinks c m w)) = kept-but (λ a x. x) (λ a x. absurd x) (λ a x. x) (unlinking w)
@@ -150,16 +156,16 @@ module _ (t : Tables) (s : ℕ) where
   validating (validates-writer k (withdraws d f)) = seats-aside refl (kept-but (λ a x. absurd x) (λ a x. x) (λ a x. x) (mark-kept t (own t s) 1))
 
   -- ---- release: the mark of own
-  leaving : NodesKept NoNode (Own t s) NoNode t (leave t s)
+  leaving : NodesKept NoNode (Own t s) NoNode NoPlace t (leave t s)
   unfolding leave
   leaving = seats-aside refl (mark-kept t (own t s) 1)
 
 -- ---- fetch: the node taken and, where the marked ones are taken out first, the links of the head and of the claims that stand
 module _ (t : Tables) (a : ℕ) (c : Claim) where
-  taken-word : (u : Tables) (f v : ℕ) → f < nodeWidth → f ≢ nextAt → f ≢ markAt → NodesKept (Just a) (Just a) (Just a) u (setNode f u a v)
+  taken-word : (u : Tables) (f v : ℕ) → f < nodeWidth → f ≢ nextAt → f ≢ markAt → NodesKept (Just a) (Just a) (Just a) NoPlace u (setNode f u a v)
   taken-word u f v h x y = kept-but (λ b z. absurd z) (λ b z. absurd z) (λ b z. z) (word-kept u f a v h x y)
 
-  writing : NodesKept (Just a) (Just a) (Just a) t (writeClaim t a c)
+  writing : NodesKept (Just a) (Just a) (Just a) NoPlace t (writeClaim t a c)
   unfolding writeClaim
   writing =
       let t₁ = setNode startAt t a (c .start) in
@@ -172,7 +178,7 @@ module _ (t : Tables) (a : ℕ) (c : Claim) where
       (kept-then {u = t₄} (kept-but (λ b z. z) (λ b z. absurd z) (λ b z. absurd z) (link-kept t₃ a 0))
       (kept-but (λ b z. absurd z) (λ b z. z) (λ b z. absurd z) (mark-kept t₄ a 0)))))
 
-  taking : (s : ℕ) → NodesKept (Just a) (Just a) (Just a) t (takeNode t s a c)
+  taking : (s : ℕ) → NodesKept (Just a) (Just a) (Just a) NoPlace t (takeNode t s a c)
   unfolding takeNode enterAtHead
   taking s = seats-aside refl writing
 
@@ -205,7 +211,7 @@ kept-stands t x (suc h) a w =
     ]))
     w
 
-through-kept : (ks : List ℕ) (t : Tables) (p : ℕ) → NodesKept (λ b. (b ≡ p) ⊎ Among b ks) NoNode NoNode t (linkThrough t p ks)
+through-kept : (ks : List ℕ) (t : Tables) (p : ℕ) → NodesKept (λ b. (b ≡ p) ⊎ Among b ks) NoNode NoNode NoPlace t (linkThrough t p ks)
 unfolding linkThrough
 through-kept [] t p = kept-but (λ b x. inl x) (λ b x. x) (λ b x. x) (link-kept t p 0)
 through-kept (a ∷ ks) t p =
@@ -216,7 +222,7 @@ through-kept (a ∷ ks) t p =
 abbrev HeadOrStands : Tables → ℕ → Type 0
 HeadOrStands t b = (b ≡ 0) ⊎ Stands t b
 
-taking-out : (t : Tables) → NodesKept (HeadOrStands t) NoNode NoNode t (takenOut t)
+taking-out : (t : Tables) → NodesKept (HeadOrStands t) NoNode NoNode NoPlace t (takenOut t)
 unfolding takenOut kept listed
 taking-out t =
     kept-but (λ b x. elim x [ inl e ↦ inl e | inr y ↦ inr (kept-stands t b (nodeCount t) (head t) y) ]) (λ b x. x) (λ b x. x)
@@ -226,7 +232,7 @@ abbrev pub FetchLinks : Tables → ℕ → ℕ → Type 0
 FetchLinks t n b = (b ≡ n) ⊎ ((b ≡ 0) ⊎ Stands t b)
 
 pub fetching : {t : Tables} {s : ℕ} {c : Claim} {f : Fetched} → Fetching t s c f
-    → NodesKept (FetchLinks t (f .node)) (Just (f .node)) (Just (f .node)) t (f .after)
+    → NodesKept (FetchLinks t (f .node)) (Just (f .node)) (Just (f .node)) NoPlace t (f .after)
 fetching {t} {s} {c} (found a e z) = kept-but (λ b x. inl x) (λ b x. x) (λ b x. x) (taking t a c s)
 fetching {t} {s} {c} (found-then a e e′ z) =
     kept-then
@@ -249,17 +255,17 @@ fetched-kept r w d = rw (fetched-own r w d) (fetching w)
 
 -- ---- the calls
 module _ (t : Tables) (s : ℕ) where
-  pub step-1-kept : phase t s ≡ 1 → NodesKept (OwnOrPrev t s) NoNode NoNode t (step t s .after)
-  step-1-kept e = step-or-same t s (NodesKept (OwnOrPrev t s) NoNode NoNode t) (kept-same t) (λ x y z. rw (by-phase-1 t s e) (walking t s (walks t s)))
+  pub step-1-kept : phase t s ≡ 1 → NodesKept (OwnOrPrev t s) NoNode NoNode NoPlace t (step t s .after)
+  step-1-kept e = step-or-same t s (NodesKept (OwnOrPrev t s) NoNode NoNode NoPlace t) (kept-same t) (λ x y z. rw (by-phase-1 t s e) (walking t s (walks t s)))
 
-  pub step-2-kept : phase t s ≡ 2 → NodesKept NoNode NoNode NoNode t (step t s .after)
-  step-2-kept e = step-or-same t s (NodesKept NoNode NoNode NoNode t) (kept-same t) (λ x y z. rw (by-phase-2 t s e) (waking t s (wakes-to-walk t s)))
+  pub step-2-kept : phase t s ≡ 2 → NodesKept NoNode NoNode NoNode NoPlace t (step t s .after)
+  step-2-kept e = step-or-same t s (NodesKept NoNode NoNode NoNode NoPlace t) (kept-same t) (λ x y z. rw (by-phase-2 t s e) (waking t s (wakes-to-walk t s)))
 
-  pub step-3-kept : phase t s ≡ 3 → NodesKept (Prev t s) (Own t s) NoNode t (step t s .after)
-  step-3-kept e = step-or-same t s (NodesKept (Prev t s) (Own t s) NoNode t) (kept-same t) (λ x y z. rw (by-phase-3 t s e) (validating t s (validates t s)))
+  pub step-3-kept : phase t s ≡ 3 → NodesKept (Prev t s) (Own t s) NoNode NoPlace t (step t s .after)
+  step-3-kept e = step-or-same t s (NodesKept (Prev t s) (Own t s) NoNode NoPlace t) (kept-same t) (λ x y z. rw (by-phase-3 t s e) (validating t s (validates t s)))
 
-  pub step-4-kept : phase t s ≡ 4 → NodesKept NoNode NoNode NoNode t (step t s .after)
-  step-4-kept e = step-or-same t s (NodesKept NoNode NoNode NoNode t) (kept-same t) (λ x y z. rw (by-phase-4 t s e) (waking t s (wakes-to-validate t s)))
+  pub step-4-kept : phase t s ≡ 4 → NodesKept NoNode NoNode NoNode NoPlace t (step t s .after)
+  step-4-kept e = step-or-same t s (NodesKept NoNode NoNode NoNode NoPlace t) (kept-same t) (λ x y z. rw (by-phase-4 t s e) (waking t s (wakes-to-validate t s)))
 
   pub step-5-kept : phase t s ≡ 5 → step t s .after ≡ t
   step-5-kept e = step-or-same t s (λ u. u ≡ t) refl (λ x y z. rw (by-phase-5 t s e))
@@ -283,9 +289,9 @@ module _ (t : Tables) (s : ℕ) where
           branch (λ (d : Done Answer). FetchKept s t (d .after)) (f .node is 0)
           (λ q. kept-same t) (λ q. fetched-kept (sound-room t s e h) w (eqb-false (f .node) 0 q))
 
-  pub release-kept : NodesKept NoNode (Own t s) NoNode t (release t s .after)
+  pub release-kept : NodesKept NoNode (Own t s) NoNode NoPlace t (release t s .after)
   release-kept = released (releasing t s)
     where
-      released : {d : Done Answer} → Releasing t s d → NodesKept NoNode (Own t s) NoNode t (d .after)
+      released : {d : Done Answer} → Releasing t s d → NodesKept NoNode (Own t s) NoNode NoPlace t (d .after)
       released (release-refused k r) = kept-same t
       released (release-accepted e h p) = leaving t s

@@ -1,4 +1,4 @@
--- Small laws of Bool, of choices and of counting, that the others cite.
+-- Small laws of Bool, of choices and of tests over the numbers below a bound, that the others cite.
 use mathlib.Core.Path.{_≡_, refl, sym, ap, _∙_}
 use mathlib.Core.Bool.{Bool, true, false, _&&_, _||_, not, true≢false}
 use mathlib.Core.Logic.{_⊎_, inl, inr, ⊎-elim}

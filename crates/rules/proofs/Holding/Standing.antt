@@ -25,7 +25,7 @@ module _ {N S : ℕ} {t : Tables} (g : Good N S t) where
       let busy = linked-busy (o .linked) in
       record {
         seat = o .seat;
-        is-seat = rw (seat-count t S (g .seats-long)) (busy-in g (o .seat) busy);
+        is-seat = rw (seat-count t S (g .aside .seats-long)) (busy-in g (o .seat) busy);
         linked-in = linked-in (o .linked);
         owns = o .owns;
         no-other = λ r b e. if-same r (o .seat) (λ q. q) (λ d. absurd (different-nodes r (o .seat) d b busy (e ∙ sym (o .owns))));

@@ -28,10 +28,9 @@ pub record NodeShape (N : ℕ) (n : Nodes) : Type 0 where
   pub marks : (a : ℕ) → n .mark a ≤ 1
   pub links : (a : ℕ) → Named N (claimAt n) (n .link a)
 
--- of a seat with phase P, own O, prev Q and cur C
+-- of a seat with phase P, own O, prev Q and cur C; that an idle one has only zeros is known of all its words, beside the view
 pub record SeatShape (N : ℕ) (claims : ℕ → Claim) (P O Q C : ℕ) : Type 0 where
   pub is-phase : P ≤ 6
-  pub idle : P ≡ 0 → (O ≡ 0) × (Q ≡ 0) × (C ≡ 0)
   pub owning : P ≢ 0 → 0 < O
   pub resting : (P ≡ 5) ⊎ (P ≡ 6) → (Q ≡ 0) × (C ≡ 0)
   pub at-cur : (P ≡ 2) ⊎ (P ≡ 4) → 0 < C

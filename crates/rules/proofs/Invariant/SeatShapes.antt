@@ -14,7 +14,6 @@ pub on-its-way : {N : ℕ} {claims : ℕ → Claim} {P O Q C : ℕ} → P ≢ 0 
     → Named N claims O → Named N claims Q → Named N claims C → SeatShape N claims P O Q C
 on-its-way z h f o on pn cn = record {
   is-phase = omega arith;
-  idle = λ e. absurd (z e);
   owning = λ e. o;
   resting = λ e. absurd (elim e [ inl x ↦ omega arith | inr x ↦ omega arith ]);
   at-cur = f;
@@ -26,7 +25,6 @@ on-its-way z h f o on pn cn = record {
 pub at-rest : {N : ℕ} {claims : ℕ → Claim} {P O : ℕ} → (P ≡ 5) ⊎ (P ≡ 6) → 0 < O → Named N claims O → SeatShape N claims P O 0 0
 at-rest p o on = record {
   is-phase = elim p [ inl x ↦ omega arith | inr x ↦ omega arith ];
-  idle = λ e. absurd (elim p [ inl x ↦ omega arith | inr x ↦ omega arith ]);
   owning = λ e. o;
   resting = λ e. (refl, refl);
   at-cur = not-waiting (elim p [ inl x ↦ omega arith | inr x ↦ omega arith ]) (elim p [ inl x ↦ omega arith | inr x ↦ omega arith ]);
@@ -38,7 +36,6 @@ at-rest p o on = record {
 pub idle-seat : {N : ℕ} {claims : ℕ → Claim} {P : ℕ} → P ≡ 0 → SeatShape N claims P 0 0 0
 idle-seat z = record {
   is-phase = omega arith;
-  idle = λ e. (refl, refl, refl);
   owning = λ e. absurd (e z);
   resting = λ e. (refl, refl);
   at-cur = not-waiting (omega arith) (omega arith);

@@ -67,7 +67,6 @@ module _ {n n′ : Nodes} {o : ℕ} (w : Written n n′ o) where
   pub seat-same : {N P O Q C : ℕ} → SeatShape N (claimAt n) P O Q C → SeatShape N (claimAt n′) P O Q C
   seat-same h = record {
     is-phase = h .is-phase;
-    idle = h .idle;
     owning = h .owning;
     resting = h .resting;
     at-cur = h .at-cur;

@@ -33,7 +33,7 @@ use Rattle.rules.proofs.Keeping.FetchKeeps.{fetch-keeps}
 -- ---- single calls
 module _ {N S : ℕ} {t : Tables} (g : Good N S t) (s : ℕ) where
   pub seat-in : s < seatCount t → s < S
-  seat-in h = rw (seat-count t S (g .seats-long)) at h
+  seat-in h = rw (seat-count t S (g .aside .seats-long)) at h
 
   refetched-good : (f : Fetched) → Good N S (f .after) → Good N S (refetched t s f .after)
   unfolding refetched
@@ -129,7 +129,7 @@ module _ (N S : ℕ) where
   }
 
   fresh-good : Good N S t₀
-  fresh-good = record { nodes-long = fresh-nodes-length N S; seats-long = fresh-seats-length N S; inv = fresh-invariant }
+  fresh-good = record { aside = record { nodes-long = fresh-nodes-length N S; seats-long = fresh-seats-length N S; seat = λ s. record { idle = λ z f h. fresh-seat-word N S s f } }; inv = fresh-invariant }
 
 -- ---- every table that is reached
 pub good : {N S : ℕ} {t : Tables} → Reached N S t → Good N S t

@@ -10,13 +10,14 @@ use Rattle.rules.specs.Comparison.{Claim}
 use Rattle.rules.specs.Reach.{free, lowestFree}
 use Rattle.rules.specs.Fetch.{Fetched, writeClaim, enterAtHead, takeNode}
 use Rattle.rules.proofs.Laws.Words.{link-node, node-count}
-use Rattle.rules.proofs.Ground.Lowest.{lowest-has}
+use Rattle.rules.proofs.Ground.Counting.{lowest-has}
 use Rattle.rules.proofs.Invariant.View.{nodesOf}
 use Rattle.rules.specs.Refusing.{Proper}
 use Rattle.rules.proofs.Invariant.Take.{Written, take-keeps}
 use Rattle.rules.proofs.Rules.Effects.{stored, reseated, Noded, node-as-found, put-word, put-next}
 use Rattle.rules.proofs.Rules.RuleEffects.{enter-stored}
 use Rattle.rules.proofs.Rules.Reasons.{Fetching, found, found-then, none}
+use Rattle.rules.proofs.Keeping.Aside.{not-idle, seat-put, claim-put}
 use Rattle.rules.proofs.Keeping.Good.{Good, room, node-room}
 use Rattle.rules.proofs.Keeping.TakeOut.{taken-out-good, taken-out-seats}
 use Rattle.rules.proofs.Keeping.Hops.{is-free}
@@ -59,8 +60,7 @@ module _ {N S : ℕ} {t : Tables} (g : Good N S t) (s : ℕ) (s-in : s < S) (c :
       let same-head : head u ≡ head t = wrote .links 0 (λ e. z (sym e)) in
       let sat = enter-stored u s (room g s s-in) a in
       record {
-        nodes-long = wrote .long ∙ g .nodes-long;
-        seats-long = sat .long ∙ g .seats-long;
+        aside = seat-put (claim-put (g .aside) a c) sat (not-idle (omega arith));
         inv = take-keeps (g .inv) (is-free g s a f z h) (written t a c z (node-room g a h) proper) (reseated t (enterAtHead u s a) sat) same-head h may;
       }
 
@@ -69,7 +69,7 @@ module _ {N S : ℕ} {t : Tables} (g : Good N S t) (s : ℕ) (s-in : s < S) (c :
   unfolding lowestFree
   lowest-good a e z =
       let w = lowest-has (nodeCount t) (free t s) a e z in
-      take-good a (w .0) z (rw (node-count t N (g .nodes-long)) at (w .1))
+      take-good a (w .0) z (rw (node-count t N (g .aside .nodes-long)) at (w .1))
 
 pub fetch-keeps : {N S : ℕ} {t : Tables} → Good N S t → (s : ℕ) → s < S → (c : Claim) → Proper c → (phase t s ≡ 0) ⊎ (phase t s ≡ 6)
     → {f : Fetched} → Fetching t s c f → Good N S (f .after)

@@ -1,15 +1,15 @@
--- Good tables: lengths for N nodes and S seats, and the invariant. Each rule of a step that fetches nothing leaves good tables good, and
+-- Good tables: the invariant, and what is known beside the view. Each rule of a step that fetches nothing leaves good tables good, and
 -- so does release.
 use Prim.Native.Nat.{ℕ, _+_, _*_, _≤_, _<_}
-use mathlib.Core.Path.{_≡_, refl, sym, subst, subst₂, _∙_}
+use mathlib.Core.Path.{_≡_, sym, subst, subst₂, _∙_}
 use mathlib.Core.List.{List}
 use mathlib.Core.Logic.{_≢_, _⊎_, inl, inr}
 use native.Mathlib.Omega.{arith}
 use lib.ListN.{length}
-use Rattle.rules.specs.Tables.{Tables, tables, beforeNodes, nodeWidth, seatWidth, markAt, nextAt, phaseAt, ownAt, prevAt, curAt, nodeWord, putLink, mark, link, next, phase, own, prev, cur, setLink, setMark}
+use Rattle.rules.specs.Tables.{Tables, tables, beforeNodes, nodeWidth, markAt, nextAt, phaseAt, ownAt, prevAt, curAt, nodeWord, putLink, mark, link, next, phase, own, prev, cur, setLink, setMark}
 use Rattle.rules.specs.Comparison.{claimOf}
 use Rattle.rules.specs.Steps.{linkIn}
-use Rattle.rules.proofs.Laws.Words.{link-put-same, link-put-other, link-put-field, node-put-link, node-put-same, node-put-field, node-put-node, put-link-length, put-node-length}
+use Rattle.rules.proofs.Laws.Words.{link-put-same, link-put-other, link-put-field, node-put-link, node-put-same, node-put-field, node-put-node, put-link-length}
 use Rattle.rules.specs.Reach.{here}
 use Rattle.rules.proofs.Laws.Compared.{Precedes}
 use Rattle.rules.proofs.Invariant.View.{nodesOf, seatsOf, Reseated, walking, Linked}
@@ -17,34 +17,33 @@ use Rattle.rules.proofs.Invariant.Phases.{outside-busy, linked-busy}
 use Rattle.rules.proofs.Invariant.Clauses.{Ordered, from-prev, Invariant}
 use Rattle.rules.proofs.Invariant.Known.{Known, named-in, precedes-ordered, own-pos, own-proper, hidden}
 use Rattle.rules.proofs.Invariant.Unlink.{unlink-keeps}
-use Rattle.rules.proofs.Invariant.Insert.{Starts, insert-keeps}
+use Rattle.rules.proofs.Invariant.Insert.{Starts, reader, writer, insert-keeps}
 use Rattle.rules.proofs.Invariant.Leave.{Leaves, leave-keeps}
 use Rattle.rules.proofs.Rules.Effects.{Room, Seated, reseated, only-links, only-marks}
 use Rattle.rules.proofs.Rules.Reasons.{Joined}
+use Rattle.rules.proofs.Keeping.Aside.{SeatAside, not-idle, Aside, link-put, word-put, seat-put, linked-in}
 
 pub record Good (N S : ℕ) (t : Tables) : Type 0 where
-  pub nodes-long : length (t .nodes) ≡ beforeNodes + nodeWidth * N
-  pub seats-long : length (t .seats) ≡ seatWidth * S
+  pub aside : Aside N S t
   pub inv : Invariant N (nodesOf t) (seatsOf t)
 
 pub room : {N S : ℕ} {t : Tables} → Good N S t → (s : ℕ) → s < S → Room t s
-room g s h = let l = g .seats-long in omega arith
+room g s h = let l = g .aside .seats-long in omega arith
 
 pub node-room : {N S : ℕ} {t : Tables} → Good N S t → (a : ℕ) → a ≤ N → beforeNodes + nodeWidth * a ≤ length (t .nodes)
-node-room g a h = let l = g .nodes-long in omega arith
+node-room g a h = let l = g .aside .nodes-long in omega arith
 
 -- words outside the view do not matter
-pub same-view : {N S : ℕ} {t u : Tables} → Good N S t → length (u .nodes) ≡ length (t .nodes) → length (u .seats) ≡ length (t .seats)
-    → nodesOf t ≡ nodesOf u → seatsOf t ≡ seatsOf u → Good N S u
-same-view {N} g l l′ e e′ = record { nodes-long = l ∙ g .nodes-long; seats-long = l′ ∙ g .seats-long; inv = subst₂ (Invariant N) e e′ (g .inv) }
+pub same-view : {N S : ℕ} {t u : Tables} → Good N S t → Aside N S u → nodesOf t ≡ nodesOf u → seatsOf t ≡ seatsOf u → Good N S u
+same-view {N} g w e e′ = record { aside = w; inv = subst₂ (Invariant N) e e′ (g .inv) }
 
 -- ---- a seat moves
-pub moves : {N S : ℕ} {t : Tables} {s : ℕ} {words : ℕ → ℕ} {seats : List ℕ} → Good N S t → Seated (t .seats) seats s words
+pub moves : {N S : ℕ} {t : Tables} {s : ℕ} {words : ℕ → ℕ} {seats : List ℕ} → Good N S t → Seated (t .seats) seats s words → SeatAside words
     → (Reseated (seatsOf t) (seatsOf (tables (t .nodes) seats)) s (words phaseAt) (words ownAt) (words prevAt) (words curAt)
     → Invariant N (nodesOf t) (seatsOf (tables (t .nodes) seats)))
     → Good N S (tables (t .nodes) seats)
-moves {t = t} {seats = seats} g w f =
-    record { nodes-long = g .nodes-long; seats-long = w .long ∙ g .seats-long; inv = f (reseated t (tables (t .nodes) seats) w) }
+moves {t = t} {seats = seats} g w k f =
+    record { aside = seat-put (g .aside) w k; inv = f (reseated t (tables (t .nodes) seats) w) }
 
 -- ---- a link that led to a marked node passes over it
 pub passes-over : {N S : ℕ} {t : Tables} → Good N S t → (p out : ℕ) → p ≤ N → Known (link t) (seatsOf t) p
@@ -54,8 +53,7 @@ passes-over {N} {t = t} g p out p-in known out-pos gone joins =
     let v = next t out in
     let old : (a : ℕ) → a ≢ p → link (setLink t p v) a ≡ link t a = λ a d. link-put-other l p a v (λ e. d (sym e)) in
     record {
-      nodes-long = put-link-length l p v ∙ g .nodes-long;
-      seats-long = g .seats-long;
+      aside = link-put (g .aside) p v;
       inv = subst (λ n. Invariant N n (seatsOf t)) (only-links t (setLink t p v) (λ a f h d. node-put-link l p a f v h d))
           (unlink-keeps (g .inv) (link (setLink t p v)) p out known (omega arith) gone joins (link-put-same l p v (node-room g p p-in)) old);
     }
@@ -101,13 +99,9 @@ module _ {N S : ℕ} {t : Tables} (g : Good N S t) (s : ℕ) where
     unfolding linkIn
     old-links a d d′ = link-put-other (putLink (t .nodes) o c) p a o (λ e. d′ (sym e)) ∙ link-put-other (t .nodes) o a c (λ e. d (sym e))
 
-    linked-long : length (linkIn t s .nodes) ≡ length (t .nodes)
+    linked-aside : {seats : List ℕ} {words : ℕ → ℕ} → Seated (t .seats) seats s words → SeatAside words → Aside N S (tables (linkIn t s .nodes) seats)
     unfolding linkIn
-    linked-long = put-link-length (putLink (t .nodes) o c) p o ∙ put-link-length (t .nodes) o c
-
-    linked-seats : linkIn t s .seats ≡ t .seats
-    unfolding linkIn
-    linked-seats = refl
+    linked-aside w k = seat-put (linked-in (g .aside) s) w k
 
     in-front : 0 < link t p → Ordered (claimOf t o) (claimOf t (link t p))
     in-front h =
@@ -120,24 +114,22 @@ module _ {N S : ℕ} {t : Tables} (g : Good N S t) (s : ℕ) where
     pub links-in-good : {seats : List ℕ} {words : ℕ → ℕ} → Seated (t .seats) seats s words → words ownAt ≡ o
         → Starts (nodesOf t) (link (linkIn t s)) o p (words phaseAt) (words prevAt) (words curAt) → Good N S (tables (linkIn t s .nodes) seats)
     links-in-good {seats} {words} w e st = record {
-      nodes-long = linked-long ∙ g .nodes-long;
-      seats-long = w .long ∙ g .seats-long;
+      aside = linked-aside w (not-idle (elim st [ reader p k q c ↦ omega arith | writer p k q c ↦ omega arith ]));
       inv = subst (λ n. Invariant N n (seatsOf (tables (linkIn t s .nodes) seats))) (only-links t (linkIn t s) (link-in-words t s))
           (insert-keeps (g .inv) (link (linkIn t s)) s (words phaseAt) (words prevAt) (words curAt) walks (join .unmarked)
           (new-own ∙ sym (join .to-cur)) new-prev old-links (rw e at (reseated t (tables (linkIn t s .nodes) seats) w)) st in-front);
     }
 
   -- ---- own is marked and the seat leaves
-  pub leaves-good : {seats : List ℕ} {words : ℕ → ℕ} → Linked (phase t s) → Seated (t .seats) seats s words
+  pub leaves-good : {seats : List ℕ} {words : ℕ → ℕ} → Linked (phase t s) → Seated (t .seats) seats s words → SeatAside words
       → words prevAt ≡ 0 → words curAt ≡ 0 → Leaves o (words phaseAt) (words ownAt) → Good N S (tables (setMark t o 1 .nodes) seats)
-  leaves-good {seats} {words} l w ep ec lv =
+  leaves-good {seats} {words} l w k ep ec lv =
       let h : o ≢ 0 = let x = own-pos (g .inv) s (linked-busy l) in omega arith in
       let ns = t .nodes in
       let u = tables (setMark t o 1 .nodes) seats in
       let r : Reseated (seatsOf t) (seatsOf u) s (words phaseAt) (words ownAt) 0 0 = rw (ep, ec) at (reseated t u w) in
       record {
-        nodes-long = put-node-length ns o markAt 1 ∙ g .nodes-long;
-        seats-long = w .long ∙ g .seats-long;
+        aside = seat-put (word-put (g .aside) markAt o 1) w k;
         inv = subst (λ n. Invariant N n (seatsOf u))
             (only-marks t (setMark t o 1) (λ a f b d. node-put-field ns o a markAt f 1 (omega arith) b (λ e. d (sym e)))
             (λ a. link-put-field ns o a markAt 1 (omega arith) (omega arith)))

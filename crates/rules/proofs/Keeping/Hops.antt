@@ -28,7 +28,7 @@ module _ {N S : ℕ} {t : Tables} (g : Good N S t) where
   -- from where a walk can be, what is reached is met
   reached-met : (a x : ℕ) → Known (link t) (seatsOf t) a → Reach (link t) x a → met (nodeCount t) t a x ≡ true
   reached-met a x k r =
-      rw (node-count t N (g .nodes-long)) (reach-met t x N (λ b. named-in (g .inv .nodes .links b)) (named-in (known-named (g .inv) k)) r)
+      rw (node-count t N (g .aside .nodes-long)) (reach-met t x N (λ b. named-in (g .inv .nodes .links b)) (named-in (known-named (g .inv) k)) r)
 
   not-reached : (a x : ℕ) → Known (link t) (seatsOf t) a → met (nodeCount t) t a x ≡ false → Reach (link t) x a → ⊥
   not-reached a x k e r = clash (met (nodeCount t) t a x) (reached-met a x k r) e
@@ -39,7 +39,7 @@ module _ {N S : ℕ} {t : Tables} (g : Good N S t) where
 
   -- a seat past the last one is nowhere
   past : (r f : ℕ) → S ≤ r → seatWord (t .seats) r f ≡ 0
-  past r f h = let e = seat-count t S (g .seats-long) in seat-past t r f (rw e (g .seats-long)) (rw e h)
+  past r f h = let e = seat-count t S (g .aside .seats-long) in seat-past t r f (rw e (g .aside .seats-long)) (rw e h)
 
   -- so a seat with a claim is one of the S
   pub busy-in : (r : ℕ) → phase t r ≢ 0 → r < S
@@ -49,8 +49,8 @@ module _ {N S : ℕ} {t : Tables} (g : Good N S t) where
   unfolding free listed
   is-free s x e z h =
       let q = or-neither (met (nodeCount t) t (head t) x) (othersReach t s x) (not-true (met (nodeCount t) t (head t) x || othersReach t s x) e) in
-      let count = node-count t N (g .nodes-long) in
-      let miss : (r : ℕ) → r < S → r ≢ s → Misses t r x = λ r l d. others-miss t s x r (q .1) (rw (seat-count t S (g .seats-long)) l) d in
+      let count = node-count t N (g .aside .nodes-long) in
+      let miss : (r : ℕ) → r < S → r ≢ s → Misses t r x = λ r l d. others-miss t s x r (q .1) (rw (seat-count t S (g .aside .seats-long)) l) d in
       record {
         is-node = omega arith;
         off-list = not-reached (head t) x known-head (q .0);

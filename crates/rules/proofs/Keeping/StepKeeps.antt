@@ -19,33 +19,34 @@ use Rattle.rules.proofs.Invariant.Leave as leaving
 use Rattle.rules.proofs.Rules.Effects.{Room}
 use Rattle.rules.proofs.Rules.RuleEffects.{phase-stored, cur-stored, place-stored, pass-stored, start-stored, hold-stored, withdraw-stored, leave-stored}
 use Rattle.rules.proofs.Rules.Reasons.{Joined, Unlinking, takes-out, goes-past, Starting, as-reader, as-writer, Inserting, links-in, restarts, rereads, Walking, inserts, unlinks, passes, waits, Waking, wakes, stays, ReaderValidating, reader-holds, reader-unlinks, reader-passes, reader-waits, WriterValidating, writer-holds, writer-unlinks, writer-passes, withdraws, Validating, validates-reader, validates-writer}
+use Rattle.rules.proofs.Keeping.Aside.{not-idle, all-zero}
 use Rattle.rules.proofs.Keeping.Good.{Good, room, node-room, moves, passes-over, prev-in, new-own, link-in-words, links-in-good, leaves-good}
 
 -- the seat's cur goes on to a marked cur's next
 skip-good : {N S : ℕ} {t : Tables} → Good N S t → (s : ℕ) → s < S → (phase t s ≡ 1) ⊎ (phase t s ≡ 3) → cur t s ≢ 0 → mark t (cur t s) ≡ 1
     → Good N S (setCur t s (next t (cur t s)))
 skip-good {t = t} g s s-in (inl e) c m =
-    moves g (cur-stored t s (room g s s-in) (next t (cur t s))) (λ w. skip-keeps (g .inv) (rw e at w) e (omega arith))
+    moves g (cur-stored t s (room g s s-in) (next t (cur t s))) (not-idle (omega arith)) (λ w. skip-keeps (g .inv) (rw e at w) e (omega arith))
 skip-good {t = t} g s s-in (inr e) c m =
-    moves g (cur-stored t s (room g s s-in) (next t (cur t s))) (λ w. skip-validating-keeps (g .inv) (rw e at w) e (omega arith) m)
+    moves g (cur-stored t s (room g s s-in) (next t (cur t s))) (not-idle (omega arith)) (λ w. skip-validating-keeps (g .inv) (rw e at w) e (omega arith) m)
 
 module _ {N S : ℕ} {t : Tables} (g : Good N S t) (s : ℕ) (s-in : s < S) where
   abbrev r : Room t s
   r = room g s s-in
 
   -- ---- the moves that change no node
-  pass-good : (Moved (seatsOf t) (seatsOf (pass t s)) s (phase t s) (cur t s) (next t (cur t s)) → Invariant N (nodesOf t) (seatsOf (pass t s)))
+  pass-good : phase t s ≢ 0 → (Moved (seatsOf t) (seatsOf (pass t s)) s (phase t s) (cur t s) (next t (cur t s)) → Invariant N (nodesOf t) (seatsOf (pass t s)))
       → Good N S (pass t s)
   unfolding pass
-  pass-good f = moves g (pass-stored t s r) f
+  pass-good b f = moves g (pass-stored t s r) (not-idle b) f
 
-  phase-good : (P : ℕ) → (Moved (seatsOf t) (seatsOf (setPhase t s P)) s P (prev t s) (cur t s) → Invariant N (nodesOf t) (seatsOf (setPhase t s P)))
+  phase-good : (P : ℕ) → P ≢ 0 → (Moved (seatsOf t) (seatsOf (setPhase t s P)) s P (prev t s) (cur t s) → Invariant N (nodesOf t) (seatsOf (setPhase t s P)))
       → Good N S (setPhase t s P)
-  phase-good P f = moves g (phase-stored t s r P) f
+  phase-good P b f = moves g (phase-stored t s r P) (not-idle b) f
 
   hold-good : (Moved (seatsOf t) (seatsOf (hold t s)) s 5 0 0 → Invariant N (nodesOf t) (seatsOf (hold t s))) → Good N S (hold t s)
   unfolding hold
-  hold-good f = moves g (hold-stored t s r) f
+  hold-good f = moves g (hold-stored t s r) (not-idle (omega arith)) f
 
   own-writes : phase t s ≢ 0 → kind t (own t s) ≢ 1 → kind t (own t s) ≡ 2
   own-writes b k = elim (own-proper (g .inv) s b .reads-or-writes) [ inl q ↦ absurd (k q) | inr q ↦ q ]
@@ -76,40 +77,40 @@ module _ {N S : ℕ} {t : Tables} (g : Good N S t) (s : ℕ) (s-in : s < S) wher
   insert-good : {u : Tables} → phase t s ≡ 1 → (cur t s ≡ 0) ⊎ Precedes (claimOf t (own t s)) (claimOf t (cur t s)) → Inserting t s u → Good N S u
   insert-good e f (links-in j st) = start-good e j f st
   insert-good e f (restarts j m) =
-      moves g (place-stored t s r 0 (head t)) (λ w. restart-keeps (g .inv) (rw e at w) e)
+      moves g (place-stored t s r 0 (head t)) (not-idle (omega arith)) (λ w. restart-keeps (g .inv) (rw e at w) e)
   insert-good e f (rereads j m) =
-      moves g (cur-stored t s r (link t (prev t s))) (λ w. reread-keeps (g .inv) (rw e at w) e)
+      moves g (cur-stored t s r (link t (prev t s))) (not-idle (omega arith)) (λ w. reread-keeps (g .inv) (rw e at w) e)
 
   -- ---- the phases
   pub walking-keeps : {u : Tables} → phase t s ≡ 1 → Walking t s u → Good N S u
   walking-keeps e (inserts f i) = insert-good e f i
   walking-keeps e (unlinks c m i) = unlink-good (inl e) c m i
-  walking-keeps e (passes c m f) = pass-good (λ w. pass-keeps (g .inv) (rw e at w) e (omega arith) f)
-  walking-keeps e (waits c m f f′) = phase-good 2 (λ w. wait-keeps (g .inv) w e (omega arith) f f′)
+  walking-keeps e (passes c m f) = pass-good (omega arith) (λ w. pass-keeps (g .inv) (rw e at w) e (omega arith) f)
+  walking-keeps e (waits c m f f′) = phase-good 2 (omega arith) (λ w. wait-keeps (g .inv) w e (omega arith) f f′)
 
   pub waiting-keeps : {u : Tables} → phase t s ≡ 2 → Waking t s 1 u → Good N S u
-  waiting-keeps e (wakes m) = phase-good 1 (λ w. wake-keeps (g .inv) w e)
+  waiting-keeps e (wakes m) = phase-good 1 (omega arith) (λ w. wake-keeps (g .inv) w e)
   waiting-keeps e (stays m) = g
 
   pub reader-waiting-keeps : {u : Tables} → phase t s ≡ 4 → Waking t s 3 u → Good N S u
-  reader-waiting-keeps e (wakes m) = phase-good 3 (λ w. reader-wakes-keeps (g .inv) w e)
+  reader-waiting-keeps e (wakes m) = phase-good 3 (omega arith) (λ w. reader-wakes-keeps (g .inv) w e)
   reader-waiting-keeps e (stays m) = g
 
   reader-validating-keeps : {u : Tables} → phase t s ≡ 3 → kind t (own t s) ≡ 1 → ReaderValidating t s u → Good N S u
   reader-validating-keeps e k (reader-holds f) = hold-good (λ w. hold-reader-keeps (g .inv) w e k f)
   reader-validating-keeps e k (reader-unlinks c m i) = unlink-good (inr e) c m i
-  reader-validating-keeps e k (reader-passes c m f) = pass-good (λ w. pass-reader-keeps (g .inv) (rw e at w) e (omega arith) k f)
-  reader-validating-keeps e k (reader-waits c m f h) = phase-good 4 (λ w. reader-waits-keeps (g .inv) w e (omega arith) k f h)
+  reader-validating-keeps e k (reader-passes c m f) = pass-good (omega arith) (λ w. pass-reader-keeps (g .inv) (rw e at w) e (omega arith) k f)
+  reader-validating-keeps e k (reader-waits c m f h) = phase-good 4 (omega arith) (λ w. reader-waits-keeps (g .inv) w e (omega arith) k f h)
 
   withdraw-good : Linked (phase t s) → Good N S (withdraw t s)
   unfolding withdraw
-  withdraw-good l = leaves-good g s l (withdraw-stored t s r) refl refl (leaving.withdraws refl refl)
+  withdraw-good l = leaves-good g s l (withdraw-stored t s r) (not-idle (omega arith)) refl refl (leaving.withdraws refl refl)
 
   writer-validating-keeps : {u : Tables} → phase t s ≡ 3 → kind t (own t s) ≢ 1 → WriterValidating t s u → Good N S u
   writer-validating-keeps e k (writer-holds f) = hold-good (λ w. hold-writer-keeps (g .inv) w e (own-writes (omega arith) k) f)
   writer-validating-keeps e k (writer-unlinks d c m i) = unlink-good (inr e) c m i
   writer-validating-keeps e k (writer-passes d c m f) =
-      pass-good (λ w. pass-writer-keeps (g .inv) (rw e at w) e (omega arith) (own-writes (omega arith) k) f)
+      pass-good (omega arith) (λ w. pass-writer-keeps (g .inv) (rw e at w) e (omega arith) (own-writes (omega arith) k) f)
   writer-validating-keeps e k (withdraws d f) = withdraw-good (validating e)
 
   pub validating-keeps : {u : Tables} → phase t s ≡ 3 → Validating t s u → Good N S u
@@ -119,4 +120,4 @@ module _ {N S : ℕ} {t : Tables} (g : Good N S t) (s : ℕ) (s-in : s < S) wher
   -- ---- release
   pub leave-keeps : phase t s ≡ 5 → Good N S (leave t s)
   unfolding leave
-  leave-keeps e = leaves-good g s (holding e) (leave-stored t s r) refl refl (leaving.releases refl refl)
+  leave-keeps e = leaves-good g s (holding e) (leave-stored t s r) all-zero refl refl (leaving.releases refl refl)

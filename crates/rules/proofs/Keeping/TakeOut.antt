@@ -125,7 +125,7 @@ taken-out-good {N} {S} {t} g =
     (λ t p w. firm-behind (w .0) p (w .1))
     (λ t p c w e d m. (passes-over (w .0) p c (firm-in (w .0) p (w .1)) (firm-known (w .0) p (w .1)) d m e, w .1))
     (λ t p c w e d m. (w .0, inr (w .0 .inv .owner (rw e at (firm-next (w .0) p (w .1) (rw e d))) m)))
-    t (g, inl refl) (ends .0) (ends .1) (rw (node-count t N (g .nodes-long)) few) .1 .0
+    t (g, inl refl) (ends .0) (ends .1) (rw (node-count t N (g .aside .nodes-long)) few) .1 .0
 
 -- ---- what taking out leaves, in any tables
 through-seats : (ks : List ℕ) (t : Tables) (p : ℕ) → linkThrough t p ks .seats ≡ t .seats

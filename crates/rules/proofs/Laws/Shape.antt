@@ -1,19 +1,18 @@
 -- Sound shape as facts: a record with a field for each clause of the Bool test `sound`, and both ways between them.
-use mathlib.Core.Path.{_≡_, refl, sym, ap, _∙_}
-use mathlib.Core.Bool.{Bool, true, false, not, _&&_, _||_}
+use mathlib.Core.Path.{_≡_, refl}
+use mathlib.Core.Bool.{Bool, true, not, _&&_, _||_}
 use mathlib.Core.Logic.{_≢_, _⊎_, inl, inr, ⊎-elim}
 use mathlib.Core.List.{List}
-use Prim.Native.Nat.{ℕ, zero, suc, _+_, _-_, _*_, _≤_, _<_}
+use Prim.Native.Nat.{ℕ, zero, suc, _+_, _*_, _≤_, _<_}
 use native.Mathlib.Omega.{arith}
 use native.Mathlib.Numerals.{add-one}
-use lib.Dec.{eqb, leb, ltb}
 use lib.ListN.{length}
 use borrow.Author.Tests.{eqb-true, eqb-false, leb-true, leb-false, ltb-true, ltb-false, eq-eqb, ne-eqb, le-leb, lt-ltb}
-use Rattle.rules.specs.Notation.{_is_, _≤?_, _<?_, all}
-use Rattle.rules.specs.Tables.{Tables, tables, seatCountOf, nodeCount, seatCount, beforeNodes, nodeWidth, seatWidth, phaseAt, ownAt, prevAt, curAt, start, end, kind, mark, link, next, head, phase, own, prev, cur}
-use Rattle.rules.specs.Shape.{nodesFit, seatsFit, lengthsFit, isKind, zeroNode, claimNode, names, nodeSound, isPhase, idleOrOwning, restingAtZero, waitingAtCur, seatSound, endsWithin, nodesSound, seatsSound, sound}
-use Rattle.rules.proofs.Ground.Logic.{either, or-left, or-right, or-case, and-left, and-right, and-both, both, all3, all4, all5, all6, not-true, of-not, all-at, all-of}
-use Rattle.rules.proofs.Laws.Words.{node-past, link-past, seat-past}
+use Rattle.rules.specs.Notation.{_is_, _≤?_, _<?_}
+use Rattle.rules.specs.Tables.{Tables, tables, seatCountOf, nodeCount, seatCount, beforeNodes, nodeWidth, seatWidth, phaseAt, ownAt, prevAt, curAt, seatWord, start, end, kind, mark, link, next, head, phase, own, prev, cur}
+use Rattle.rules.specs.Shape.{nodesFit, seatsFit, lengthsFit, isKind, zeroNode, claimNode, names, nodeSound, isPhase, zeroSeat, idleOrOwning, restingAtZero, waitingAtCur, seatSound, endsWithin, nodesSound, seatsSound, sound}
+use Rattle.rules.proofs.Ground.Logic.{either, or-left, or-right, or-case, and-left, and-right, and-both, both, all3, all4, all5, all6, not-true, of-not, branch, all-at, all-of}
+use Rattle.rules.proofs.Laws.Words.{link-past, seat-past}
 
 -- ---- a kind
 abbrev pub IsKind : ℕ → Type 0
@@ -107,7 +106,7 @@ node-claim-is t a c =
 -- ---- a seat
 pub record SeatSound (t : Tables) (s : ℕ) : Type 0 where
   pub phase-small : phase t s ≤ 6
-  pub idle : phase t s ≡ 0 → (own t s ≡ 0) × (prev t s ≡ 0) × (cur t s ≡ 0)
+  pub idle : phase t s ≡ 0 → (f : ℕ) → f < seatWidth → seatWord (t .seats) s f ≡ 0
   pub owning : phase t s ≢ 0 → own t s ≢ 0
   pub resting : (phase t s ≡ 5) ⊎ (phase t s ≡ 6) → (prev t s ≡ 0) × (cur t s ≡ 0)
   pub waiting : (phase t s ≡ 2) ⊎ (phase t s ≡ 4) → cur t s ≢ 0
@@ -130,38 +129,21 @@ two-phases-is p m n b f =
 
 -- idle with zeros, or busy with an own node
 module _ (t : Tables) (s : ℕ) where
-  idle-zeros : Bool
-  idle-zeros = phase t s is 0 && own t s is 0 && prev t s is 0 && cur t s is 0
-
-  busy-owning : Bool
-  busy-owning = not (phase t s is 0) && not (own t s is 0)
-
-  zeros-of : idleOrOwning t s ≡ true → phase t s ≡ 0 → (own t s ≡ 0) × (prev t s ≡ 0) × (cur t s ≡ 0)
-  unfolding idleOrOwning idle-zeros busy-owning
-  zeros-of e z =
-      ⊎-elim
-      (λ p. let w = all4 (phase t s is 0) (own t s is 0) (prev t s is 0) (cur t s is 0) p in
-      (eqb-true (own t s) 0 (w .1), eqb-true (prev t s) 0 (w .2), eqb-true (cur t s) 0 (w .3)))
-      (λ p. absurd (eqb-false (phase t s) 0 (not-true (phase t s is 0) (and-left (not (phase t s is 0)) (not (own t s is 0)) p)) z))
-      (or-case idle-zeros busy-owning e)
+  zeros-of : idleOrOwning t s ≡ true → phase t s ≡ 0 → (f : ℕ) → f < seatWidth → seatWord (t .seats) s f ≡ 0
+  unfolding idleOrOwning zeroSeat
+  zeros-of e z f h =
+      eqb-true (seatWord (t .seats) s f) 0 (all-at seatWidth f (λ f. seatWord (t .seats) s f is 0) (rw (eq-eqb (phase t s) 0 z) at e) h)
 
   owning-of : idleOrOwning t s ≡ true → phase t s ≢ 0 → own t s ≢ 0
-  unfolding idleOrOwning idle-zeros busy-owning
-  owning-of e z =
-      ⊎-elim
-      (λ p. absurd (z (eqb-true (phase t s) 0 (all4 (phase t s is 0) (own t s is 0) (prev t s is 0) (cur t s is 0) p .0))))
-      (λ p. eqb-false (own t s) 0 (not-true (own t s is 0) (and-right (not (phase t s is 0)) (not (own t s is 0)) p)))
-      (or-case idle-zeros busy-owning e)
+  unfolding idleOrOwning
+  owning-of e z = eqb-false (own t s) 0 (not-true (own t s is 0) (rw (ne-eqb (phase t s) 0 z) at e))
 
   idle-or-owning : SeatSound t s → idleOrOwning t s ≡ true
-  unfolding idleOrOwning
+  unfolding idleOrOwning zeroSeat
   idle-or-owning w =
-      ⊎-elim
-      (λ p. let z = w .idle (eqb-true (phase t s) 0 p) in rw (p, eq-eqb (own t s) 0 (z .0), eq-eqb (prev t s) 0 (z .1), eq-eqb (cur t s) 0 (z .2)))
-      (λ p. or-right (phase t s is 0 && own t s is 0 && prev t s is 0 && cur t s is 0) (not (phase t s is 0) && not (own t s is 0))
-      (and-both (not (phase t s is 0)) (not (own t s is 0)) (of-not (phase t s is 0) p)
-      (of-not (own t s is 0) (ne-eqb (own t s) 0 (w .owning (eqb-false (phase t s) 0 p))))))
-      (either (phase t s is 0))
+      branch (λ b. b ≡ true) (phase t s is 0)
+      (λ p. all-of seatWidth (λ f. seatWord (t .seats) s f is 0) (λ f h. eq-eqb (seatWord (t .seats) s f) 0 (w .idle (eqb-true (phase t s) 0 p) f h)))
+      (λ p. of-not (own t s is 0) (ne-eqb (own t s) 0 (w .owning (eqb-false (phase t s) 0 p))))
 
   pub seat-sound : seatSound t s ≡ true → SeatSound t s
   unfolding seatSound isPhase restingAtZero waitingAtCur
@@ -245,7 +227,7 @@ past-seat t s e h =
     let c : cur t s ≡ 0 = seat-past t s curAt e h in
     record {
       phase-small = omega arith;
-      idle = λ z. (o, v, c);
+      idle = λ z f k. seat-past t s f e h;
       owning = λ z. absurd (z p);
       resting = λ z. (v, c);
       waiting = λ z. absurd (elim z [ inl q ↦ omega arith | inr q ↦ omega arith ]);

@@ -9,7 +9,7 @@ use native.Mathlib.Omega.{arith}
 use native.Mathlib.Decide.{decLt}
 use lib.ListN.{getD, set, length, length-set, length-replicate, getD-replicate, List·getD-eq-default}
 use lib.Seq.{ext-getD, set-getD, getD-set-same, getD-set-other}
-use Rattle.rules.specs.Tables.{Tables, tables, headAt, beforeNodes, nodeWidth, seatWidth, nextAt, nodeWord, putNode, linkWord, putLink, seatWord, putSeat, nodeCountOf, seatCountOf, nodeCount, seatCount, zeros, fresh}
+use Rattle.rules.specs.Tables.{Tables, tables, headAt, beforeNodes, nodeWidth, seatWidth, nextAt, topWord, nodeWord, putNode, linkWord, putLink, seatWord, putSeat, nodeCountOf, seatCountOf, nodeCount, seatCount, zeros, fresh}
 use Rattle.rules.proofs.Ground.Deciding.{if-same}
 
 -- ---- lengths
@@ -97,6 +97,17 @@ link-put-other l zero zero v d = absurd (d refl)
 link-put-other l zero (suc k) v d = getD-set-other l headAt (beforeNodes + nodeWidth * k + nextAt) v 0 (λ e. omega arith)
 link-put-other l (suc m) zero v d = getD-set-other l (beforeNodes + nodeWidth * m + nextAt) headAt v 0 (λ e. omega arith)
 link-put-other l (suc m) (suc k) v d = node-put-node l (suc m) (suc k) nextAt nextAt v (omega arith) (omega arith) d
+
+-- ---- the words before node 1: a store to a node leaves them, and a store to a link all but the head
+pub top-put-node : (l : List ℕ) (i a f v : ℕ) → i < beforeNodes → topWord (putNode l a f v) i ≡ topWord l i
+unfolding putNode
+top-put-node l i zero f v h = refl
+top-put-node l i (suc m) f v h = getD-set-other l (beforeNodes + nodeWidth * m + f) i v 0 (λ e. omega arith)
+
+pub top-put-link : (l : List ℕ) (i a v : ℕ) → i < beforeNodes → i ≢ headAt → topWord (putLink l a v) i ≡ topWord l i
+unfolding putLink
+top-put-link l i zero v h d = getD-set-other l headAt i v 0 (λ e. d (omega arith))
+top-put-link l i (suc m) v h d = top-put-node l i (suc m) nextAt v h
 
 -- ---- a seat's words after a store to a seat's word
 pub seat-put-same : (l : List ℕ) (s f v : ℕ) → f < seatWidth → seatWidth * s + seatWidth ≤ length l → seatWord (putSeat l s f v) s f ≡ v

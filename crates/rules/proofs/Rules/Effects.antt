@@ -1,6 +1,6 @@
 -- What stores do, seen from the theory: to the words of a seat or a node, one after another, and to the view of the nodes. Over any
 -- tables that have room for the seat or the node.
-use Prim.Native.Nat.{ℕ, _+_, _*_, _≤_, _<_}
+use Prim.Native.Nat.{ℕ, zero, suc, _+_, _*_, _≤_, _<_}
 use mathlib.Core.Path.{_≡_, refl, sym, _∙_, fun-ext}
 use mathlib.Core.List.{List}
 use mathlib.Core.Logic.{_≢_}
@@ -8,7 +8,7 @@ use native.Mathlib.Omega.{arith}
 use lib.ListN.{length}
 use borrow.Author.Tests.{eq-eqb, ne-eqb}
 use Rattle.rules.specs.Notation.{if_then_else_, _is_}
-use Rattle.rules.specs.Tables.{Tables, beforeNodes, nodeWidth, seatWidth, startAt, endAt, kindAt, markAt, nextAt, phaseAt, ownAt, prevAt, curAt, nodeWord, linkWord, seatWord, putNode, putLink, putSeat, link, mark}
+use Rattle.rules.specs.Tables.{Tables, beforeNodes, nodeWidth, seatWidth, startAt, endAt, kindAt, markAt, nextAt, phaseAt, ownAt, prevAt, curAt, nodeWord, linkWord, seatWord, putNode, putLink, putSeat, clearWords, link, mark}
 use Rattle.rules.proofs.Ground.Deciding.{if-same}
 use Rattle.rules.proofs.Laws.Words.{seat-put-same, seat-put-field, seat-put-seat, put-seat-length, node-put-same, node-put-field, node-put-node, put-node-length, put-link-node, link-put-other, link-put-field}
 use Rattle.rules.proofs.Invariant.View.{nodesOf, seatsOf, relink, remark, Reseated}
@@ -39,6 +39,30 @@ put {before} {after} {s} room w f v h = record {
   long = put-seat-length after s f v ∙ w .long;
 }
 
+-- ---- a seat cleared
+abbrev zeroBelow : ℕ → (ℕ → ℕ) → ℕ → ℕ
+zeroBelow zero words = words
+zeroBelow (suc k) words = stored (zeroBelow k words) k 0
+
+zero-below : (words : ℕ → ℕ) (k f : ℕ) → f < k → zeroBelow k words f ≡ 0
+zero-below words zero f h = absurd (omega arith)
+zero-below words (suc k) f h =
+    if-same f k
+    (λ e. rw (eq-eqb f k e))
+    (λ d. rw (ne-eqb f k d) (zero-below words k f (omega arith)))
+
+module _ (seats : List ℕ) (s : ℕ) (room : seatWidth * s + seatWidth ≤ length seats) where
+  cleared-to : (k : ℕ) → k ≤ seatWidth → Seated seats (clearWords k seats s) s (zeroBelow k (seatWord seats s))
+  unfolding clearWords
+  cleared-to zero h = as-found seats s
+  cleared-to (suc k) h = put room (cleared-to k (omega arith)) k 0 (omega arith)
+
+  pub cleared : Seated seats (clearWords seatWidth seats s) s (λ f. 0)
+  cleared =
+      let w = cleared-to seatWidth (omega arith) in
+      record { at-s = λ f h. w .at-s f h ∙ zero-below (seatWord seats s) seatWidth f h; others = w .others; long = w .long }
+
+-- ---- as the view shows it
 pub reseated : (t u : Tables) {s : ℕ} {words : ℕ → ℕ} → Seated (t .seats) (u .seats) s words
     → Reseated (seatsOf t) (seatsOf u) s (words phaseAt) (words ownAt) (words prevAt) (words curAt)
 reseated t u w = record {

@@ -4,7 +4,7 @@ use native.Mathlib.Omega.{arith}
 use Rattle.rules.specs.Tables.{Tables, seatWord, phaseAt, ownAt, prevAt, curAt, next, head, cur, setPhase, setPrev, setCur}
 use Rattle.rules.specs.Fetch.{enterAtHead}
 use Rattle.rules.specs.Steps.{moveTo, linkIn, pass, hold, withdraw, leave}
-use Rattle.rules.proofs.Rules.Effects.{Room, stored, Seated, as-found, put}
+use Rattle.rules.proofs.Rules.Effects.{Room, stored, Seated, as-found, put, cleared}
 
 module _ (t : Tables) (s : ℕ) (r : Room t s) where
   abbrev words : ℕ → ℕ
@@ -39,9 +39,9 @@ module _ (t : Tables) (s : ℕ) (r : Room t s) where
   unfolding withdraw
   withdraw-stored = move-stored 6 0 0
 
-  pub leave-stored : Seated (t .seats) (leave t s .seats) s (stored (stored (stored (stored words phaseAt 0) prevAt 0) curAt 0) ownAt 0)
+  pub leave-stored : Seated (t .seats) (leave t s .seats) s (λ f. 0)
   unfolding leave
-  leave-stored = put r (move-stored 0 0 0) ownAt 0 (omega arith)
+  leave-stored = cleared (t .seats) s r
 
   pub enter-stored : (a : ℕ) → Seated (t .seats) (enterAtHead t s a .seats) s (stored (stored (stored (stored words phaseAt 1) ownAt a) prevAt 0) curAt (head t))
   unfolding enterAtHead

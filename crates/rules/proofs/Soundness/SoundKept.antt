@@ -18,7 +18,7 @@ use Rattle.rules.specs.Calls.{begun, begin, step, release}
 use Rattle.rules.proofs.Ground.Logic.{branch, or-neither, not-true, clash}
 use Rattle.rules.proofs.Laws.Words.{link-put-same, link-put-other, put-link-length, node-count}
 use Rattle.rules.proofs.Laws.Shape.{is-sound, sound-is}
-use Rattle.rules.proofs.Ground.Lowest.{lowest-has}
+use Rattle.rules.proofs.Ground.Counting.{lowest-has}
 use Rattle.rules.proofs.Ground.Following.{reach-target, ends-tail, no-circle, unlink-keeps-ends, unlink-adds-none}
 use Rattle.rules.proofs.Ground.Pigeonhole.{short}
 use Rattle.rules.proofs.Laws.Listed.{reach-met}
@@ -34,6 +34,7 @@ use Rattle.rules.proofs.Keeping.Good.{link-in-words}
 use Rattle.rules.proofs.Rules.RuleEffects.{phase-stored, cur-stored, place-stored, start-stored, hold-stored, withdraw-stored, leave-stored, enter-stored}
 use Rattle.rules.proofs.Rules.Reasons.{Unlinking, takes-out, goes-past, Starting, as-reader, as-writer, Inserting, links-in, restarts, rereads, Walking, inserts, unlinks, passes, waits, Waking, wakes, stays, reader-holds, reader-unlinks, reader-passes, reader-waits, writer-holds, writer-unlinks, writer-passes, withdraws, Validating, validates-reader, validates-writer, Fetching, found, found-then, none, Stepping, in-1, in-2, in-3, in-4, in-6, at-rest}
 use Rattle.rules.proofs.Rules.Accepting.{Beginning, begin-refused, begin-accepted, beginning, Stepped, step-refused, step-accepted, stepped, Releasing, release-refused, release-accepted, releasing}
+use Rattle.rules.proofs.Keeping.Aside.{not-idle, all-zero, linked-in}
 use Rattle.rules.proofs.Keeping.FetchKeeps.{written}
 use Rattle.rules.proofs.Keeping.TakeOut.{taken-out-keeps}
 use Rattle.rules.proofs.Soundness.SoundShape.{SoundView, Shaped, within-ends, shaped-room, seat-moves, link-passes-over, claim-marked, claim-put, sound-shaped}
@@ -79,7 +80,7 @@ module _ {N S : ℕ} (t : Tables) (p c : ℕ) (w : OnWay N S t p) (e : link t p 
 module _ {N S : ℕ} {t : Tables} (g : Shaped N S t) where
   list-short : g .view .ends .0 ≤ nodeCount t
   list-short =
-      rw (node-count t N (g .nodes-long))
+      rw (node-count t N (g .aside .nodes-long))
       (short N (λ b. named-in (g .view .nodes .links b)) (named-in (g .view .nodes .links 0)) (g .view .ends .1))
 
   taken-out-shaped : Shaped N S (takenOut t)
@@ -98,7 +99,7 @@ module _ {N S : ℕ} {t : Tables} (g : Shaped N S t) where
   free-off-list s a e r =
       let on = met (nodeCount t) t (head t) a in
       let small : (b : ℕ) → link t b ≤ N = λ b. named-in (g .view .nodes .links b) in
-      let is-on : on ≡ true = rw (node-count t N (g .nodes-long)) (reach-met t a N small (small 0) r) in
+      let is-on : on ≡ true = rw (node-count t N (g .aside .nodes-long)) (reach-met t a N small (small 0) r) in
       clash on is-on (or-neither on (othersReach t s a) (not-true (on || othersReach t s a) e) .0)
 
   -- the claim is written first, and then the seat reads the head
@@ -106,10 +107,10 @@ module _ {N S : ℕ} {t : Tables} (g : Shaped N S t) where
   unfolding takeNode enterAtHead writeClaim lowestFree
   take-shaped s a c s-in e z p =
       let w = lowest-has (nodeCount t) (free t s) a e z in
-      let l : a ≤ N = rw (node-count t N (g .nodes-long)) at (w .1) in
+      let l : a ≤ N = rw (node-count t N (g .aside .nodes-long)) at (w .1) in
       let put = claim-put g a c z l p (free-off-list s a (w .0)) in
       let there : Named N (claimOf (writeClaim t a c)) a = node (omega arith) l (written t a c z (shaped-room g a l) p .proper) in
-      seat-moves put (enter-stored (writeClaim t a c) s (let h = g .seats-long in omega arith) a)
+      seat-moves put (enter-stored (writeClaim t a c) s (let h = g .aside .seats-long in omega arith) a) (not-idle (omega arith))
       (on-its-way (omega arith) (omega arith) (not-waiting (omega arith) (omega arith)) (omega arith) there (nothing refl) (put .view .nodes .links 0))
 
 fetch-shaped : {N S : ℕ} {t : Tables} {s : ℕ} {c : Claim} {f : Fetched} → Shaped N S t → s < S → Proper c → Fetching t s c f → Shaped N S (f .after)
@@ -122,9 +123,13 @@ fetch-shaped g s-in p (none e e′) = g
 abbrev OnFoot : ℕ → Type 0
 OnFoot P = (P ≡ 1) ⊎ (P ≡ 3)
 
+foot-busy : {P : ℕ} → OnFoot P → P ≢ 0
+foot-busy (inl e) = omega arith
+foot-busy (inr e) = omega arith
+
 module _ {N S : ℕ} {t : Tables} (g : Shaped N S t) (s : ℕ) (s-in : s < S) (busy : phase t s ≢ 0) where
   room : Room t s
-  room = let l = g .seats-long in omega arith
+  room = let l = g .aside .seats-long in omega arith
 
   abbrev shape : SeatShape N (claimOf t) (phase t s) (own t s) (prev t s) (cur t s)
   shape = g .view .seats s
@@ -138,42 +143,42 @@ module _ {N S : ℕ} {t : Tables} (g : Shaped N S t) (s : ℕ) (s-in : s < S) (b
   on-foot : {P Q C : ℕ} → OnFoot P → Named N (claimOf t) Q → Named N (claimOf t) C → SeatShape N (claimOf t) P (own t s) Q C
   on-foot p q c =
       on-its-way
-      (elim p [ inl e ↦ omega arith | inr e ↦ omega arith ])
+      (foot-busy p)
       (elim p [ inl e ↦ omega arith | inr e ↦ omega arith ])
       (not-waiting (elim p [ inl e ↦ omega arith | inr e ↦ omega arith ]) (elim p [ inl e ↦ omega arith | inr e ↦ omega arith ]))
       own-pos (shape .own-named) q c
 
   cur-shaped : OnFoot (phase t s) → (C : ℕ) → Named N (claimOf t) C → Shaped N S (setCur t s C)
-  cur-shaped p C c = seat-moves g (cur-stored t s room C) (on-foot p (shape .prev-named) c)
+  cur-shaped p C c = seat-moves g (cur-stored t s room C) (not-idle busy) (on-foot p (shape .prev-named) c)
 
   place-shaped : OnFoot (phase t s) → (Q C : ℕ) → Named N (claimOf t) Q → Named N (claimOf t) C → Shaped N S (setCur (setPrev t s Q) s C)
-  place-shaped p Q C q c = seat-moves g (place-stored t s room Q C) (on-foot p q c)
+  place-shaped p Q C q c = seat-moves g (place-stored t s room Q C) (not-idle busy) (on-foot p q c)
 
   pass-shaped : OnFoot (phase t s) → Shaped N S (pass t s)
   unfolding pass
   pass-shaped p = place-shaped p (cur t s) (next t (cur t s)) (shape .cur-named) (g .view .nodes .links (cur t s))
 
   wake-shaped : {P : ℕ} → OnFoot P → Shaped N S (setPhase t s P)
-  wake-shaped {P} p = seat-moves g (phase-stored t s room P) (on-foot p (shape .prev-named) (shape .cur-named))
+  wake-shaped {P} p = seat-moves g (phase-stored t s room P) (not-idle (foot-busy p)) (on-foot p (shape .prev-named) (shape .cur-named))
 
   wait-shaped : (P : ℕ) → P ≢ 0 → P ≤ 4 → cur t s ≢ 0 → Shaped N S (setPhase t s P)
   wait-shaped P z l d =
-      seat-moves g (phase-stored t s room P) (on-its-way z l (λ p. omega arith) own-pos (shape .own-named) (shape .prev-named) (shape .cur-named))
+      seat-moves g (phase-stored t s room P) (not-idle z) (on-its-way z l (λ p. omega arith) own-pos (shape .own-named) (shape .prev-named) (shape .cur-named))
 
   hold-shaped : Shaped N S (hold t s)
   unfolding hold
-  hold-shaped = seat-moves g (hold-stored t s room) (resting-seat (inl refl) own-pos (shape .own-named))
+  hold-shaped = seat-moves g (hold-stored t s room) (not-idle (omega arith)) (resting-seat (inl refl) own-pos (shape .own-named))
 
   own-marked : Shaped N S (setMark t (own t s) 1)
   own-marked = claim-marked g (own t s) (let o = own-pos in omega arith) (named-in (shape .own-named)) own-proper
 
   withdraw-shaped : Shaped N S (withdraw t s)
   unfolding withdraw
-  withdraw-shaped = seat-moves own-marked (withdraw-stored t s room) (resting-seat (inr refl) own-pos (own-marked .view .seats s .own-named))
+  withdraw-shaped = seat-moves own-marked (withdraw-stored t s room) (not-idle (omega arith)) (resting-seat (inr refl) own-pos (own-marked .view .seats s .own-named))
 
   leave-shaped : Shaped N S (leave t s)
   unfolding leave
-  leave-shaped = seat-moves own-marked (leave-stored t s room) (idle-seat refl)
+  leave-shaped = seat-moves own-marked (leave-stored t s room) all-zero (idle-seat refl)
 
 module _ {N S : ℕ} {t : Tables} (g : Shaped N S t) (s : ℕ) (s-in : s < S) (busy : phase t s ≢ 0) where
   unlinking-shaped : {u : Tables} → OnFoot (phase t s) → cur t s ≢ 0 → Unlinking t s u → Shaped N S u
@@ -204,8 +209,7 @@ module _ {N S : ℕ} {t : Tables} (g : Shaped N S t) (s : ℕ) (s-in : s < S) (b
   linked-shaped : Ending (link (linkIn t s)) (head (linkIn t s)) → Shaped N S (linkIn t s)
   unfolding linkIn
   linked-shaped e = record {
-    nodes-long = put-link-length (putLink (t .nodes) (own t s) (cur t s)) (prev t s) (own t s) ∙ put-link-length (t .nodes) (own t s) (cur t s) ∙ g .nodes-long;
-    seats-long = g .seats-long;
+    aside = linked-in (g .aside) s;
     view = subst (λ n. SoundView N n (seatsOf t)) (only-links t (linkIn t s) (link-in-words t s))
         (record { nodes = relink-shape (link (linkIn t s)) (g .view .nodes) linked-ways; seats = g .view .seats; ends = e });
   }
@@ -214,11 +218,11 @@ module _ {N S : ℕ} {t : Tables} (g : Shaped N S t) (s : ℕ) (s-in : s < S) (b
   unfolding linkIn
   starting-shaped {u} e (as-reader k) =
       let h = linked-shaped (within-ends u (nodeCount u) (head u) e) in
-      seat-moves h (start-stored t s (room g s s-in busy) 3 (own t s) (next (linkIn t s) (own t s)))
+      seat-moves h (start-stored t s (room g s s-in busy) 3 (own t s) (next (linkIn t s) (own t s))) (not-idle (omega arith))
       (on-foot h s s-in busy (inr refl) (h .view .seats s .own-named) (h .view .nodes .links (own t s)))
   starting-shaped {u} e (as-writer k) =
       let h = linked-shaped (within-ends u (nodeCount u) (head u) e) in
-      seat-moves h (start-stored t s (room g s s-in busy) 3 0 (head (linkIn t s)))
+      seat-moves h (start-stored t s (room g s s-in busy) 3 0 (head (linkIn t s))) (not-idle (omega arith))
       (on-foot h s s-in busy (inr refl) (nothing refl) (h .view .nodes .links 0))
 
   -- "from the head, 0 is met after at most N nodes", asked of a seat that validates

@@ -41,7 +41,7 @@ bounds (asked r request) = bounds r
 
 module _ {N S : ℕ} {t : Tables} (g : Shaped N S t) where
   count : nodeCount t ≡ N
-  count = node-count t N (g .nodes-long)
+  count = node-count t N (g .aside .nodes-long)
 
   names : {a : ℕ} → Named N (claimAt (nodesOf t)) a → Names t a
   names (nothing e) = inl e
@@ -61,7 +61,7 @@ module _ {N S : ℕ} {t : Tables} (g : Shaped N S t) where
   seat-shape : (s : ℕ) → SeatSound t s
   seat-shape s = let h = g .view .seats s in record {
     phase-small = h .is-phase;
-    idle = h .idle;
+    idle = g .aside .seat s .idle;
     owning = λ b. let o = h .owning b in omega arith;
     resting = h .resting;
     waiting = λ p. let c = h .at-cur p in omega arith;
@@ -72,14 +72,14 @@ module _ {N S : ℕ} {t : Tables} (g : Shaped N S t) where
 
   pub shaped-sound : Bounds N S → Sound t
   shaped-sound b =
-      let seats = seat-count t S (g .seats-long) in
+      let seats = seat-count t S (g .aside .seats-long) in
       let ends = g .view .ends in
       let few = short N (λ a. named-in (g .view .nodes .links a)) (named-in (g .view .nodes .links 0)) (ends .1) in
       record {
-        nodes-length = rw count (g .nodes-long);
+        nodes-length = rw count (g .aside .nodes-long);
         some-nodes = rw count (b .some-nodes);
         few-nodes = rw count (b .few-nodes);
-        seats-length = rw seats (g .seats-long);
+        seats-length = rw seats (g .aside .seats-long);
         some-seats = rw seats (b .some-seats);
         few-seats = rw seats (b .few-seats);
         node = λ a z l. node-shape a z;
@@ -90,8 +90,7 @@ module _ {N S : ℕ} {t : Tables} (g : Shaped N S t) where
 
 pub good-sound : {N S : ℕ} {t : Tables} → Good N S t → Bounds N S → Sound t
 good-sound g = shaped-sound (record {
-  nodes-long = g .nodes-long;
-  seats-long = g .seats-long;
+  aside = g .aside;
   view = record { nodes = g .inv .nodes; seats = g .inv .seats; ends = known-ends (g .inv) known-head };
 })
 

@@ -10,13 +10,13 @@ use native.Mathlib.Decide.{decLt}
 use lib.ListN.{length}
 use borrow.Author.Tests.{eqb-true}
 use Rattle.rules.specs.Notation.{_is_}
-use Rattle.rules.specs.Tables.{Tables, tables, beforeNodes, nodeWidth, seatWidth, nodeCount, seatCount, startAt, endAt, kindAt, markAt, phaseAt, ownAt, prevAt, curAt, mark, link, next, head, setLink, setMark}
+use Rattle.rules.specs.Tables.{Tables, tables, beforeNodes, nodeWidth, nodeCount, seatCount, startAt, endAt, kindAt, markAt, phaseAt, ownAt, prevAt, curAt, mark, link, next, head, setLink, setMark}
 use Rattle.rules.specs.Comparison.{Claim, claimOf}
 use Rattle.rules.specs.Shape.{endsWithin}
 use Rattle.rules.specs.Fetch.{writeClaim}
 use Rattle.rules.proofs.Ground.Logic.{or-case}
 use Rattle.rules.proofs.Ground.Deciding.{if-same}
-use Rattle.rules.proofs.Laws.Words.{link-put-same, link-put-other, link-put-field, node-put-link, node-put-same, node-put-field, node-put-node, put-link-length, put-node-length, node-zero, node-past, link-past}
+use Rattle.rules.proofs.Laws.Words.{link-put-same, link-put-other, link-put-field, node-put-link, node-put-same, node-put-field, node-put-node, node-zero, node-past, link-past}
 use Rattle.rules.proofs.Laws.Shape.{Names, ClaimNode, Sound}
 use Rattle.rules.proofs.Ground.Following.{stop, more, ends-tail, unlink-keeps-ends, away-keeps-ends}
 use Rattle.rules.proofs.Invariant.View.{Nodes, Seats, nodesOf, seatsOf, claimAt, relink, remark, Reseated}
@@ -26,7 +26,9 @@ use Rattle.rules.proofs.Invariant.Unlink.{relink-shape}
 use Rattle.rules.proofs.Invariant.Leave.{remark-shape}
 use Rattle.rules.proofs.Invariant.Take.{Written, written-shape, seat-same}
 use Rattle.rules.proofs.Rules.Effects.{Seated, reseated, only-links, only-marks}
-use Rattle.rules.proofs.Keeping.FetchKeeps.{claim-written, written}
+use Rattle.rules.proofs.Keeping.Aside as aside
+use Rattle.rules.proofs.Keeping.Aside.{SeatAside, Aside}
+use Rattle.rules.proofs.Keeping.FetchKeeps.{written}
 
 pub record SoundView (N : ℕ) (n : Nodes) (s : Seats) : Type 0 where
   pub nodes : NodeShape N n
@@ -83,19 +85,17 @@ module _ {N : ℕ} {n : Nodes} {s : Seats} (v : SoundView N n s) where
 
 -- ---- over the tables
 pub record Shaped (N S : ℕ) (t : Tables) : Type 0 where
-  pub nodes-long : length (t .nodes) ≡ beforeNodes + nodeWidth * N
-  pub seats-long : length (t .seats) ≡ seatWidth * S
+  pub aside : Aside N S t
   pub view : SoundView N (nodesOf t) (seatsOf t)
 
 pub shaped-room : {N S : ℕ} {t : Tables} → Shaped N S t → (a : ℕ) → a ≤ N → beforeNodes + nodeWidth * a ≤ length (t .nodes)
-shaped-room g a h = let l = g .nodes-long in omega arith
+shaped-room g a h = let l = g .aside .nodes-long in omega arith
 
 module _ {N S : ℕ} {t : Tables} (g : Shaped N S t) where
-  pub seat-moves : {s : ℕ} {words : ℕ → ℕ} {seats : List ℕ} → Seated (t .seats) seats s words
+  pub seat-moves : {s : ℕ} {words : ℕ → ℕ} {seats : List ℕ} → Seated (t .seats) seats s words → SeatAside words
       → SeatShape N (claimOf t) (words phaseAt) (words ownAt) (words prevAt) (words curAt) → Shaped N S (tables (t .nodes) seats)
-  seat-moves {seats = seats} w h = record {
-    nodes-long = g .nodes-long;
-    seats-long = w .long ∙ g .seats-long;
+  seat-moves {seats = seats} w k h = record {
+    aside = aside.seat-put (g .aside) w k;
     view = reseat-keeps-shape (g .view) (reseated t (tables (t .nodes) seats) w) h;
   }
 
@@ -104,8 +104,7 @@ module _ {N S : ℕ} {t : Tables} (g : Shaped N S t) where
       let l = t .nodes in
       let v = next t out in
       record {
-        nodes-long = put-link-length l p v ∙ g .nodes-long;
-        seats-long = g .seats-long;
+        aside = aside.link-put (g .aside) p v;
         view = subst (λ n. SoundView N n (seatsOf t)) (only-links t (setLink t p v) (λ a f h d. node-put-link l p a f v h d))
             (pass-over-keeps-shape (g .view) (link (setLink t p v)) p out p-in (omega arith) joins (link-put-same l p v (shaped-room g p p-in))
             (λ a d. link-put-other l p a v (λ e. d (sym e))));
@@ -115,8 +114,7 @@ module _ {N S : ℕ} {t : Tables} (g : Shaped N S t) where
   claim-marked o d o-in c =
       let l = t .nodes in
       record {
-        nodes-long = put-node-length l o markAt 1 ∙ g .nodes-long;
-        seats-long = g .seats-long;
+        aside = aside.word-put (g .aside) markAt o 1;
         view = subst (λ n. SoundView N n (seatsOf t))
             (only-marks t (setMark t o 1) (λ a f b d. node-put-field l o a markAt f 1 (omega arith) b (λ e. d (sym e)))
             (λ a. link-put-field l o a markAt 1 (omega arith) (omega arith)))
@@ -129,8 +127,7 @@ module _ {N S : ℕ} {t : Tables} (g : Shaped N S t) where
   claim-put a c d a-in p off =
       let room = shaped-room g a a-in in
       record {
-        nodes-long = claim-written t a c d room .long ∙ g .nodes-long;
-        seats-long = g .seats-long;
+        aside = aside.claim-put (g .aside) a c;
         view = write-keeps-shape (g .view) a (written t a c d room p) (omega arith) off;
       }
 
@@ -186,8 +183,7 @@ module _ {t : Tables} (w : Sound t) where
 
   pub sound-shaped : Shaped (nodeCount t) (seatCount t) t
   sound-shaped = record {
-    nodes-long = w .nodes-length;
-    seats-long = w .seats-length;
+    aside = record { nodes-long = w .nodes-length; seats-long = w .seats-length; seat = λ s. record { idle = w .seat s .idle } };
     view = record {
       nodes = record {
         head-unmarked = node-zero (t .nodes) markAt;
@@ -197,7 +193,6 @@ module _ {t : Tables} (w : Sound t) where
       };
       seats = λ s. let h = w .seat s in record {
         is-phase = h .phase-small;
-        idle = h .idle;
         owning = λ b. let o = h .owning b in omega arith;
         resting = h .resting;
         at-cur = λ p. let c = h .waiting p in omega arith;

@@ -35,7 +35,7 @@ pub data AtRest (s : ℕ) (t : Tables) : Type 0 where
 -- ---- a step, by the phase: whatever holds of each outcome of the rule, with its reason, holds after the step
 module _ {N S : ℕ} (b : Bounds N S) (s : ℕ) (s-in : s < S) {t : Tables} (g : Good N S t) where
   pub accepted : phase t s ≢ 0 → step t s ≡ stepByPhase t s
-  accepted d = step-is t s (sound-is t (good-sound g b)) (rw (seat-count t S (g .seats-long)) s-in) d
+  accepted d = step-is t s (sound-is t (good-sound g b)) (rw (seat-count t S (g .aside .seats-long)) s-in) d
 
   module _ (P : Tables → Type 0) where
     pub after-1 : phase t s ≡ 1 → ((u : Tables) → Walking t s u → Good N S u → P u) → P (step t s .after)

@@ -98,7 +98,7 @@ module _ {N S : ℕ} (b : Bounds N S) (s : ℕ) (s-in : s < S) {t : Tables} (g :
         let o = g .inv .owner on m in
         record {
           seat = o .seat;
-          is-seat = rw (seat-count t S (g .seats-long)) (busy-in g (o .seat) (linked-busy (o .linked)));
+          is-seat = rw (seat-count t S (g .aside .seats-long)) (busy-in g (o .seat) (linked-busy (o .linked)));
           other = λ e. d (ap (own t) (sym e) ∙ o .owns);
           theirs = o .owns;
           linked-in = linked-in (o .linked);

@@ -10,11 +10,8 @@ seat-word-requires c κs = search needs
 put-node-requires : tie.Need-put-node-requires
 put-node-requires c κs = search needs
 
-move-to-requires : tie.Need-move-to-requires
-move-to-requires c κs = search needs
-
-put-seat-requires : tie.Need-put-seat-requires
-put-seat-requires c κs = search needs
+clear-seat-requires : tie.Need-clear-seat-requires
+clear-seat-requires c κs = search needs
 
 same-length : tie.Need-same-length
 same-length c = search needs
@@ -32,8 +29,7 @@ leave-spec =
     (tie.spec
     seat-word-requires
     put-node-requires
-    move-to-requires
-    put-seat-requires
+    clear-seat-requires
     same-length
     same-length-2
     returns)

@@ -2,12 +2,12 @@
 use Prim.Native.Nat.{ℕ, zero, suc, _+_, _≤_, _<_}
 use mathlib.Core.Path.{_≡_, refl, sym, ap, _∙_}
 use mathlib.Core.Bool.{Bool, true, false, _&&_}
-use mathlib.Core.Logic.{⊎-elim}
+use mathlib.Core.Logic.{_≢_, ⊎-elim}
 use native.Mathlib.Omega.{arith}
 use native.Mathlib.Nat.{eq-or-lt-of-le, add-zero, add-suc}
 use borrow.Author.Tests.{ne-eqb, lt-ltb, le-ltb}
 use Rattle.rules.specs.Notation.{if_then_else_, _is_, _<?_, count, lowest}
-use Rattle.rules.proofs.Ground.Logic.{either}
+use Rattle.rules.proofs.Ground.Logic.{either, branch}
 
 -- ---- count
 pub count-none : (p : ℕ → Bool) → count 0 p ≡ 0
@@ -95,6 +95,17 @@ count-full (suc n) p j f h =
     (either (p n))
 
 -- ---- lowest
+pub lowest-has : (n : ℕ) (p : ℕ → Bool) (a : ℕ) → lowest n p ≡ a → a ≢ 0 → (p a ≡ true) × (a ≤ n)
+unfolding lowest
+lowest-has zero p a e z = absurd (z (sym e))
+lowest-has (suc n) p a e z =
+    branch (λ (x : ℕ). x ≡ a → (p a ≡ true) × (a ≤ suc n)) (lowest n p is 0)
+    (λ h. branch (λ (x : ℕ). x ≡ a → (p a ≡ true) × (a ≤ suc n)) (p (suc n))
+    (λ q y. (ap p (sym y) ∙ q, omega arith))
+    (λ q y. absurd (z (sym y))))
+    (λ h y. let w = lowest-has n p a y z in (w .0, (let k = w .1 in omega arith)))
+    e
+
 pub lowest-none : (n : ℕ) (p : ℕ → Bool) → ((m : ℕ) → m < n → p (suc m) ≡ false) → lowest n p ≡ 0
 unfolding lowest
 lowest-none zero p h = refl

@@ -1,0 +1,55 @@
+-- `words::clear_seat` meets its promise.
+use lib.ListN.{length}
+use Prim.Native.Nat.{_-_, _≤_}
+use mathlib.Core.Path.{_≡_, refl}
+use native.Mathlib.Omega.{arith}
+use borrow.Author.Needs.{needs}
+use Rattle.rules.specs.Tables.{seatWidth, clearWords}
+use Rattle.words.proofs.Places.{clear-none, clear-more, clear-all}
+use Rattle.words.proofs.clear_seat.Statement.{statement}
+use Rattle.words.proofs.clear_seat.Tie as tie
+
+abbrev Inv-loop : tie.InvT-loop
+Inv-loop seats₀ s field₀ seats field = (field ≤ seatWidth) × (length seats ≡ length seats₀) × (seats ≡ clearWords field seats₀ s)
+
+abbrev μ-loop : tie.MeasureT-loop
+μ-loop seats₀ s field₀ seats field = seatWidth - field
+
+loop-holds : tie.Need-loop-holds Inv-loop μ-loop
+loop-holds c = (omega arith, refl, clear-none _ _)
+
+cast-loop : tie.Need-cast-loop Inv-loop μ-loop
+cast-loop c = search needs
+
+put-seat-requires : tie.Need-put-seat-requires Inv-loop μ-loop
+put-seat-requires c κs = search needs
+
+add-field : tie.Need-add-field Inv-loop μ-loop
+add-field c = omega arith
+
+loop-less : tie.Need-loop-less Inv-loop μ-loop
+loop-less c = omega arith
+
+loop-again : tie.Need-loop-again Inv-loop μ-loop
+loop-again c = (omega arith, search needs, search clear-more)
+
+same-length : tie.Need-same-length Inv-loop μ-loop
+same-length c = search needs
+
+returns : tie.Need-returns Inv-loop μ-loop
+returns c = search clear-all
+
+pub clear-seat-spec : {M : Type 1} → statement M
+clear-seat-spec =
+    tie.close
+    (tie.spec
+    Inv-loop
+    μ-loop
+    loop-holds
+    cast-loop
+    put-seat-requires
+    add-field
+    loop-less
+    loop-again
+    same-length
+    returns)
