@@ -17,18 +17,8 @@ use Rattle.rules.specs.declared.Row.{Row}
 use Rattle.holders.specs.Holding.{holding}
 use Rattle.holders.proofs.Rows.{rows-more, rows-same, rows-upto, rows-at-most, rows-counted}
 use Rattle.rules.proofs.Laws.Shape.{seats-few}
+use Rattle.rules.proofs.Laws.BoardNumbers.{numbers-append, numbers-length}
 use Rattle.board.specs.Filling.{putRow, Filled, filled, fillSeat, fillBelow, showHolders}
-
--- ---- one row more, in numbers
-numbers-more : (rows : List Row) (row : Row) → numbersOf (rows ++ (row ∷ [])) ≡ numbersOf rows ++ (row .seat ∷ row .first ∷ row .end ∷ row .kind ∷ [])
-unfolding numbersOf
-numbers-more [] row = refl
-numbers-more (r ∷ rows) row = ap (λ (l : List ℕ). r .seat ∷ r .first ∷ r .end ∷ r .kind ∷ l) (numbers-more rows row)
-
-numbers-length : (rows : List Row) → length (numbersOf rows) ≡ rowWidth * length rows
-unfolding numbersOf
-numbers-length [] = refl
-numbers-length (r ∷ rows) = let h = numbers-length rows in omega arith
 
 -- ---- a store behind what is written
 set-behind : (x l : List ℕ) (k v : ℕ) → set (x ++ l) (length x + k) v ≡ x ++ set l k v
@@ -102,7 +92,7 @@ fill-fits t lent out s n r h l = let k = rows-upto t (s + 1) n (omega arith) in 
 
 pub fill-again : (t : Tables) (lent out out′ : List ℕ) (s n rows rows′ : ℕ) → filled rows′ out′ ≡ fillSeat t s (filled rows out) → filled rows out ≡ fillBelow s t lent
     → rowWidth * length (rowsBelow n t) ≤ length lent → s < n → filled rows′ out′ ≡ fillBelow (s + 1) t lent
-unfolding fillSeat fillBelow
+unfolding fillSeat fillBelow numbersOf
 fill-again t lent out out′ s n rows rows′ e sofar r h = e ∙ ap (fillSeat t s) sofar ∙ by (phase t s is 5) refl
   where
     by : (b : Bool) → (phase t s is 5) ≡ b → fillSeat t s (fillBelow s t lent) ≡ fillBelow (s + 1) t lent
@@ -115,7 +105,7 @@ fill-again t lent out out′ s n rows rows′ e sofar r h = e ∙ ap (fillSeat t
         let fits = rows-upto t (s + 1) n (omega arith) in
         let z : rowWidth * length (rowsBelow s t) + 4 ≡ rowWidth * length (rowsBelow s t ++ (rowOf t s ∷ [])) = omega arith in
         let one : length (rowsBelow s t) + 1 ≡ length (rowsBelow s t ++ (rowOf t s ∷ [])) = omega arith in
-        rw (q, more, numbers-more (rowsBelow s t) (rowOf t s), ← z, ← one, put-row-behind (numbersOf (rowsBelow s t)) lent (rowWidth * length (rowsBelow s t)) (rowOf t s) m (omega arith))
+        rw (q, more, numbers-append (rowsBelow s t) (rowOf t s ∷ []), ← z, ← one, put-row-behind (numbersOf (rowsBelow s t)) lent (rowWidth * length (rowsBelow s t)) (rowOf t s) m (omega arith))
     by false q = rw (q, rows-same t s (phase t s) refl (eqb-false (phase t s) 5 q))
 
 -- ---- room for every row

@@ -1,28 +1,27 @@
 -- The public calls as one law for each way through the code: n and t are the tables before, n′ and t′ after.
-use Prim.Native.Nat.{ℕ, zero, suc, _+_, _*_, _≤_, _<_}
+use Prim.Native.Nat.{ℕ, suc, _+_, _≤_, _<_}
 use mathlib.Core.Path.{_≡_, refl, sym, ap, _∙_}
-use mathlib.Core.Bool.{Bool, true, false, not}
+use mathlib.Core.Bool.{Bool, true, false}
 use mathlib.Core.List.{List, [], _∷_}
-use mathlib.Core.Logic.{_≢_, _⊎_, inl, inr, ⊎-elim}
+use mathlib.Core.Logic.{_≢_, _⊎_, ⊎-elim}
 use native.Mathlib.Omega.{arith}
 use native.Mathlib.Nat.{eq-or-lt-of-le}
-use lib.ListN.{length, getD, set, replicate}
+use lib.ListN.{length, getD, set}
 use lib.Seq.{getD-set-same, getD-set-other}
 use borrow.Author.Tests.{eq-eqb, ne-eqb, le-leb, lt-leb}
 use Rattle.rules.specs.Notation.{_is_}
-use Rattle.rules.specs.Tables.{Tables, tables, zeros, fresh, nodeWord, seatWord, nodeCountOf, seatCountOf, phaseAt, ownAt, startAt, endAt, kindAt}
-use Rattle.rules.specs.Comparison.{Claim, claim, claimOf}
+use Rattle.rules.specs.Tables.{tables, zeros, fresh, seatWord, seatCountOf, phaseAt}
+use Rattle.rules.specs.Comparison.{claim}
 use Rattle.rules.specs.Shape.{lengthsFit, sound, isKind}
 use Rattle.rules.specs.Reach.{countFree}
-use Rattle.rules.specs.Fetch.{Fetched, fetched, fetch}
-use Rattle.rules.specs.Answers.{Answer, node, out, on, held, refused, Done, done, answerOf, answered}
-use Rattle.rules.specs.Steps.{leave, walking, waitingToEnter, validating, readerWaiting, refetched, withdrawn, stepByPhase}
+use Rattle.rules.specs.Fetch.{fetched, fetch}
+use Rattle.rules.specs.Answers.{Answer, node, out, refused, done}
+use Rattle.rules.specs.Steps.{leave}
 use Rattle.rules.specs.Calls.{clear, begun, begin, step, release}
 use Rattle.rules.specs.FreeCount.{Counted, freeCount}
-use Rattle.rules.proofs.Laws.Shape.{lengths-fit, is-sound}
-use Rattle.rules.proofs.Laws.Refused.{fetch-none}
-use Rattle.steps.proofs.Arms.{answered-is}
-use Rattle.claims.specs.Parts.{beginFetching, beginClaim, stepBusy, releaseSeat}
+use Rattle.rules.proofs.Laws.Shape.{lengths-fit}
+use Rattle.fetch.proofs.Ways.{none-kept}
+use Rattle.claims.specs.Parts.{beginFetching, beginClaim, releaseSeat}
 
 -- ---- zeros
 pub record ZeroBelow (l : List ℕ) (i : ℕ) : Type 0 where
@@ -61,30 +60,13 @@ module _ (n t : List ℕ) (b : Bool) (fits : b ≡ lengthsFit (tables n t)) wher
 
 -- ---- fetch's answer
 module _ (n t n′ t′ : List ℕ) (s x y k a : ℕ) (isFetched : fetched a (tables n′ t′) ≡ fetch (tables n t) s (claim x y k)) where
-  as-found : a ≡ 0 → tables n′ t′ ≡ tables n t
-  as-found e =
-      let z : fetch (tables n t) s (claim x y k) .node ≡ 0 = sym (ap (λ (f : Fetched). f .node) isFetched) ∙ e in
-      ap (λ (f : Fetched). f .after) isFetched ∙ fetch-none (tables n t) s (claim x y k) z
-
   pub begin-none : a ≡ 0 → done (refused 8) (tables n′ t′) ≡ beginFetching (tables n t) s (claim x y k)
   unfolding begun
-  begin-none e = rw (as-found e, ← isFetched, e)
+  begin-none e = rw (none-kept n t n′ t′ s a (claim x y k) isFetched e, ← isFetched, e)
 
   pub begin-node : a ≢ 0 → done (node a) (tables n′ t′) ≡ beginFetching (tables n t) s (claim x y k)
   unfolding begun
   begin-node d = rw (← isFetched, ne-eqb a 0 d)
-
-  module _ (o : ℕ) (isKind′ : k ≡ nodeWord n o kindAt) (isEnd : y ≡ nodeWord n o endAt) (isStart : x ≡ nodeWord n o startAt) (isOwn : o ≡ seatWord t s ownAt) where
-    same-claim : claim x y k ≡ claimOf (tables n t) (seatWord t s ownAt)
-    same-claim = rw (isStart, isEnd, isKind′, isOwn)
-
-    pub refetch-none : a ≡ 0 → done (refused 8) (tables n′ t′) ≡ withdrawn (tables n t) s
-    unfolding withdrawn refetched
-    refetch-none e = rw (as-found e, ← same-claim, ← isFetched, e)
-
-    pub refetch-node : (r : Answer) → r ≡ answerOf (tables [] t′) s → a ≢ 0 → done r (tables n′ t′) ≡ withdrawn (tables n t) s
-    unfolding withdrawn refetched
-    refetch-node r p d = rw (← same-claim, ← isFetched, ne-eqb a 0 d) (answered-is n′ t′ (tables n′ t′) s r p refl)
 
 -- ---- begin, past 2
 module _ (n t : List ℕ) (s x y k : ℕ) where
@@ -101,51 +83,6 @@ module _ (n t : List ℕ) (s x y k : ℕ) where
 
       pub begin-idle : (n′ t′ : List ℕ) (r : Answer) → done r (tables n′ t′) ≡ beginFetching (tables n t) s (claim x y k) → p ≡ 0 → b ≡ true → done r (tables n′ t′) ≡ beginClaim (tables n t) s (claim x y k)
       begin-idle n′ t′ r w q e = rw (lt-leb y x some, sym isKindOf ∙ e, eq-eqb (seatWord t s phaseAt) 0 (sym isPhase ∙ q)) w
-
--- ---- step, past 2: by the phase
-no-more : (p : ℕ) → p ≤ 6 → p ≢ 0 → p ≢ 1 → p ≢ 2 → p ≢ 3 → p ≢ 4 → p ≢ 5 → p ≢ 6 → ⊥
-no-more zero h d0 d1 d2 d3 d4 d5 d6 = d0 refl
-no-more (suc zero) h d0 d1 d2 d3 d4 d5 d6 = d1 refl
-no-more (suc (suc zero)) h d0 d1 d2 d3 d4 d5 d6 = d2 refl
-no-more (suc (suc (suc zero))) h d0 d1 d2 d3 d4 d5 d6 = d3 refl
-no-more (suc (suc (suc (suc zero)))) h d0 d1 d2 d3 d4 d5 d6 = d4 refl
-no-more (suc (suc (suc (suc (suc zero))))) h d0 d1 d2 d3 d4 d5 d6 = d5 refl
-no-more (suc (suc (suc (suc (suc (suc zero)))))) h d0 d1 d2 d3 d4 d5 d6 = d6 refl
-no-more (suc (suc (suc (suc (suc (suc (suc k))))))) h _ _ _ _ _ _ _ = omega arith
-
-module _ (n t : List ℕ) (s p : ℕ) (isPhase : p ≡ seatWord t s phaseAt) where
-  pub step-idle : p ≡ 0 → done (refused 6) (tables n t) ≡ stepBusy (tables n t) s
-  step-idle e = rw (sym isPhase ∙ e)
-
-  pub step-five : p ≡ 5 → done held (tables n t) ≡ stepBusy (tables n t) s
-  unfolding stepByPhase answerOf
-  step-five e = rw (sym isPhase ∙ e)
-
-  -- no other phase is sound
-  pub step-none : sound (tables n t) ≡ true → p ≢ 0 → p ≢ 1 → p ≢ 2 → p ≢ 3 → p ≢ 4 → p ≢ 5 → p ≢ 6 → done (refused 1) (tables n t) ≡ stepBusy (tables n t) s
-  step-none z d0 d1 d2 d3 d4 d5 d6 = absurd (no-more p (rw isPhase (is-sound (tables n t) z .seat s .phase-small)) d0 d1 d2 d3 d4 d5 d6)
-
-  module _ (t′ : List ℕ) (r : Answer) where
-    pub step-two : done r (tables n t′) ≡ answered (waitingToEnter (tables n t) s) s → p ≡ 2 → done r (tables n t′) ≡ stepBusy (tables n t) s
-    unfolding stepByPhase
-    step-two w e = rw (sym isPhase ∙ e) w
-
-    pub step-four : done r (tables n t′) ≡ answered (readerWaiting (tables n t) s) s → p ≡ 4 → done r (tables n t′) ≡ stepBusy (tables n t) s
-    unfolding stepByPhase
-    step-four w e = rw (sym isPhase ∙ e) w
-
-    module _ (n′ : List ℕ) where
-      pub step-one : done r (tables n′ t′) ≡ answered (walking (tables n t) s) s → p ≡ 1 → done r (tables n′ t′) ≡ stepBusy (tables n t) s
-      unfolding stepByPhase
-      step-one w e = rw (sym isPhase ∙ e) w
-
-      pub step-three : done r (tables n′ t′) ≡ answered (validating (tables n t) s) s → p ≡ 3 → done r (tables n′ t′) ≡ stepBusy (tables n t) s
-      unfolding stepByPhase
-      step-three w e = rw (sym isPhase ∙ e) w
-
-      pub step-six : done r (tables n′ t′) ≡ withdrawn (tables n t) s → p ≡ 6 → done r (tables n′ t′) ≡ stepBusy (tables n t) s
-      unfolding stepByPhase
-      step-six w e = rw (sym isPhase ∙ e) w
 
 -- ---- release, past 2
 module _ (n t : List ℕ) (s p : ℕ) (isPhase : p ≡ seatWord t s phaseAt) where
@@ -193,12 +130,3 @@ module _ (n t : List ℕ) (s : ℕ) where
     pub count-sound : (k : ℕ) → k ≡ countFree (tables n t) → b ≡ true → Counted.counted k ≡ freeCount (tables n t)
     unfolding freeCount
     count-sound k p e = rw (sym isSound ∙ e, p)
-
-  module _ (c : ℕ) (isCount : c ≡ seatCountOf t) (isSound : sound (tables n t) ≡ true) where
-    pub step-past : c ≤ s → done (refused 2) (tables n t) ≡ step (tables n t) s
-    unfolding step
-    step-past h = rw (isSound, ← isCount, le-leb c s h)
-
-    pub step-seat : (n′ t′ : List ℕ) (r : Answer) → done r (tables n′ t′) ≡ stepBusy (tables n t) s → s < c → done r (tables n′ t′) ≡ step (tables n t) s
-    unfolding step
-    step-seat n′ t′ r w h = rw (isSound, ← isCount, lt-leb c s h) w

@@ -8,7 +8,7 @@ use Rattle.rules.specs.Comparison.{Claim}
 use Rattle.rules.specs.Shape.{isKind}
 use Rattle.rules.specs.Fetch.{fetch}
 use Rattle.rules.specs.Answers.{Answer, out, refused, Done, done, _when_, refusing}
-use Rattle.rules.specs.Steps.{leave, stepByPhase}
+use Rattle.rules.specs.Steps.{leave}
 use Rattle.rules.specs.Calls.{begun}
 
 -- of begin, past 5 and past 2
@@ -18,10 +18,6 @@ beginFetching t s c = begun t (fetch t s c)
 abbrev pub beginClaim : Tables → ℕ → Claim → Done Answer
 beginClaim t s c =
     refusing refused ((3 when c .end ≤? c .start) ∷ (4 when not (isKind (c .kind))) ∷ (5 when not (phase t s is 0)) ∷ []) t (beginFetching t s c)
-
--- of step, past 2
-abbrev pub stepBusy : Tables → ℕ → Done Answer
-stepBusy t s = refusing refused ((6 when phase t s is 0) ∷ []) t (stepByPhase t s)
 
 -- of release, past 2
 abbrev pub releaseSeat : Tables → ℕ → Done Answer

@@ -11,9 +11,10 @@ use Rattle.rules.specs.Tables.{Tables, tables, markAt, nodeWord, linkWord, putL
 use Rattle.rules.specs.Comparison.{Claim}
 use Rattle.rules.specs.Shape.{endsWithin, sound}
 use Rattle.rules.specs.Reach.{free, lowestFree, countFree}
-use Rattle.rules.specs.Fetch.{takenOut, writeClaim, enterAtHead, takeNode, fetched, fetchAgain, fetch}
+use Rattle.rules.specs.Fetch.{takenOut, writeClaim, enterAtHead, takeNode, Fetched, fetched, fetchAgain, fetch}
 use Rattle.rules.proofs.Ground.Counting.{count-cut}
 use Rattle.rules.proofs.Laws.Shape.{is-sound}
+use Rattle.rules.proofs.Laws.Refused.{fetch-none}
 use Rattle.nodesets.specs.Set.{has, members}
 use Rattle.reach.specs.FreeSet.{IsFreeSet}
 use Rattle.reach.proofs.TakingOut.{Going, going-end, going-left, going-skip, going-keep}
@@ -68,3 +69,7 @@ module _ (nodes seats nodes′ seats′ : List ℕ) (s a : ℕ) (c : Claim) wher
   pub fetch-tried-again : (b : ℕ) → fetched a (tables nodes′ seats′) ≡ fetchAgain (tables nodes seats) s c → b ≡ lowestFree (tables nodes seats) s → b ≡ 0 → fetched a (tables nodes′ seats′) ≡ fetch (tables nodes seats) s c
   unfolding fetch
   fetch-tried-again b w p z = rw (eq-eqb (lowestFree (tables nodes seats) s) 0 (sym p ∙ z)) w
+
+  -- what a caller knows where none is free
+  pub none-kept : fetched a (tables nodes′ seats′) ≡ fetch (tables nodes seats) s c → a ≡ 0 → tables nodes′ seats′ ≡ tables nodes seats
+  none-kept p z = ap (λ (f : Fetched). f .after) p ∙ fetch-none (tables nodes seats) s c (sym (ap (λ (f : Fetched). f .node) p) ∙ z)

@@ -1,50 +1,48 @@
 -- What the answer and the rows come to: one law for each way through the code, and that the rows written from the last holder's to the
 -- first are the board.
-use Prim.Native.Nat.{ℕ, zero, suc, _+_, _-_, _/_, _≤_, _<_}
+use Prim.Native.Nat.{ℕ, zero, suc, _+_, _-_, _≤_, _<_}
 use mathlib.Core.Path.{_≡_, refl, sym, ap, _∙_}
-use mathlib.Core.Bool.{Bool, true, false, not}
+use mathlib.Core.Bool.{Bool, true, false}
 use mathlib.Core.Logic.{_≢_}
 use mathlib.Core.List.{List, [], _∷_, _++_, append-assoc}
 use native.Mathlib.Omega.{arith}
 use lib.Dec.{eqb, ltb}
 use lib.ListN.{length, drop, set, length-set, length-append}
 use lib.Seq.{drop-cons, drop-set-lt, getD-set-same}
-use borrow.Author.Tests.{ne-eqb, lt-ltb, le-ltb, ltb-false}
+use borrow.Author.Tests.{ne-eqb, eqb-true, lt-ltb, le-ltb, ltb-false}
 use Rattle.rules.specs.Notation.{if_then_else_}
-use Rattle.rules.specs.Tables.{Tables, tables, seatWord, nodeWord, seatCount, phaseAt, ownAt, startAt, endAt, kindAt}
+use Rattle.rules.specs.Tables.{Tables, tables, seatWord, seatCount, seatCountOf, phaseAt}
 use Rattle.rules.specs.Shape.{sound}
-use Rattle.rules.specs.Board.{rowWidth, rowOf, rowsBelow, holders, coveredBy, Boarded, Shown, shown, board, boardNumbers}
+use Rattle.rules.specs.Board.{rowOf, rowsBelow, holders, coveredBy, Boarded, shown, board}
+use Rattle.rules.specs.Apart.{Holds}
 use Rattle.rules.specs.Means.{meansBoard}
 use Rattle.rules.specs.declared.Row.{Row}
 use Rattle.rules.specs.declared.BoardReply.{BoardReply}
 use Rattle.rules.specs.declared.BoardReply.the-variants.{Rows, Refused}
 use Rattle.rules.proofs.Laws.Shape.{is-sound}
 use Rattle.rules.proofs.Laws.Words.{seat-past}
-use Rattle.holders.proofs.Owned.{few-holders, row-is}
-use Rattle.rows.specs.Filling.{narrow, answerFor, rowsIn, lastBelow, lastRow, fillDown}
+use Rattle.holders.specs.Holding.{holding}
+use Rattle.holders.proofs.Rows.{rows-counted}
+use Rattle.rows.specs.Filling.{answerFor, rowsIn, lastBelow, lastRow, fillDown}
 
 -- ---- the answer
-pub narrow-short : (r : BoardReply) (room rows covered : ℕ) → r ≡ Rows rows covered → room < rows → Boarded.refused 9 ≡ narrow room (meansBoard r)
-unfolding narrow
-narrow-short r room rows covered e h = rw (e, lt-ltb room rows h)
+module _ (n t : List ℕ) (room : ℕ) where
+  module _ (c k : ℕ) (isHolding : k ≡ holding t c) (isCount : c ≡ seatCountOf t) (isSound : sound (tables n t) ≡ true) where
+    holders-counted : length (holders (tables n t)) ≡ k
+    unfolding holders
+    holders-counted = rows-counted (tables n t) (seatCountOf t) ∙ rw (isHolding, isCount)
 
-pub narrow-long : (r : BoardReply) (room rows covered : ℕ) → r ≡ Rows rows covered → rows ≤ room → Boarded.filled rows covered ≡ narrow room (meansBoard r)
-unfolding narrow
-narrow-long r room rows covered e h = rw (e, le-ltb room rows h)
+    pub answer-short : room < k → Boarded.refused 9 ≡ answerFor (tables n t) room
+    unfolding answerFor
+    answer-short h = rw (isSound, holders-counted, lt-ltb room k h)
 
-pub narrow-refused : (r : BoardReply) (room number : ℕ) → r ≡ Refused number → Boarded.refused number ≡ narrow room (meansBoard r)
-unfolding narrow
-narrow-refused r room number e = rw e
+    pub answer-filled : (v : ℕ) → v ≡ coveredBy (holders (tables n t)) → k ≤ room → Boarded.filled k v ≡ answerFor (tables n t) room
+    unfolding answerFor
+    answer-filled v e h = rw (isSound, e, holders-counted, le-ltb room k h)
 
--- the board of numbers with room for every seat's row answers as the board of rows, but for refusal 9
-pub answer-is : (n t l l′ : List ℕ) (room : ℕ) (r r′ : BoardReply) → meansBoard r′ ≡ narrow room (meansBoard r) → shown (meansBoard r) l′ ≡ boardNumbers (tables n t) l → length l ≡ 256
-    → meansBoard r′ ≡ answerFor (tables n t) room
-unfolding narrow answerFor boardNumbers
-answer-is n t l l′ room r r′ e f h = e ∙ ap (narrow room) (ap (λ (x : Shown ℕ). x .answer) f) ∙ go (sound (tables n t)) refl
-  where
-    go : (b : Bool) → sound (tables n t) ≡ b → narrow room (boardNumbers (tables n t) l .answer) ≡ answerFor (tables n t) room
-    go false p = rw p
-    go true p = let k = few-holders (tables n t) p in rw (p, le-ltb (length l / rowWidth) (length (holders (tables n t))) (omega arith))
+  pub answer-damaged : (b : Bool) → b ≡ sound (tables n t) → b ≡ false → Boarded.refused 1 ≡ answerFor (tables n t) room
+  unfolding answerFor
+  answer-damaged b p e = rw (sym p ∙ e)
 
 pub rows-filled : (r : BoardReply) (rows covered : ℕ) → r ≡ Rows rows covered → rows ≡ rowsIn (meansBoard r)
 unfolding rowsIn
@@ -83,10 +81,13 @@ last-at-most t (suc s) = go (eqb (seatWord t s phaseAt) 5) (last-at-most t s)
     go true h = omega arith
     go false h = omega arith
 
-pub last-row-is : (n t : List ℕ) (below s o a e k : ℕ) → k ≡ nodeWord n o kindAt → e ≡ nodeWord n o endAt → a ≡ nodeWord n o startAt → o ≡ seatWord t s ownAt → s ≡ lastBelow t below
-    → record { seat = s; first = a; end = e; kind = k } ≡ lastRow (tables n t) below
-unfolding lastRow
-last-row-is n t below s o a e k pk pe pa po ps = row-is n t s o a e k pk pe pa po ∙ ap (rowOf (tables n t)) ps
+module _ (n t : List ℕ) (below s : ℕ) (isLast : s ≡ lastBelow t below) where
+  pub last-holds : Holds (tables n t) (lastBelow t below) → Holds (tables n t) s
+  last-holds h = rw isLast h
+
+  pub last-row-is : (row : Row) → row ≡ rowOf (tables n t) s → row ≡ lastRow (tables n t) below
+  unfolding lastRow
+  last-row-is row e = e ∙ ap (rowOf (tables n t)) isLast
 
 -- ---- the rows
 rows-none : (t : Tables) (s : ℕ) → length (rowsBelow s t) ≡ 0 → rowsBelow s t ≡ []
@@ -106,6 +107,16 @@ rows-last t (suc s) k e = go (eqb (seatWord (t .seats) s phaseAt) 5) (rows-last 
         ≡ rowsBelow (if b then s else lastBelow (t .seats) s) t ++ (rowOf t (if b then s else lastBelow (t .seats) s) ∷ [])
     go true below h = refl
     go false below h = below h
+
+last-holder-holds : (t : Tables) (s k : ℕ) → length (rowsBelow s t) ≡ suc k → Holds t (lastBelow (t .seats) s)
+unfolding rowsBelow lastBelow
+last-holder-holds t zero k e = absurd (omega arith)
+last-holder-holds t (suc s) k e = go (eqb (seatWord (t .seats) s phaseAt) 5) refl (last-holder-holds t s k) e
+  where
+    go : (b : Bool) → eqb (seatWord (t .seats) s phaseAt) 5 ≡ b → (length (rowsBelow s t) ≡ suc k → Holds t (lastBelow (t .seats) s))
+        → length (if b then rowsBelow s t ++ (rowOf t s ∷ []) else rowsBelow s t) ≡ suc k → Holds t (if b then s else lastBelow (t .seats) s)
+    go true q below h = eqb-true (seatWord (t .seats) s phaseAt) 5 q
+    go false q below h = below h
 
 -- no seat past the last holds
 rows-past : (t : Tables) (k : ℕ) → sound t ≡ true → rowsBelow (seatCount t + k) t ≡ holders t
@@ -135,37 +146,79 @@ fill-down (suc k) t s out e h =
     (sym (append-assoc (rowsBelow below t) (lastRow t s ∷ []) (drop (suc k) out)))
 
 -- ---- the call
-rows-answered : (t : Tables) (room : ℕ) → rowsIn (answerFor t room) ≤ room
-unfolding answerFor rowsIn
-rows-answered t room = go (sound t) (ltb room (length (holders t))) refl
-  where
-    go : (b c : Bool) → ltb room (length (holders t)) ≡ c
-        → rowsIn (if not b then Boarded.refused 1 else if c then Boarded.refused 9 else Boarded.filled (length (holders t)) (coveredBy (holders t))) ≤ room
-    go false c e = omega arith
-    go true true e = omega arith
-    go true false e = ltb-false room (length (holders t)) e
+all-rows : (t : Tables) → sound t ≡ true → rowsBelow 64 t ≡ holders t
+all-rows t p = let f = is-sound t p .few-seats in let e : seatCount t + (64 - seatCount t) ≡ 64 = omega arith in rw e at (rows-past t (64 - seatCount t) p)
 
-board-answered : (t : Tables) (lent : List Row) → shown (answerFor t (length lent)) (fillDown (rowsIn (answerFor t (length lent))) t 64 lent) ≡ board t lent
+-- rows that are still to be written, of the holders below a seat
+pub record Owed (t : Tables) (k seat : ℕ) : Type 0 where
+  pub tables-sound : sound t ≡ true
+  pub as-many : length (rowsBelow seat t) ≡ k
+
+record Answered (t : Tables) (lent : List Row) (answer : Boarded) : Type 0 where
+  room : rowsIn answer ≤ length lent
+  owed : 0 < rowsIn answer → Owed t (rowsIn answer) 64
+  board-is : shown answer (fillDown (rowsIn answer) t 64 lent) ≡ board t lent
+
+answered : (t : Tables) (lent : List Row) → Answered t lent (answerFor t (length lent))
 unfolding answerFor rowsIn board fillDown
-board-answered t lent = go (sound t) (ltb (length lent) (length (holders t))) refl refl
+answered t lent = go (sound t) (ltb (length lent) (length (holders t))) refl refl
   where
-    all-rows : sound t ≡ true → rowsBelow 64 t ≡ holders t
-    all-rows p = let w = is-sound t p in let f = w .few-seats in let e : seatCount t + (64 - seatCount t) ≡ 64 = omega arith in rw e at (rows-past t (64 - seatCount t) p)
-
-    go : (b c : Bool) → sound t ≡ b → ltb (length lent) (length (holders t)) ≡ c
-        → shown (answerFor t (length lent)) (fillDown (rowsIn (answerFor t (length lent))) t 64 lent) ≡ board t lent
-    go false c p e = rw p
-    go true true p e = rw (p, e)
+    go : (b c : Bool) → sound t ≡ b → ltb (length lent) (length (holders t)) ≡ c → Answered t lent (answerFor t (length lent))
+    go false c p e = rw p (record { room = omega arith; owed = λ h. absurd (omega arith); board-is = rw p })
+    go true true p e = rw (p, e) (record { room = omega arith; owed = λ h. absurd (omega arith); board-is = rw (p, e) })
     go true false p e =
-        let all = all-rows p in
-        rw (p, e)
-        (ap (shown (Boarded.filled (length (holders t)) (coveredBy (holders t))))
-        (fill-down (length (holders t)) t 64 lent (ap length all) (ltb-false (length lent) (length (holders t)) e) ∙ rw all))
+        let all = all-rows t p in
+        let room = ltb-false (length lent) (length (holders t)) e in
+        rw (p, e) (record {
+          room = room;
+          owed = λ h. record { tables-sound = p; as-many = ap length all };
+          board-is =
+              rw (p, e)
+              (ap (shown (Boarded.filled (length (holders t)) (coveredBy (holders t))))
+              (fill-down (length (holders t)) t 64 lent (ap length all) room ∙ rw all));
+        })
 
-module _ (t : Tables) (lent : List Row) (r : BoardReply) (isAnswer : meansBoard r ≡ answerFor t (length lent)) where
-  -- as many rows as the answer says are lent
-  pub rows-lent : rowsIn (meansBoard r) ≤ length lent
-  rows-lent = rw isAnswer (rows-answered t (length lent))
+-- after some turns: k rows are left, of the holders below a seat
+module _ (t : Tables) (lent : List Row) (r : BoardReply) where
+  pub record Left (k seat : ℕ) (out : List Row) : Type 0 where
+    pub rest : fillDown k t seat out ≡ fillDown (rowsIn (meansBoard r)) t 64 lent
+    pub same : length out ≡ length lent
+    pub room : k ≤ length lent
+    pub few : seat ≤ 64
+    pub owed : 0 < k → Owed t k seat
 
-  pub board-shown : (out : List Row) → fillDown (rowsIn (meansBoard r)) t 64 lent ≡ out → shown (meansBoard r) out ≡ board t lent
-  board-shown out e = rw (← e, isAnswer) (board-answered t lent)
+  module _ (k seat : ℕ) (out : List Row) (left : Left (suc k) seat out) where
+    pub left-sound : sound t ≡ true
+    left-sound = left .owed (omega arith) .tables-sound
+
+    pub left-holds : Holds t (lastBelow (t .seats) seat)
+    left-holds = last-holder-holds t seat k (left .owed (omega arith) .as-many)
+
+    pub left-less : Left k (lastBelow (t .seats) seat) (set out k (lastRow t seat))
+    unfolding fillDown
+    left-less =
+        let below = last-at-most (t .seats) seat in
+        let few = left .few in
+        let room = left .room in
+        record {
+          rest = left .rest;
+          same = length-set out k (lastRow t seat) ∙ left .same;
+          room = omega arith;
+          few = omega arith;
+          owed = λ h.
+              let all = left .owed (omega arith) .as-many in
+              let n = sym (ap length (rows-last t seat k all)) ∙ all in
+              let m = length-append (rowsBelow (lastBelow (t .seats) seat) t) (lastRow t seat ∷ []) in
+              record { tables-sound = left-sound; as-many = omega arith };
+        }
+
+  module _ (isAnswer : meansBoard r ≡ answerFor t (length lent)) where
+    is-answered : Answered t lent (meansBoard r)
+    is-answered = rw isAnswer (answered t lent)
+
+    pub left-all : Left (rowsIn (meansBoard r)) 64 lent
+    left-all = record { rest = refl; same = refl; room = is-answered .room; few = omega arith; owed = is-answered .owed }
+
+    pub left-none : (seat : ℕ) (out : List Row) → Left 0 seat out → shown (meansBoard r) out ≡ board t lent
+    unfolding fillDown
+    left-none seat out left = rw (left .rest) (is-answered .board-is)

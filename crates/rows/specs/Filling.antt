@@ -8,11 +8,6 @@ use Rattle.rules.specs.Calls.{damaged}
 use Rattle.rules.specs.Board.{rowOf, holders, coveredBy, Boarded}
 use Rattle.rules.specs.declared.Row.{Row}
 
--- an answer, where only so many rows are lent
-unfoldable pub narrow : ℕ → Boarded → Boarded
-narrow room (Boarded.filled rows covered) = if room <? rows then Boarded.refused 9 else Boarded.filled rows covered
-narrow room (Boarded.refused number) = Boarded.refused number
-
 -- the board's answer depends on no more of the rows lent than their number
 unfoldable pub answerFor : Tables → ℕ → Boarded
 answerFor t room =

@@ -1,38 +1,41 @@
-// The board on a lent list of rows. The board of numbers counts, sums and refuses; here the rows are written, from the last holder's to the
-// first, so that a cursor over the seats looks at each seat once.
+// The board on a lent list of rows: a thin function over `holders`, which counts, sums and reads each row. Refusals are known before the
+// first row is stored. Rows are written from the last holder's to the first, so that a cursor over the seats looks at each seat once.
 ghost use mathlib.Core.Path.{_≡_};
+ghost use mathlib.Core.Bool.{true};
 ghost use Rattle.rules.specs.Tables.{tables};
+ghost use Rattle.rules.specs.Shape.{sound};
+ghost use Rattle.rules.specs.Apart.{Holds};
 ghost use Rattle.rules.specs.Board.{shown, board};
 ghost use Rattle.rules.specs.Means.{meansBoard};
-ghost use Rattle.rows.specs.Filling.{answerFor, narrow, rowsIn, lastBelow, lastRow, noRows};
+ghost use Rattle.rows.specs.Filling.{answerFor, rowsIn, lastBelow, lastRow, noRows};
 use rules::BoardReply;
 use rules::Row;
 
 // Seats are numbered below this.
 const SEATS: u32 = 64;
 
-// refusal 9 where fewer rows are lent than there are to show
-fn narrowed(reply: BoardReply, room: usize) -> BoardReply
-    ensures { λ r. ⌜ meansBoard r ≡ narrow room (meansBoard reply) ⌝ }
+// on sound tables: refusal 9 where fewer rows are lent than there are holders, or their number and the frames that they cover
+fn answer_sound(nodes: &[u32], seats: &[u32], room: usize) -> BoardReply
+    requires { ⌜ sound (tables (now nodes) (now seats)) ≡ true ⌝ }
+    ensures { λ r. ⌜ meansBoard r ≡ answerFor (tables (now (nodes .entry)) (now (seats .entry))) room ⌝ }
 {
-    match reply {
-        BoardReply::Rows(rows, covered) => {
-            if room < rows as usize {
-                return BoardReply::Refused(9);
-            }
-            BoardReply::Rows(rows, covered)
-        }
-        BoardReply::Refused(number) => BoardReply::Refused(number),
+    let count = words::seat_count(seats) as u32;
+    let rows = holders::count(seats, count);
+    if room < rows as usize {
+        return BoardReply::Refused(9);
     }
+    let covered = holders::covered(nodes, seats);
+    BoardReply::Rows(rows, covered)
 }
 
-// what the board answers where so many rows are lent: that of numbers, which has room for every seat's row, but for refusal 9
+// what the board answers where so many rows are lent
 fn answer(nodes: &[u32], seats: &[u32], room: usize) -> BoardReply
     ensures { λ r. ⌜ meansBoard r ≡ answerFor (tables (now (nodes .entry)) (now (seats .entry))) room ⌝ }
 {
-    let mut numbers: [u32; 256] = [0; 256];
-    let reply = board::board(nodes, seats, &mut numbers);
-    narrowed(reply, room)
+    if shape::is_sound(nodes, seats) {
+        return answer_sound(nodes, seats, room);
+    }
+    BoardReply::Refused(1)
 }
 
 // how many rows an answer shows
@@ -63,19 +66,12 @@ fn last_holder(seats: &[u32], below: u32) -> u32
 
 // its row
 fn last_row(nodes: &[u32], seats: &[u32], below: u32) -> Row
+    requires { ⌜ sound (tables (now nodes) (now seats)) ≡ true ⌝ }
+    requires { ⌜ Holds (tables (now nodes) (now seats)) (lastBelow (now seats) below) ⌝ }
     ensures { λ r. ⌜ r ≡ lastRow (tables (now (nodes .entry)) (now (seats .entry))) below ⌝ }
 {
     let s = last_holder(seats, below);
-    let own = words::seat_word(seats, s, words::OWN);
-    let first = words::node_word(nodes, own, words::START);
-    let end = words::node_word(nodes, own, words::END);
-    let kind = words::node_word(nodes, own, words::KIND);
-    Row {
-        seat: s,
-        first: first,
-        end: end,
-        kind: kind,
-    }
+    holders::row_of(nodes, seats, s)
 }
 
 pub fn show<'a, 'b, 'c>(rows: &'a mut [Row], nodes: &'b [u32], seats: &'c [u32]) -> BoardReply

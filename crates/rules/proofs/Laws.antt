@@ -1,6 +1,6 @@
 -- What follows from one definition of specs/ by itself: the words after a store, sound shape clause by clause, what is met, what each number
--- of the comparison says, that a refused call changes nothing, that a run is its steps, that two results of one promise are equal. They may
--- use specs/ and the ground, and hold for any tables.
+-- of the comparison says, that a refused call changes nothing, that a run is its steps, that the board on numbers is the board on rows, that
+-- two results of one promise are equal. They may use specs/ and the ground, and hold for any tables.
 pub mod Opened
 pub mod Words
 pub mod Shape
@@ -11,4 +11,5 @@ pub mod Compared
 pub mod Refused
 pub mod AnswersByPhase
 pub mod RunSteps
+pub mod BoardNumbers
 pub mod OneAnswer

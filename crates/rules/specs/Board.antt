@@ -47,7 +47,7 @@ board t lent =
     else if length lent <? length (holders t) then shown (refused 9) lent
     else shown (filled (length (holders t)) (coveredBy (holders t))) (holders t ++ drop (length (holders t)) lent)
 
--- ---- the same on a lent list of numbers, four to a row
+-- ---- the same on a lent list of numbers, four to a row: proofs/Laws/BoardNumbers says that it is the board on those rows
 abbrev pub rowWidth : ℕ
 rowWidth = 4
 

@@ -1,9 +1,9 @@
 -- What a script is: its bytes, read from left to right. A reader is given a place and says what stands there and the place
--- after it. Where the thing is not there, it says the end of the script, where nothing stands: whatever is looked for next is
--- then not there either, and the line is wrong.
+-- after it. There is one way to say that a thing is not there: the place after it is `nowhere`, past the end of the script. No
+-- byte stands there, so whatever is looked for next is not there either, and the line ends nowhere: it is wrong.
 use Prim.Native.Nat.{ℕ, zero, suc, _+_, _*_, _-_}
 use mathlib.Core.List.{List}
-use mathlib.Core.Bool.{Bool, _&&_}
+use mathlib.Core.Bool.{Bool, not, _&&_}
 use lib.ListN.{getD, set, replicate, length}
 use Rattle.rules.specs.Notation.{if_then_else_, _is_, _≤?_, _<?_}
 use Rattle.rules.specs.declared.Line.{Line}
@@ -18,30 +18,33 @@ found value next = record { value = value; next = next }
 abbrev pub line : ℕ → ℕ → ℕ → ℕ → ℕ → Line
 line code seat start end kind = record { code = code; seat = seat; start = start; end = end; kind = kind }
 
+abbrev pub nowhere : List ℕ → ℕ
+nowhere src = length src + 1
+
 -- the byte at a place; past the end 0, which is no digit, space, letter or LF
 unfoldable pub byteAt : List ℕ → ℕ → ℕ
 byteAt src at = getD src at 0
 
 -- ---- "Decimal numbers up to 4,294,967,295, no leading zeros except 0 alone"
 
--- the digit at a place, or 10 where no digit stands
+unfoldable pub isDigit : List ℕ → ℕ → Bool
+isDigit src at = 48 ≤? byteAt src at && byteAt src at ≤? 57
+
 unfoldable pub digitAt : List ℕ → ℕ → ℕ
-digitAt src at =
-    if 48 ≤? byteAt src at && byteAt src at ≤? 57 then byteAt src at - 48
-    else 10
+digitAt src at = byteAt src at - 48
 
 -- up to `left` digits more, after a value already read. A number ends before what is no digit, and before a digit that would
 -- bring it above 4,294,967,295: the line is then wrong, since neither a space nor LF follows.
 unfoldable pub digitsFrom : List ℕ → ℕ → ℕ → ℕ → Found
 digitsFrom src zero at value = found value at
 digitsFrom src (suc left) at value =
-    if digitAt src at <? 10 && value * 10 + digitAt src at ≤? 4294967295 then digitsFrom src left (at + 1) (value * 10 + digitAt src at)
+    if isDigit src at && value * 10 + digitAt src at ≤? 4294967295 then digitsFrom src left (at + 1) (value * 10 + digitAt src at)
     else found value at
 
 -- 0 alone, or a first digit and up to nine more
 unfoldable pub numberAt : List ℕ → ℕ → Found
 numberAt src at =
-    if digitAt src at is 10 then found 0 (length src)
+    if not (isDigit src at) then found 0 (nowhere src)
     else if digitAt src at is 0 then found 0 (at + 1)
     else digitsFrom src 9 (at + 1) (digitAt src at)
 
@@ -51,13 +54,13 @@ numberAt src at =
 unfoldable pub fieldAt : List ℕ → ℕ → Found
 fieldAt src at =
     if byteAt src at is 32 then numberAt src (at + 1)
-    else found 0 (length src)
+    else found 0 (nowhere src)
 
--- the place after LF, or 0 where no LF stands: the line is wrong
+-- the place after LF
 unfoldable pub lineEnd : List ℕ → ℕ → ℕ
 lineEnd src at =
     if byteAt src at is 10 then at + 1
-    else 0
+    else nowhere src
 
 -- ---- "Line 1 is the contents: N S K, N and S within their bounds, K from 0 to 1,000."
 unfoldable pub inBounds : ℕ → ℕ → ℕ → Bool
@@ -72,7 +75,7 @@ contentsOf src =
       n = n .value;
       s = s .value;
       k = k .value;
-      next = if inBounds (n .value) (s .value) (k .value) then lineEnd src (k .next) else 0;
+      next = if inBounds (n .value) (s .value) (k .value) then lineEnd src (k .next) else nowhere src;
     }
 
 -- ---- "Then K bodies: `b seat start end kind`, `s seat`, `r seat`." "each a code (b 1, s 2, r 3) and four numbers"
@@ -101,7 +104,7 @@ bodyAt src at =
     if byteAt src at is 98 then beginLine src (at + 1)
     else if byteAt src at is 115 then seatLine src 2 (at + 1)
     else if byteAt src at is 114 then seatLine src 3 (at + 1)
-    else body noLine 0
+    else body noLine (nowhere src)
 
 -- ---- the whole: "gives N, S, K and 1,000 rows by value .. what a script does not fill is 0"
 abbrev pub noLines : List Line
@@ -121,12 +124,12 @@ bodiesFrom src top zero i at rows =
     if at is length src then goodScript top rows
     else badAt (i + 2)
 bodiesFrom src top (suc left) i at rows =
-    if bodyAt src at .next is 0 then badAt (i + 2)
+    if bodyAt src at .next is nowhere src then badAt (i + 2)
     else bodiesFrom src top left (i + 1) (bodyAt src at .next) (set rows i (bodyAt src at .line))
 
 -- "At most 16,384 bytes. .. `bad 0` if too long, which is looked at first."
 unfoldable pub readScript : List ℕ → Script
 readScript src =
     if 16384 <? length src then badAt 0
-    else if contentsOf src .next is 0 then badAt 1
+    else if contentsOf src .next is nowhere src then badAt 1
     else bodiesFrom src (contentsOf src) (contentsOf src .k) 0 (contentsOf src .next) noLines

@@ -22,7 +22,7 @@ use Rattle.rules.proofs.Laws.Shape.{is-sound}
 use Rattle.rules.proofs.Laws.Refused.{step-keeps}
 use Rattle.rules.proofs.Soundness.SoundKept.{step-keeps-sound}
 use Rattle.shape.specs.Parts.{listEnds}
-use Rattle.claims.proofs.Ways.{step-past}
+use Rattle.phases.proofs.Ways.{step-past}
 use Rattle.rules.proofs.Laws.NodesAlone.{ends-alone}
 use Rattle.run.specs.Parts.{keptSound, stopAtDamage}
 

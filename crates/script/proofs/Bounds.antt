@@ -9,7 +9,7 @@ use borrow.Author.Tests.{leb-true, eqb-false}
 use Rattle.rules.specs.Notation.{if_then_else_, _is_, _≤?_, _<?_}
 use Rattle.rules.specs.declared.Line.{Line}
 use Rattle.rules.specs.declared.Contents.{Contents}
-use Rattle.rules.specs.Script.{noLine, noLines, bodyAt, inBounds, contentsOf, badAt, goodScript, bodiesFrom, readScript}
+use Rattle.rules.specs.Script.{nowhere, noLine, noLines, bodyAt, inBounds, contentsOf, badAt, goodScript, bodiesFrom, readScript}
 use Rattle.rules.proofs.Ground.Logic.{all5, branch}
 use Rattle.script.specs.Bounded.{Bounded}
 
@@ -21,9 +21,9 @@ record Top (n s k : ℕ) : Type 0 where
   seats : s ≤ 64
   calls : k ≤ 1000
 
-in-bounds : (n s k next : ℕ) (b : Bool) → inBounds n s k ≡ b → ((if b then next else 0) ≡ 0 → ⊥) → Top n s k
+in-bounds : (n s k next w : ℕ) (b : Bool) → inBounds n s k ≡ b → ((if b then next else w) ≡ w → ⊥) → Top n s k
 unfolding inBounds
-in-bounds n s k next true e h =
+in-bounds n s k next w true e h =
     let w = all5 (1 ≤? n) (n ≤? 256) (1 ≤? s) (s ≤? 64) (k ≤? 1000) e in
     record {
       some-nodes = leb-true 1 n (w .0);
@@ -32,15 +32,15 @@ in-bounds n s k next true e h =
       seats = leb-true s 64 (w .3);
       calls = leb-true k 1000 (w .4);
     }
-in-bounds n s k next false e h = absurd (h refl)
+in-bounds n s k next w false e h = absurd (h refl)
 
-contents-bounded : (src : List ℕ) → (contentsOf src .next ≡ 0 → ⊥) → Top (contentsOf src .n) (contentsOf src .s) (contentsOf src .k)
+contents-bounded : (src : List ℕ) → (contentsOf src .next ≡ nowhere src → ⊥) → Top (contentsOf src .n) (contentsOf src .s) (contentsOf src .k)
 unfolding contentsOf
-contents-bounded src h = in-bounds _ _ _ _ _ refl h
+contents-bounded src h = in-bounds _ _ _ _ _ _ refl h
 
 -- the form in which `read` asks it
-pub contents-calls : (src : List ℕ) (top : Contents) → top ≡ contentsOf src → (top .next ≡ 0 → ⊥) → top .k ≤ 1000
-contents-calls src top e h = rw e (contents-bounded src (rw e at h) .calls)
+pub contents-calls : (src : List ℕ) (top : Contents) (w : ℕ) → top ≡ contentsOf src → w ≡ nowhere src → (top .next ≡ w → ⊥) → top .k ≤ 1000
+contents-calls src top w e o h = rw e (contents-bounded src (rw (e, o) at h) .calls)
 
 no-lines-length : length noLines ≡ 1000
 no-lines-length = length-replicate 1000 noLine
@@ -72,12 +72,12 @@ unfolding bodiesFrom
 bodies-bounded src top zero i at rows h e =
     branch Bounded (at is length src) (λ f. good-bounded top rows h e) (λ f. bad-bounded (i + 2))
 bodies-bounded src top (suc left) i at rows h e =
-    branch Bounded (bodyAt src at .next is 0) (λ f. bad-bounded (i + 2))
+    branch Bounded (bodyAt src at .next is nowhere src) (λ f. bad-bounded (i + 2))
     (λ f. bodies-bounded src top left (i + 1) (bodyAt src at .next) (set rows i (bodyAt src at .line)) h (length-set rows i (bodyAt src at .line) ∙ e))
 
 pub read-bounded : (src : List ℕ) → Bounded (readScript src)
 unfolding readScript
 read-bounded src =
     branch Bounded (16384 <? length src) (λ f. bad-bounded 0)
-    (λ f. branch Bounded (contentsOf src .next is 0) (λ f. bad-bounded 1)
-    (λ f. bodies-bounded src (contentsOf src) _ _ _ _ (contents-bounded src (eqb-false (contentsOf src .next) 0 f)) no-lines-length))
+    (λ f. branch Bounded (contentsOf src .next is nowhere src) (λ f. bad-bounded 1)
+    (λ f. bodies-bounded src (contentsOf src) _ _ _ _ (contents-bounded src (eqb-false (contentsOf src .next) (nowhere src) f)) no-lines-length))

@@ -5,15 +5,17 @@ use native.Mathlib.Omega.{arith}
 use mathlib.Core.List.{List, [], _∷_}
 use mathlib.Core.Bool.{Bool, true, false}
 use mathlib.Core.Path.{_≡_, refl, sym, _∙_}
-use lib.Dec.{eqb}
+use lib.Dec.{eqb, leb}
 use lib.ListN.{getD, set, length, List·getD-eq-default}
-use borrow.Author.Tests.{lt-ltb, le-ltb, le-leb, lt-leb, eq-eqb, ne-eqb}
+use borrow.Author.Tests.{lt-ltb, le-ltb, le-leb, lt-leb, leb-true, eq-eqb, ne-eqb}
 use Rattle.rules.specs.declared.Line.{Line}
 use Rattle.rules.specs.declared.Script.{Script}
 use Rattle.rules.specs.declared.Found.{Found}
 use Rattle.rules.specs.declared.Body.{Body}
 use Rattle.rules.specs.declared.Contents.{Contents}
-use Rattle.rules.specs.Script.{found, body, byteAt, digitAt, digitsFrom, numberAt, fieldAt, lineEnd, beginLine, seatLine, bodyAt, inBounds, contentsOf, noLine, noLines, badAt, goodScript, bodiesFrom, readScript}
+use Rattle.rules.specs.Script.{found, body, nowhere, byteAt, isDigit, digitAt, digitsFrom, numberAt, fieldAt, lineEnd, beginLine, seatLine, bodyAt, inBounds, contentsOf, noLine, noLines, badAt, goodScript, bodiesFrom, readScript}
+use Rattle.rules.proofs.Ground.Logic.{not-of, and-right}
+use Rattle.script.specs.Digit.{digitOrTen}
 
 -- ---- a byte
 pub byte-past : (src : List ℕ) (at : ℕ) → length src ≤ at → 0 ≡ byteAt src at
@@ -32,33 +34,33 @@ module _ (src : List ℕ) (at b : ℕ) (isByte : b ≡ byteAt src at) where
   unfolding byteAt
   byte-inside h = inside src at (λ e. omega arith)
 
-  pub digit-low : b < 48 → 10 ≡ digitAt src at
-  unfolding digitAt
+  pub digit-low : b < 48 → 10 ≡ digitOrTen src at
+  unfolding digitOrTen isDigit
   digit-low h = rw (← isByte, lt-leb 48 b h)
 
-  pub digit-high : 57 < b → 10 ≡ digitAt src at
-  unfolding digitAt
+  pub digit-high : 57 < b → 10 ≡ digitOrTen src at
+  unfolding digitOrTen isDigit
   digit-high h = rw (← isByte, lt-leb b 57 h, le-leb 48 b (omega arith))
 
-  pub digit-here : 48 ≤ b → b ≤ 57 → b - 48 ≡ digitAt src at
-  unfolding digitAt
+  pub digit-here : 48 ≤ b → b ≤ 57 → b - 48 ≡ digitOrTen src at
+  unfolding digitOrTen isDigit digitAt
   digit-here h i = rw (← isByte, le-leb b 57 i, le-leb 48 b h)
 
   pub field-here : (r : Found) → b ≡ 32 → r ≡ numberAt src (at + 1) → r ≡ fieldAt src at
   unfolding fieldAt
   field-here r h e = rw (← isByte, eq-eqb b 32 h) e
 
-  pub field-none : (b ≡ 32 → ⊥) → found 0 (length src) ≡ fieldAt src at
+  pub field-none : (w : ℕ) → w ≡ nowhere src → (b ≡ 32 → ⊥) → found 0 w ≡ fieldAt src at
   unfolding fieldAt
-  field-none h = rw (← isByte, ne-eqb b 32 h)
+  field-none w e h = rw (← isByte, ne-eqb b 32 h, e)
 
   pub end-here : b ≡ 10 → at + 1 ≡ lineEnd src at
   unfolding lineEnd
   end-here h = rw (← isByte, eq-eqb b 10 h)
 
-  pub end-none : (b ≡ 10 → ⊥) → 0 ≡ lineEnd src at
+  pub end-none : (w : ℕ) → w ≡ nowhere src → (b ≡ 10 → ⊥) → w ≡ lineEnd src at
   unfolding lineEnd
-  end-none h = rw (← isByte, ne-eqb b 10 h)
+  end-none w e h = rw (← isByte, ne-eqb b 10 h) e
 
   pub body-begin : (r : Body) → b ≡ 98 → r ≡ beginLine src (at + 1) → r ≡ bodyAt src at
   unfolding bodyAt
@@ -72,60 +74,93 @@ module _ (src : List ℕ) (at b : ℕ) (isByte : b ≡ byteAt src at) where
   unfolding bodyAt
   body-release r f g h e = rw (← isByte, ne-eqb b 98 f, ne-eqb b 115 g, eq-eqb b 114 h) e
 
-  pub body-none : (l : Line) → l ≡ noLine → (b ≡ 98 → ⊥) → (b ≡ 115 → ⊥) → (b ≡ 114 → ⊥) → body l 0 ≡ bodyAt src at
+  pub body-none : (l : Line) (w : ℕ) → w ≡ nowhere src → l ≡ noLine → (b ≡ 98 → ⊥) → (b ≡ 115 → ⊥) → (b ≡ 114 → ⊥) → body l w ≡ bodyAt src at
   unfolding bodyAt
-  body-none l e f g h = rw (← isByte, ne-eqb b 98 f, ne-eqb b 115 g, ne-eqb b 114 h, e)
+  body-none l w q e f g h = rw (← isByte, ne-eqb b 98 f, ne-eqb b 115 g, ne-eqb b 114 h, e, q)
 
 -- ---- a number
-no-byte-no-digit : (src : List ℕ) (at : ℕ) → byteAt src at ≡ 0 → digitAt src at ≡ 10
-unfolding digitAt
+no-byte-no-digit : (src : List ℕ) (at : ℕ) → byteAt src at ≡ 0 → digitOrTen src at ≡ 10
+unfolding digitOrTen isDigit
 no-byte-no-digit src at e = rw e
 
-pub digit-inside : (src : List ℕ) (at d : ℕ) → d ≡ digitAt src at → (d ≡ 10 → ⊥) → at < length src
+pub digit-inside : (src : List ℕ) (at d : ℕ) → d ≡ digitOrTen src at → (d ≡ 10 → ⊥) → at < length src
 unfolding byteAt
 digit-inside src at d e h = inside src at (λ z. h (e ∙ no-byte-no-digit src at z))
+
+digit-small : (src : List ℕ) (at : ℕ) → isDigit src at ≡ true → digitAt src at < 10
+unfolding isDigit digitAt
+digit-small src at e = let h = leb-true (byteAt src at) 57 (and-right (leb 48 (byteAt src at)) (leb (byteAt src at) 57) e) in omega arith
+
+module _ (src : List ℕ) (at d : ℕ) (isOne : d ≡ digitOrTen src at) where
+  is-digit : isDigit src at ≡ true → d ≡ digitAt src at
+  unfolding digitOrTen
+  is-digit e = isOne ∙ rw e
+
+  is-ten : isDigit src at ≡ false → d ≡ 10
+  unfolding digitOrTen
+  is-ten e = isOne ∙ rw e
+
+  not-ten : (d ≡ 10 → ⊥) → isDigit src at ≡ true
+  not-ten h = go (isDigit src at) refl
+    where
+      go : (b : Bool) → isDigit src at ≡ b → b ≡ true
+      go true e = refl
+      go false e = absurd (h (is-ten e))
+
+  not-digit : 10 ≤ d → isDigit src at ≡ false
+  not-digit h = not-of (isDigit src at) (λ e. let k = digit-small src at e in let m = is-digit e in omega arith)
 
 pub digits-none : (src : List ℕ) (left at value : ℕ) → left ≡ 0 → found value at ≡ digitsFrom src left at value
 unfolding digitsFrom
 digits-none src left at value e = rw e
 
-module _ (src : List ℕ) (left at value d : ℕ) (isDigit : d ≡ digitAt src at) where
+module _ (src : List ℕ) (left at value d : ℕ) (isOne : d ≡ digitOrTen src at) where
   pub digits-end : 10 ≤ d → found value at ≡ digitsFrom src left at value
   unfolding digitsFrom
   digits-end h = go left
     where
       go : (left : ℕ) → found value at ≡ digitsFrom src left at value
       go zero = refl
-      go (suc left) = rw (← isDigit, le-ltb d 10 h)
+      go (suc left) = rw (not-digit src at d isOne h)
 
   pub digits-big : d < 10 → 4294967295 < value * 10 + d → found value at ≡ digitsFrom src left at value
   unfolding digitsFrom
   digits-big i h = go left
     where
+      stands : isDigit src at ≡ true
+      stands = not-ten src at d isOne (λ e. omega arith)
+
       go : (left : ℕ) → found value at ≡ digitsFrom src left at value
       go zero = refl
-      go (suc left) = rw (← isDigit, lt-ltb d 10 i, lt-leb (value * 10 + d) 4294967295 h)
+      go (suc left) = rw (stands, ← is-digit src at d isOne stands, lt-leb (value * 10 + d) 4294967295 h)
 
   pub digits-more : (r : Found) → r ≡ digitsFrom src (left - 1) (at + 1) (value * 10 + d) → (left ≡ 0 → ⊥) → d < 10 → value * 10 + d ≤ 4294967295 → r ≡ digitsFrom src left at value
   unfolding digitsFrom
   digits-more r e n i h = go left n e
     where
+      stands : isDigit src at ≡ true
+      stands = not-ten src at d isOne (λ q. omega arith)
+
       go : (left : ℕ) → (left ≡ 0 → ⊥) → r ≡ digitsFrom src (left - 1) (at + 1) (value * 10 + d) → r ≡ digitsFrom src left at value
       go zero n e = absurd (n refl)
-      go (suc left) n e = let f : suc left - 1 ≡ left = omega arith in rw (← isDigit, lt-ltb d 10 i, le-leb (value * 10 + d) 4294967295 h) (rw f at e)
+      go (suc left) n e = let f : suc left - 1 ≡ left = omega arith in rw (stands, ← is-digit src at d isOne stands, le-leb (value * 10 + d) 4294967295 h) (rw f at e)
 
-module _ (src : List ℕ) (at d : ℕ) (isDigit : d ≡ digitAt src at) where
-  pub number-none : d ≡ 10 → found 0 (length src) ≡ numberAt src at
+module _ (src : List ℕ) (at d : ℕ) (isOne : d ≡ digitOrTen src at) where
+  pub number-none : (w : ℕ) → w ≡ nowhere src → d ≡ 10 → found 0 w ≡ numberAt src at
   unfolding numberAt
-  number-none h = rw (← isDigit, eq-eqb d 10 h)
+  number-none w e h = rw (not-digit src at d isOne (omega arith), e)
 
-  pub number-zero : (d ≡ 10 → ⊥) → d ≡ 0 → found 0 (at + 1) ≡ numberAt src at
-  unfolding numberAt
-  number-zero h e = rw (← isDigit, ne-eqb d 10 h, eq-eqb d 0 e)
+  module _ (some : d ≡ 10 → ⊥) where
+    stands : isDigit src at ≡ true
+    stands = not-ten src at d isOne some
 
-  pub number-digits : (r : Found) → (d ≡ 10 → ⊥) → (d ≡ 0 → ⊥) → r ≡ digitsFrom src 9 (at + 1) d → r ≡ numberAt src at
-  unfolding numberAt
-  number-digits r h n e = rw (← isDigit, ne-eqb d 10 h, ne-eqb d 0 n) e
+    pub number-zero : d ≡ 0 → found 0 (at + 1) ≡ numberAt src at
+    unfolding numberAt
+    number-zero e = rw (stands, ← is-digit src at d isOne stands, eq-eqb d 0 e)
+
+    pub number-digits : (r : Found) → (d ≡ 0 → ⊥) → r ≡ digitsFrom src 9 (at + 1) d → r ≡ numberAt src at
+    unfolding numberAt
+    number-digits r n e = rw (stands, ← is-digit src at d isOne stands, ne-eqb d 0 n) e
 
 -- ---- line 1
 module _ (src : List ℕ) (n s k : Found) (isN : n ≡ numberAt src 0) (isS : s ≡ fieldAt src (n .next)) (isK : k ≡ fieldAt src (s .next)) where
@@ -133,27 +168,27 @@ module _ (src : List ℕ) (n s k : Found) (isN : n ≡ numberAt src 0) (isS : s 
   unfolding contentsOf
   contents-in b next e t f = rw (← isN, ← isS, ← isK, ← e, t, f)
 
-  pub contents-out : (b : Bool) → b ≡ inBounds (n .value) (s .value) (k .value) → b ≡ false → _≡_ {A = Contents} (record { n = n .value; s = s .value; k = k .value; next = 0 }) (contentsOf src)
+  pub contents-out : (b : Bool) (w : ℕ) → w ≡ nowhere src → b ≡ inBounds (n .value) (s .value) (k .value) → b ≡ false → _≡_ {A = Contents} (record { n = n .value; s = s .value; k = k .value; next = w }) (contentsOf src)
   unfolding contentsOf
-  contents-out b e t = rw (← isN, ← isS, ← isK, ← e, t)
+  contents-out b w q e t = rw (← isN, ← isS, ← isK, ← e, t, q)
 
 -- ---- the bodies: what is still to be read gives the whole, q
 pub bodies-start : (src : List ℕ) (top : Contents) (at : ℕ) (rows : List Line) (k : ℕ) → bodiesFrom src top (k - 0) 0 at rows ≡ bodiesFrom src top k 0 at rows
 bodies-start src top at rows k = let f : k - 0 ≡ k = omega arith in rw f
 
 module _ (q : Script) (src : List ℕ) (top : Contents) (i at : ℕ) (rows : List Line) where
-  pub bodies-again : (k : ℕ) (b : Body) → bodiesFrom src top (k - i) i at rows ≡ q → b ≡ bodyAt src at → (b .next ≡ 0 → ⊥) → i < k → bodiesFrom src top (k - (i + 1)) (i + 1) (b .next) (set rows i (b .line)) ≡ q
+  pub bodies-again : (k w : ℕ) (b : Body) → bodiesFrom src top (k - i) i at rows ≡ q → b ≡ bodyAt src at → w ≡ nowhere src → (b .next ≡ w → ⊥) → i < k → bodiesFrom src top (k - (i + 1)) (i + 1) (b .next) (set rows i (b .line)) ≡ q
   unfolding bodiesFrom
-  bodies-again k b p e n h =
+  bodies-again k w b p e o n h =
       let f : k - i ≡ suc (k - (i + 1)) = omega arith in
-      let m : eqb (bodyAt src at .next) 0 ≡ false = rw (← e) (ne-eqb (b .next) 0 n) in
+      let m : eqb (bodyAt src at .next) (nowhere src) ≡ false = rw (← e, ← o) (ne-eqb (b .next) w n) in
       rw e (rw (f, m) at p)
 
-  pub bodies-wrong : (k : ℕ) (b : Body) (r : Script) → bodiesFrom src top (k - i) i at rows ≡ q → r ≡ badAt (i + 2) → b ≡ bodyAt src at → b .next ≡ 0 → i < k → r ≡ q
+  pub bodies-wrong : (k w : ℕ) (b : Body) (r : Script) → bodiesFrom src top (k - i) i at rows ≡ q → r ≡ badAt (i + 2) → b ≡ bodyAt src at → w ≡ nowhere src → b .next ≡ w → i < k → r ≡ q
   unfolding bodiesFrom
-  bodies-wrong k b r p g e n h =
+  bodies-wrong k w b r p g e o n h =
       let f : k - i ≡ suc (k - (i + 1)) = omega arith in
-      let m : eqb (bodyAt src at .next) 0 ≡ true = rw (← e) (eq-eqb (b .next) 0 n) in
+      let m : eqb (bodyAt src at .next) (nowhere src) ≡ true = rw (← e, ← o) (eq-eqb (b .next) w n) in
       g ∙ (rw (f, m) at p)
 
   pub bodies-extra : (k : ℕ) (r : Script) → bodiesFrom src top (k - i) i at rows ≡ q → r ≡ badAt (i + 2) → k ≤ i → (at ≡ length src → ⊥) → r ≡ q
@@ -174,10 +209,10 @@ module _ (src : List ℕ) (r : Script) where
   unfolding readScript
   read-long h e = rw (lt-ltb 16384 (length src) h) e
 
-  pub read-wrong : (top : Contents) → length src ≤ 16384 → r ≡ badAt 1 → top ≡ contentsOf src → top .next ≡ 0 → r ≡ readScript src
+  pub read-wrong : (top : Contents) (w : ℕ) → length src ≤ 16384 → r ≡ badAt 1 → top ≡ contentsOf src → w ≡ nowhere src → top .next ≡ w → r ≡ readScript src
   unfolding readScript
-  read-wrong top h e f g = rw (le-ltb 16384 (length src) h, ← f, eq-eqb (top .next) 0 g) e
+  read-wrong top w h e f o g = rw (le-ltb 16384 (length src) h, ← f, ← o, eq-eqb (top .next) w g) e
 
-  pub read-bodies : (top : Contents) → length src ≤ 16384 → r ≡ bodiesFrom src top (top .k) 0 (top .next) noLines → top ≡ contentsOf src → (top .next ≡ 0 → ⊥) → r ≡ readScript src
+  pub read-bodies : (top : Contents) (w : ℕ) → length src ≤ 16384 → r ≡ bodiesFrom src top (top .k) 0 (top .next) noLines → top ≡ contentsOf src → w ≡ nowhere src → (top .next ≡ w → ⊥) → r ≡ readScript src
   unfolding readScript
-  read-bodies top h e f g = rw (le-ltb 16384 (length src) h, ← f, ne-eqb (top .next) 0 g) e
+  read-bodies top w h e f o g = rw (le-ltb 16384 (length src) h, ← f, ← o, ne-eqb (top .next) w g) e

@@ -1,13 +1,21 @@
 // Reading a script: a call of the library, proved for every string of bytes.
 ghost use mathlib.Core.Path.{_≡_};
 ghost use Prim.Native.Nat.{_≤_};
-ghost use Rattle.rules.specs.Script.{byteAt, digitAt, digitsFrom, numberAt, fieldAt, beginLine, seatLine, bodyAt, inBounds, contentsOf, noLine, noLines, badAt, bodiesFrom, readScript};
-ghost use Rattle.rules.specs.Script.{lineEnd as Script·lineEnd};
+ghost use Rattle.rules.specs.Script.{byteAt, digitsFrom, numberAt, fieldAt, beginLine, seatLine, bodyAt, inBounds, contentsOf, noLine, noLines, badAt, bodiesFrom, readScript};
+ghost use Rattle.rules.specs.Script.{lineEnd as Script·lineEnd, nowhere as Script·nowhere};
+ghost use Rattle.script.specs.Digit.{digitOrTen};
 use rules::Body;
 use rules::Contents;
 use rules::Found;
 use rules::Line;
 use rules::Script;
+
+// where a thing ends that is not there
+fn nowhere(src: &[u8]) -> usize
+    ensures { λ r. ⌜ r ≡ Script·nowhere (now (src .entry)) ⌝ }
+{
+    src.len() + 1
+}
 
 fn byte(src: &[u8], at: usize) -> u8
     ensures { λ r. ⌜ r ≡ byteAt (now (src .entry)) at ⌝ }
@@ -15,8 +23,9 @@ fn byte(src: &[u8], at: usize) -> u8
     if at < src.len() { src[at] } else { 0 }
 }
 
+// the digit at a place, or 10 where no digit stands
 fn digit(src: &[u8], at: usize) -> u32
-    ensures { λ r. ⌜ r ≡ digitAt (now (src .entry)) at ⌝ }
+    ensures { λ r. ⌜ r ≡ digitOrTen (now (src .entry)) at ⌝ }
 {
     let b = byte(src, at);
     if b < b'0' {
@@ -61,7 +70,7 @@ fn number(src: &[u8], at: usize) -> Found
     if d == 10 {
         return Found {
             value: 0,
-            next: src.len(),
+            next: nowhere(src),
         };
     }
     if d == 0 {
@@ -81,7 +90,7 @@ fn field(src: &[u8], at: usize) -> Found
     }
     Found {
         value: 0,
-        next: src.len(),
+        next: nowhere(src),
     }
 }
 
@@ -91,7 +100,7 @@ fn line_end(src: &[u8], at: usize) -> usize
     if byte(src, at) == b'\n' {
         return at + 1;
     }
-    0
+    nowhere(src)
 }
 
 fn begin_line(src: &[u8], at: usize) -> Body
@@ -158,7 +167,7 @@ fn body_line(src: &[u8], at: usize) -> Body
     }
     Body {
         line: no_line(),
-        next: 0,
+        next: nowhere(src),
     }
 }
 
@@ -187,7 +196,7 @@ fn contents_line(src: &[u8]) -> Contents
         n: n.value,
         s: s.value,
         k: k.value,
-        next: 0,
+        next: nowhere(src),
     }
 }
 
@@ -218,7 +227,7 @@ fn bodies(src: &[u8], top: Contents) -> Script
     while i < k {
         let b = body_line(src, at);
         let next = b.next;
-        if next == 0 {
+        if next == nowhere(src) {
             return bad_at(i + 2);
         }
         let l = b.line;
@@ -247,7 +256,7 @@ pub fn read(src: &[u8]) -> Script
     }
     let top = contents_line(src);
     let next = top.next;
-    if next == 0 {
+    if next == nowhere(src) {
         return bad_at(1);
     }
     bodies(src, top)

@@ -1,20 +1,21 @@
 -- `rows::answer` meets its promise.
-use Rattle.rows.proofs.Filling.{answer-is}
+use Rattle.shape.proofs.Tests.{now-sound}
+use Rattle.rows.proofs.Filling.{answer-damaged}
 use borrow.Author.Needs.{needs}
 use Rattle.rows.proofs.answer.Statement.{statement}
 use Rattle.rows.proofs.answer.Tie as tie
 
-slice-aggregate-board : tie.Need-slice-aggregate-board
-slice-aggregate-board c = search needs
+is-sound-requires : tie.Need-is-sound-requires
+is-sound-requires c κs = search needs
 
-board-requires : tie.Need-board-requires
-board-requires c κs = search needs
-
-narrowed-requires : tie.Need-narrowed-requires
-narrowed-requires c κs = search needs
+answer-sound-requires : tie.Need-answer-sound-requires
+answer-sound-requires c κs = search now-sound
 
 returns : tie.Need-returns
-returns c = search (answer-is, needs)
+returns c = search needs
+
+returns-2 : tie.Need-returns-2
+returns-2 c = search answer-damaged
 
 pub answer-spec : {M : Type 1} → statement M
-answer-spec = tie.close (tie.spec slice-aggregate-board board-requires narrowed-requires returns)
+answer-spec = tie.close (tie.spec is-sound-requires answer-sound-requires returns returns-2)

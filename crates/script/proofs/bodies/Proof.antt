@@ -25,6 +25,9 @@ loop-holds c = (omega arith, refl, rw (c .no-line .ensures) (bodies-start _ _ _ 
 body-line-requires : tie.Need-body-line-requires Inv-loop μ-loop
 body-line-requires c κs = search needs
 
+nowhere-requires : tie.Need-nowhere-requires Inv-loop μ-loop
+nowhere-requires c κs = search needs
+
 add-bad-at : tie.Need-add-bad-at Inv-loop μ-loop
 add-bad-at c = omega arith
 
@@ -73,7 +76,7 @@ bodies-spec =
     no-line-requires
     loop-holds
     body-line-requires
-    add-bad-at
+    nowhere-requires add-bad-at
     bad-at-requires
     returns
     cast-rows

@@ -38,6 +38,9 @@ returns-3 c = search body-release
 no-line-requires : tie.Need-no-line-requires
 no-line-requires c κs = search needs
 
+nowhere-requires : tie.Need-nowhere-requires
+nowhere-requires c κs = search needs
+
 returns-4 : tie.Need-returns-4
 returns-4 c = search body-none
 
@@ -56,4 +59,4 @@ body-line-spec =
     seat-line-requires-2
     returns-3
     no-line-requires
-    returns-4)
+    nowhere-requires returns-4)

@@ -22,6 +22,9 @@ line-end-requires c κs = search needs
 returns : tie.Need-returns
 returns c = search contents-in
 
+nowhere-requires : tie.Need-nowhere-requires
+nowhere-requires c κs = search needs
+
 returns-2 : tie.Need-returns-2
 returns-2 c = search contents-out
 
@@ -35,4 +38,4 @@ contents-line-spec =
     in-bounds-requires
     line-end-requires
     returns
-    returns-2)
+    nowhere-requires returns-2)

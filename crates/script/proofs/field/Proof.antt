@@ -17,8 +17,11 @@ number-requires c κs = search needs
 returns : tie.Need-returns
 returns c = search field-here
 
+nowhere-requires : tie.Need-nowhere-requires
+nowhere-requires c κs = search needs
+
 returns-2 : tie.Need-returns-2
 returns-2 c = search field-none
 
 pub field-spec : {M : Type 1} → statement M
-field-spec = tie.close (tie.spec byte-requires add-number number-requires returns returns-2)
+field-spec = tie.close (tie.spec byte-requires add-number number-requires returns nowhere-requires returns-2)

@@ -14,8 +14,11 @@ add-result c = omega (arith, byte-inside _ _ _ (c .before .byte .ensures) (omega
 returns : tie.Need-returns
 returns c = search end-here
 
+nowhere-requires : tie.Need-nowhere-requires
+nowhere-requires c κs = search needs
+
 returns-2 : tie.Need-returns-2
 returns-2 c = search end-none
 
 pub line-end-spec : {M : Type 1} → statement M
-line-end-spec = tie.close (tie.spec byte-requires add-result returns returns-2)
+line-end-spec = tie.close (tie.spec byte-requires add-result returns nowhere-requires returns-2)

@@ -8,6 +8,9 @@ use Rattle.script.proofs.number.Tie as tie
 digit-requires : tie.Need-digit-requires
 digit-requires c κs = search needs
 
+nowhere-requires : tie.Need-nowhere-requires
+nowhere-requires c κs = search needs
+
 returns : tie.Need-returns
 returns c = search number-none
 
@@ -29,4 +32,4 @@ returns-3 c = search number-digits
 pub number-spec : {M : Type 1} → statement M
 number-spec =
     tie.close
-    (tie.spec digit-requires returns add-t6 returns-2 add-digits digits-requires returns-3)
+    (tie.spec digit-requires nowhere-requires returns add-t6 returns-2 add-digits digits-requires returns-3)

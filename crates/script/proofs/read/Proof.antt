@@ -14,6 +14,9 @@ returns c = search read-long
 contents-line-requires : tie.Need-contents-line-requires
 contents-line-requires c κs = search needs
 
+nowhere-requires : tie.Need-nowhere-requires
+nowhere-requires c κs = search needs
+
 bad-at-requires-2 : tie.Need-bad-at-requires-2
 bad-at-requires-2 c κs = search needs
 
@@ -33,7 +36,7 @@ read-spec =
     bad-at-requires
     returns
     contents-line-requires
-    bad-at-requires-2
+    nowhere-requires bad-at-requires-2
     returns-2
     bodies-requires
     returns-3)

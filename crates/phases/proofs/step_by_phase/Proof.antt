@@ -1,8 +1,8 @@
--- `claims::step_by_phase` meets its promise.
-use Rattle.claims.proofs.Ways.{step-idle, step-one, step-two, step-three, step-four, step-five, step-six, step-none}
+-- `phases::step_by_phase` meets its promise.
+use Rattle.phases.proofs.Ways.{step-idle, step-one, step-two, step-three, step-four, step-five, step-six, step-none}
 use borrow.Author.Needs.{needs}
-use Rattle.claims.proofs.step_by_phase.Statement.{statement}
-use Rattle.claims.proofs.step_by_phase.Tie as tie
+use Rattle.phases.proofs.step_by_phase.Statement.{statement}
+use Rattle.phases.proofs.step_by_phase.Tie as tie
 
 seat-word-requires : tie.Need-seat-word-requires
 seat-word-requires c κs = search needs

@@ -1,8 +1,8 @@
--- `claims::step_withdrawn` meets its promise.
-use Rattle.claims.proofs.Ways.{refetch-none, refetch-node}
+-- `phases::step_withdrawn` meets its promise.
+use Rattle.phases.proofs.Ways.{refetch-none, refetch-node}
 use borrow.Author.Needs.{needs}
-use Rattle.claims.proofs.step_withdrawn.Statement.{statement}
-use Rattle.claims.proofs.step_withdrawn.Tie as tie
+use Rattle.phases.proofs.step_withdrawn.Statement.{statement}
+use Rattle.phases.proofs.step_withdrawn.Tie as tie
 
 seat-word-requires : tie.Need-seat-word-requires
 seat-word-requires c κs = search needs

@@ -1,0 +1,11 @@
+-- What is left of a step once the tables and the seat's number are tested.
+use Prim.Native.Nat.{ℕ}
+use mathlib.Core.List.{[], _∷_}
+use Rattle.rules.specs.Notation.{_is_}
+use Rattle.rules.specs.Tables.{Tables, phase}
+use Rattle.rules.specs.Answers.{Answer, refused, Done, _when_, refusing}
+use Rattle.rules.specs.Steps.{stepByPhase}
+
+-- of step, past 2
+abbrev pub stepBusy : Tables → ℕ → Done Answer
+stepBusy t s = refusing refused ((6 when phase t s is 0) ∷ []) t (stepByPhase t s)
