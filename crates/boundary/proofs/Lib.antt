@@ -1,1 +1,3 @@
 pub mod Codes
+pub mod OneAnswer
+pub mod Told

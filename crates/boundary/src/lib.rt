@@ -196,6 +196,7 @@ fn read_into(bytes: &[u8], numbers: &mut [u32]) -> u64
 #[no_mangle]
 pub extern "C" fn soodhiqune_read(bytes: &[u8], numbers: &mut [u32; 5003]) -> u64
     ensures { λ r. ⌜ readAs (halvesOf r) (now (numbers .exit)) ≡ encodeScript (readScript (now (bytes .entry))) (now (numbers .entry)) ⌝ }
+    ensures { λ r. ⌜ length (now (numbers .exit)) ≡ 5003 ⌝ }
 {
     read_into(bytes, numbers)
 }
