@@ -14,7 +14,7 @@ use native.Mathlib.Omega.{arith}
 use Rattle.rules.specs.Tables.{Tables}
 use Rattle.rules.specs.Answers.{Answer, Done, done}
 use Rattle.rules.specs.FreeCount.{Counted}
-use Rattle.rules.specs.Board.{Boarded, Shown, shown}
+use Rattle.rules.specs.Board.{Shown, shown}
 use Rattle.rules.specs.Means.{means, meansCount, meansBoard}
 use Rattle.rules.specs.declared.Reply.{Reply}
 use Rattle.rules.specs.declared.Reply.the-variants.{Node, Out, On, Wait, Held, Back, Refused}
@@ -24,7 +24,7 @@ use Rattle.rules.specs.declared.BoardReply.{BoardReply}
 use Rattle.rules.specs.declared.BoardReply.the-variants.{Rows, Refused as BoardRefused}
 use Rattle.rules.specs.declared.Ran.{Ran}
 use Rattle.replies.specs.Codes.{codeOf, numberOf}
-use Rattle.boundary.specs.Encoded.{Halves, halves, halvesOf, encode, encodeCount, encodeRan, encoded, encodedRun, Told, told, tellAnswer, tell, putLine, linesAfter, scriptNumbers, readAs, encodeScript}
+use Rattle.boundary.specs.Encoded.{Halves, halves, halvesOf, encode, encodeCount, encodeRan, encoded, encodedRun, told, tellAnswer, tell, putLine, linesAfter, scriptNumbers, readAs, encodeScript}
 
 -- ---- two halves
 pub joined-is : (a b : ℕ) → b < 4294967296 → halvesOf (4294967296 * a + b) ≡ halves a b
@@ -108,7 +108,7 @@ put-line-length : (l : List ℕ) (at : ℕ) (line : Line) → length (putLine l 
 unfolding putLine
 put-line-length l at line = simp length-set
 
-lines-length : (n : ℕ) (l : List ℕ) (rows : List Line) → length (linesAfter n l rows) ≡ length l
+pub lines-length : (n : ℕ) (l : List ℕ) (rows : List Line) → length (linesAfter n l rows) ≡ length l
 unfolding linesAfter
 lines-length zero l rows = refl
 lines-length (suc n) l rows = put-line-length (linesAfter n l rows) (3 + 5 * n) (getD rows n noLine) ∙ lines-length n l rows

@@ -2,7 +2,7 @@
 -- arguments are equal. It is the promise itself that is cited, as the checker reads it from the source.
 use Prim.Native.Nat.{ℕ}
 use mathlib.Core.List.{List}
-use mathlib.Core.Path.{_≡_, sym, ap, _∙_}
+use mathlib.Core.Path.{_≡_, ap}
 use native.Mathlib.Omega.{arith}
 use denote.Ref.{now}
 use Rattle.rules.specs.Tables.{Tables, tables}

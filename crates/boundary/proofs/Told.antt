@@ -2,7 +2,7 @@
 -- what the definition gives. Nothing is asked of a caller. It is the promise itself that is cited, as the checker reads it from the source.
 use Prim.Native.Nat.{ℕ}
 use mathlib.Core.List.{List}
-use mathlib.Core.Path.{_≡_, refl, sym, ap, _∙_}
+use mathlib.Core.Path.{_≡_, refl, ap, _∙_}
 use borrow.Fn.Kinds.{PK, RK, Out as Promise, Dens, resT, endedOf}
 use contract.Lifetimes.{Lfts}
 use denote.Ref.{now}
