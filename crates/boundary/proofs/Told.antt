@@ -2,7 +2,7 @@
 -- what the definition gives. Nothing is asked of a caller. It is the promise itself that is cited, as the checker reads it from the source.
 use Prim.Native.Nat.{ℕ}
 use mathlib.Core.List.{List}
-use mathlib.Core.Path.{_≡_, refl, ap, _∙_}
+use mathlib.Core.Path.{_≡_, refl, sym, ap, _∙_}
 use borrow.Fn.Kinds.{PK, RK, Out as Promise, Dens, resT, endedOf}
 use contract.Lifetimes.{Lfts}
 use denote.Ref.{now}
@@ -48,6 +48,10 @@ answer-back (wait n) = refl
 answer-back held = refl
 answer-back back = refl
 answer-back (refused number) = refl
+
+-- so two different answers never give one number
+pub answers-apart : (a b : Answer) → encode a ≡ encode b → a ≡ b
+answers-apart a b e = sym (answer-back a) ∙ ap decode e ∙ answer-back b
 
 pub count-back : (c : Counted) → decodeCount (encodeCount c) ≡ c
 count-back (Counted.counted n) = refl

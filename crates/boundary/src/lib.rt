@@ -13,7 +13,7 @@ ghost use Rattle.rules.specs.FreeCount.{freeCount};
 ghost use Rattle.rules.specs.Run as running;
 ghost use Rattle.rules.specs.Board.{boardNumbers};
 ghost use Rattle.rules.specs.Play.{play as Play·play};
-ghost use Rattle.boundary.specs.Encoded.{halves, halvesOf, encode, encodeCount, encodeRan, encoded, encodedRun, told, tell, putLine, linesAfter, scriptNumbers, readAs, encodeScript};
+ghost use Rattle.boundary.specs.Encoded.{halves, halvesOf, encode, encodeCount, encoded, encodedRun, told, tell, putLine, linesAfter, scriptNumbers, readAs, encodeScript};
 use rules::BoardReply;
 use rules::CountReply;
 use rules::Line;
@@ -44,12 +44,6 @@ fn number_of_count(reply: CountReply) -> u64
         CountReply::Refused(number) => joined(0, number),
         CountReply::Count(n) => joined(1, n),
     }
-}
-
-fn number_of_run(ran: Ran) -> u64
-    ensures { λ r. ⌜ halvesOf r ≡ encodeRan ran ⌝ }
-{
-    joined(ran.refusal, ran.steps)
 }
 
 // ---- the calls
@@ -111,7 +105,7 @@ pub extern "C" fn soodhiqune_run(
     ensures { λ r. ⌜ done (halvesOf r) (tables (now (nodes .exit)) (now (seats .exit))) ≡ encodedRun (running.run (tables (now (nodes .entry)) (now (seats .entry))) (now (schedule .entry)) budget) ⌝ }
 {
     let ran = run::run(nodes, seats, schedule, budget);
-    number_of_run(ran)
+    joined(ran.refusal, ran.steps)
 }
 
 #[no_mangle]
@@ -193,6 +187,7 @@ fn read_into(bytes: &[u8], numbers: &mut [u32]) -> u64
     joined(refusal, script.wrong)
 }
 
+// The length is promised so that the promise alone tells the script (proofs/ScriptTold.antt).
 #[no_mangle]
 pub extern "C" fn soodhiqune_read(bytes: &[u8], numbers: &mut [u32; 5003]) -> u64
     ensures { λ r. ⌜ readAs (halvesOf r) (now (numbers .exit)) ≡ encodeScript (readScript (now (bytes .entry))) (now (numbers .entry)) ⌝ }
