@@ -1,5 +1,5 @@
 -- What each call gives as a number, from what it gives as a value: one law for each way through the code.
-use Prim.Native.Nat.{ℕ, zero, suc, _+_, _*_, _≤_}
+use Prim.Native.Nat.{ℕ, zero, suc, _+_, _*_, _/_, _%_, _≤_, _<_}
 use mathlib.Core.Logic.{_≢_}
 use native.Mathlib.Numerals.{add-one}
 use lib.ListN.{getD, set, length, length-set}
@@ -14,61 +14,67 @@ use native.Mathlib.Omega.{arith}
 use Rattle.rules.specs.Tables.{Tables}
 use Rattle.rules.specs.Answers.{Answer, Done, done}
 use Rattle.rules.specs.FreeCount.{Counted}
-use Rattle.rules.specs.Board.{Boarded, Shown, shown}
+use Rattle.rules.specs.Board.{Shown, shown}
 use Rattle.rules.specs.Means.{means, meansCount, meansBoard}
 use Rattle.rules.specs.declared.Reply.{Reply}
 use Rattle.rules.specs.declared.Reply.the-variants.{Node, Out, On, Wait, Held, Back, Refused}
 use Rattle.rules.specs.declared.CountReply.{CountReply}
-use Rattle.rules.specs.declared.CountReply.the-variants.{Count}
+use Rattle.rules.specs.declared.CountReply.the-variants.{Count, Refused as CountRefused}
 use Rattle.rules.specs.declared.BoardReply.{BoardReply}
 use Rattle.rules.specs.declared.BoardReply.the-variants.{Rows, Refused as BoardRefused}
 use Rattle.rules.specs.declared.Ran.{Ran}
 use Rattle.replies.specs.Codes.{codeOf, numberOf}
-use Rattle.boundary.specs.Encoded.{upper, encode, encodeCount, encodeRan, encoded, encodedRun, Told, told, tellAnswer, tell, putLine, linesAfter, scriptNumbers, readAs, encodeScript}
+use Rattle.boundary.specs.Encoded.{Halves, halves, halvesOf, encode, encodeCount, encodeRan, encoded, encodedRun, told, tellAnswer, tell, putLine, linesAfter, scriptNumbers, readAs, encodeScript}
+
+-- ---- two halves
+pub joined-is : (a b : ℕ) → b < 4294967296 → halvesOf (4294967296 * a + b) ≡ halves a b
+unfolding halvesOf
+joined-is a b h =
+    let upper : (4294967296 * a + b) / 4294967296 ≡ a = omega arith in
+    let lower : (4294967296 * a + b) % 4294967296 ≡ b = omega arith in
+    rw (upper, lower)
+
+pub none-is : halvesOf 0 ≡ halves 0 0
+unfolding halvesOf
+none-is = refl
 
 -- ---- an answer
-pub few-codes : (r : Reply) (code : ℕ) → code ≡ codeOf r → code ≤ 6
-few-codes (Node n) code e = omega arith
-few-codes Out code e = omega arith
-few-codes On code e = omega arith
-few-codes (Wait n) code e = omega arith
-few-codes Held code e = omega arith
-few-codes Back code e = omega arith
-few-codes (Refused number) code e = omega arith
-
-by-code : (r : Reply) → upper * codeOf r + numberOf r ≡ encode (means r)
+by-code : (r : Reply) → halves (codeOf r) (numberOf r) ≡ encode (means r)
 by-code (Node n) = refl
 by-code Out = refl
 by-code On = refl
 by-code (Wait n) = refl
 by-code Held = refl
 by-code Back = refl
-by-code (Refused number) = omega arith
+by-code (Refused number) = refl
 
-pub encoded-by : (r : Reply) (code number : ℕ) → number ≡ numberOf r → code ≡ codeOf r → 4294967296 * code + number ≡ encode (means r)
-encoded-by r code number p q = rw (p, q) (by-code r)
+pub encoded-by : (r : Reply) (h : Halves) (code number : ℕ) → h ≡ halves code number → number ≡ numberOf r → code ≡ codeOf r → h ≡ encode (means r)
+encoded-by r h code number e p q = e ∙ rw (p, q) (by-code r)
 
-pub encoded-is : (d : Done Answer) (r : Reply) (t : Tables) (n : ℕ) → n ≡ encode (means r) → done (means r) t ≡ d → done n t ≡ encoded d
-encoded-is d r t n p q = rw (p, ← q)
+pub encoded-is : (d : Done Answer) (r : Reply) (t : Tables) (h : Halves) → h ≡ encode (means r) → done (means r) t ≡ d → done h t ≡ encoded d
+encoded-is d r t h p q = rw (p, ← q)
 
 -- ---- the other answers
-pub count-is : (r : CountReply) (k n : ℕ) → n ≡ 4294967296 + k → r ≡ Count k → n ≡ encodeCount (meansCount r)
-count-is r k n p q = rw (q, p)
+pub count-is : (r : CountReply) (k : ℕ) (h : Halves) → h ≡ halves 1 k → r ≡ Count k → h ≡ encodeCount (meansCount r)
+count-is r k h p q = rw (q, p)
 
-pub counted-is : (d : Counted) (r : CountReply) (n : ℕ) → n ≡ encodeCount (meansCount r) → meansCount r ≡ d → n ≡ encodeCount d
-counted-is d r n p q = rw (p, q)
+pub count-refused-is : (r : CountReply) (number : ℕ) (h : Halves) → h ≡ halves 0 number → r ≡ CountRefused number → h ≡ encodeCount (meansCount r)
+count-refused-is r number h p q = rw (q, p)
 
-pub run-is : (d : Done Ran) (r : Ran) (t : Tables) (n : ℕ) → n ≡ encodeRan r → done r t ≡ d → done n t ≡ encodedRun d
-run-is d r t n p q = rw (p, ← q)
+pub counted-is : (d : Counted) (r : CountReply) (h : Halves) → h ≡ encodeCount (meansCount r) → meansCount r ≡ d → h ≡ encodeCount d
+counted-is d r h p q = rw (p, q)
+
+pub run-is : (d : Done Ran) (r : Ran) (t : Tables) (h : Halves) → h ≡ encodeRan r → done r t ≡ d → done h t ≡ encodedRun d
+run-is d r t h p q = rw (p, ← q)
 
 module _ (d : Shown ℕ) (r : BoardReply) (rows : List ℕ) (covered : ℕ) (isShown : shown (meansBoard r) rows ≡ d) where
-  pub told-rows : (count frames n : ℕ) → n ≡ 4294967296 + count → r ≡ Rows count frames → told n frames rows ≡ tell covered d
+  pub told-rows : (count frames : ℕ) (h : Halves) → h ≡ halves 1 count → r ≡ Rows count frames → told h frames rows ≡ tell covered d
   unfolding tellAnswer
-  told-rows count frames n p q = rw (← isShown, q, p)
+  told-rows count frames h p q = rw (← isShown, q, p)
 
-  pub told-refused : (number : ℕ) → r ≡ BoardRefused number → told number covered rows ≡ tell covered d
+  pub told-refused : (number : ℕ) (h : Halves) → h ≡ halves 0 number → r ≡ BoardRefused number → told h covered rows ≡ tell covered d
   unfolding tellAnswer
-  told-refused number q = rw (← isShown, q)
+  told-refused number h p q = rw (← isShown, q, p)
 
 -- ---- script reading
 lines-more : (l : List ℕ) (rows : List Line) (n : ℕ) → linesAfter (n + 1) l rows ≡ putLine (linesAfter n l rows) (3 + 5 * n) (getD rows n noLine)
@@ -90,19 +96,19 @@ module _ (script : Script) (lent : List ℕ) where
   unfolding scriptNumbers
   script-is m p = p
 
-  pub read-good : (read : Script) (m : List ℕ) → m ≡ scriptNumbers script lent → script ≡ read → script .refusal ≡ 0 → readAs 0 m ≡ encodeScript read lent
+  pub read-good : (read : Script) (m : List ℕ) → m ≡ scriptNumbers script lent → script ≡ read → script .refusal ≡ 0 → readAs (halvesOf 0) m ≡ encodeScript read lent
   unfolding encodeScript scriptNumbers
-  read-good read m p q e = rw (← q, e) (ap (readAs 0) p)
+  read-good read m p q e = rw (← q, e, none-is) (ap (readAs (halves 0 0)) p)
 
-  pub read-bad : (read : Script) → script ≡ read → script .refusal ≢ 0 → readAs (4294967296 * script .refusal + script .wrong) lent ≡ encodeScript read lent
+  pub read-bad : (read : Script) (h : Halves) → h ≡ halves (script .refusal) (script .wrong) → script ≡ read → script .refusal ≢ 0 → readAs h lent ≡ encodeScript read lent
   unfolding encodeScript
-  read-bad read q d = rw (← q, ne-eqb (script .refusal) 0 d)
+  read-bad read h p q d = rw (← q, ne-eqb (script .refusal) 0 d, p)
 
 put-line-length : (l : List ℕ) (at : ℕ) (line : Line) → length (putLine l at line) ≡ length l
 unfolding putLine
 put-line-length l at line = simp length-set
 
-lines-length : (n : ℕ) (l : List ℕ) (rows : List Line) → length (linesAfter n l rows) ≡ length l
+pub lines-length : (n : ℕ) (l : List ℕ) (rows : List Line) → length (linesAfter n l rows) ≡ length l
 unfolding linesAfter
 lines-length zero l rows = refl
 lines-length (suc n) l rows = put-line-length (linesAfter n l rows) (3 + 5 * n) (getD rows n noLine) ∙ lines-length n l rows

@@ -1,1 +1,4 @@
 pub mod Codes
+pub mod OneAnswer
+pub mod Told
+pub mod ScriptTold

@@ -1,9 +1,9 @@
--- An answer as one number: what kind of answer in the upper 32 bits, its number in the lower. A refusal is its own number.
-use Prim.Native.Nat.{ℕ, zero, suc, _+_, _*_}
+-- An answer as one number: what kind of answer in the upper 32 bits, its number in the lower. The promises speak of the two halves, so
+-- that no two answers are one number, however large theirs are. A refusal is its own number.
+use Prim.Native.Nat.{ℕ, zero, suc, _+_, _*_, _/_, _%_}
 use mathlib.Core.List.{List}
 use lib.ListN.{getD, set}
 use Rattle.rules.specs.Notation.{if_then_else_, _is_}
-use Rattle.rules.specs.Tables.{Tables}
 use Rattle.rules.specs.Answers.{Answer, node, out, on, wait, held, back, refused, Done, done}
 use Rattle.rules.specs.FreeCount.{Counted}
 use Rattle.rules.specs.Board.{Boarded, Shown}
@@ -12,45 +12,52 @@ use Rattle.rules.specs.declared.Ran.{Ran}
 use Rattle.rules.specs.declared.Line.{Line}
 use Rattle.rules.specs.declared.Script.{Script}
 
--- 2³²
-abbrev pub upper : ℕ
-upper = 4294967296
+pub record Halves : Type 0 where
+  pub upper : ℕ
+  pub lower : ℕ
 
-abbrev pub encode : Answer → ℕ
-encode (refused number) = number
-encode (node n) = upper + n
-encode out = 2 * upper
-encode on = 3 * upper
-encode (wait n) = 4 * upper + n
-encode held = 5 * upper
-encode back = 6 * upper
+abbrev pub halves : ℕ → ℕ → Halves
+halves upper lower = record { upper = upper; lower = lower }
 
-abbrev pub encodeCount : Counted → ℕ
-encodeCount (Counted.refused number) = number
-encodeCount (Counted.counted n) = upper + n
+-- the upper 32 bits of a number, and the lower
+unfoldable pub halvesOf : ℕ → Halves
+halvesOf number = halves (number / 4294967296) (number % 4294967296)
+
+abbrev pub encode : Answer → Halves
+encode (refused number) = halves 0 number
+encode (node n) = halves 1 n
+encode out = halves 2 0
+encode on = halves 3 0
+encode (wait n) = halves 4 n
+encode held = halves 5 0
+encode back = halves 6 0
+
+abbrev pub encodeCount : Counted → Halves
+encodeCount (Counted.refused number) = halves 0 number
+encodeCount (Counted.counted n) = halves 1 n
 
 -- the refusal above, the steps below
-abbrev pub encodeRan : Ran → ℕ
-encodeRan ran = upper * ran .refusal + ran .steps
+abbrev pub encodeRan : Ran → Halves
+encodeRan ran = halves (ran .refusal) (ran .steps)
 
-abbrev pub encoded : Done Answer → Done ℕ
+abbrev pub encoded : Done Answer → Done Halves
 encoded d = done (encode (d .answer)) (d .after)
 
-abbrev pub encodedRun : Done Ran → Done ℕ
+abbrev pub encodedRun : Done Ran → Done Halves
 encodedRun d = done (encodeRan (d .answer)) (d .after)
 
 -- ---- the board: a number, the word for the covered frames, and the rows. A refusal leaves that word as found
 pub record Told : Type 0 where
-  pub number : ℕ
+  pub number : Halves
   pub covered : ℕ
   pub board : List ℕ
 
-abbrev pub told : ℕ → ℕ → List ℕ → Told
+abbrev pub told : Halves → ℕ → List ℕ → Told
 told number covered board = record { number = number; covered = covered; board = board }
 
 unfoldable pub tellAnswer : ℕ → Boarded → List ℕ → Told
-tellAnswer covered (Boarded.filled count frames) board = told (upper + count) frames board
-tellAnswer covered (Boarded.refused number) board = told number covered board
+tellAnswer covered (Boarded.filled count frames) board = told (halves 1 count) frames board
+tellAnswer covered (Boarded.refused number) board = told (halves 0 number) covered board
 
 abbrev pub tell : ℕ → Shown ℕ → Told
 tell covered shown = tellAnswer covered (shown .answer) (shown .board)
@@ -58,10 +65,10 @@ tell covered shown = tellAnswer covered (shown .answer) (shown .board)
 -- ---- script reading: N, S, K, then for each of the 1,000 rows its code and four numbers; or the refusal above and the line below, the
 -- numbers as found
 pub record ReadAs : Type 0 where
-  pub number : ℕ
+  pub number : Halves
   pub numbers : List ℕ
 
-abbrev pub readAs : ℕ → List ℕ → ReadAs
+abbrev pub readAs : Halves → List ℕ → ReadAs
 readAs number numbers = record { number = number; numbers = numbers }
 
 unfoldable pub putLine : List ℕ → ℕ → Line → List ℕ
@@ -77,5 +84,5 @@ scriptNumbers script lent = linesAfter 1000 (set (set (set lent 0 (script .n)) 1
 
 unfoldable pub encodeScript : Script → List ℕ → ReadAs
 encodeScript script lent =
-    if script .refusal is 0 then readAs 0 (scriptNumbers script lent)
-    else readAs (upper * script .refusal + script .wrong) lent
+    if script .refusal is 0 then readAs (halves 0 0) (scriptNumbers script lent)
+    else readAs (halves (script .refusal) (script .wrong)) lent

@@ -13,7 +13,7 @@ ghost use Rattle.rules.specs.FreeCount.{freeCount};
 ghost use Rattle.rules.specs.Run as running;
 ghost use Rattle.rules.specs.Board.{boardNumbers};
 ghost use Rattle.rules.specs.Play.{play as Play·play};
-ghost use Rattle.boundary.specs.Encoded.{encode, encodeCount, encodeRan, encoded, encodedRun, told, tell, putLine, linesAfter, scriptNumbers, readAs, encodeScript};
+ghost use Rattle.boundary.specs.Encoded.{halves, halvesOf, encode, encodeCount, encoded, encodedRun, told, tell, putLine, linesAfter, scriptNumbers, readAs, encodeScript};
 use rules::BoardReply;
 use rules::CountReply;
 use rules::Line;
@@ -23,36 +23,27 @@ use rules::Script;
 
 // ---- answers as numbers
 
+fn joined(upper: u32, lower: u32) -> u64
+    ensures { λ r. ⌜ halvesOf r ≡ halves upper lower ⌝ }
+{
+    4294967296 * upper as u64 + lower as u64
+}
+
 fn number_of(reply: Reply) -> u64
-    ensures { λ r. ⌜ r ≡ encode (means reply) ⌝ }
+    ensures { λ r. ⌜ halvesOf r ≡ encode (means reply) ⌝ }
 {
     let code = replies::code_of(reply);
     let number = replies::number_of(reply);
-    4294967296 * code as u64 + number as u64
-}
-
-// kept apart, so that its number is a parameter
-fn accepted(n: u32) -> u64
-    ensures { λ r. ⌜ r ≡ 4294967296 + n ⌝ }
-{
-    4294967296 + n as u64
+    joined(code, number)
 }
 
 fn number_of_count(reply: CountReply) -> u64
-    ensures { λ r. ⌜ r ≡ encodeCount (meansCount reply) ⌝ }
+    ensures { λ r. ⌜ halvesOf r ≡ encodeCount (meansCount reply) ⌝ }
 {
     match reply {
-        CountReply::Refused(number) => number as u64,
-        CountReply::Count(n) => accepted(n),
+        CountReply::Refused(number) => joined(0, number),
+        CountReply::Count(n) => joined(1, n),
     }
-}
-
-fn number_of_run(ran: Ran) -> u64
-    ensures { λ r. ⌜ r ≡ encodeRan ran ⌝ }
-{
-    let steps = ran.steps as u64;
-    let refusal = ran.refusal as u64;
-    4294967296 * refusal + steps
 }
 
 // ---- the calls
@@ -74,7 +65,7 @@ pub extern "C" fn soodhiqune_begin(
     end: u32,
     kind: u32,
 ) -> u64
-    ensures { λ r. ⌜ done r (tables (now (nodes .exit)) (now (seats .exit))) ≡ encoded (call.begin (tables (now (nodes .entry)) (now (seats .entry))) seat (claim start end kind)) ⌝ }
+    ensures { λ r. ⌜ done (halvesOf r) (tables (now (nodes .exit)) (now (seats .exit))) ≡ encoded (call.begin (tables (now (nodes .entry)) (now (seats .entry))) seat (claim start end kind)) ⌝ }
 {
     let reply = claims::begin(nodes, seats, seat, start, end, kind);
     number_of(reply)
@@ -82,7 +73,7 @@ pub extern "C" fn soodhiqune_begin(
 
 #[no_mangle]
 pub extern "C" fn soodhiqune_step(nodes: &mut [u32], seats: &mut [u32], seat: u32) -> u64
-    ensures { λ r. ⌜ done r (tables (now (nodes .exit)) (now (seats .exit))) ≡ encoded (call.step (tables (now (nodes .entry)) (now (seats .entry))) seat) ⌝ }
+    ensures { λ r. ⌜ done (halvesOf r) (tables (now (nodes .exit)) (now (seats .exit))) ≡ encoded (call.step (tables (now (nodes .entry)) (now (seats .entry))) seat) ⌝ }
 {
     let reply = claims::step(nodes, seats, seat);
     number_of(reply)
@@ -90,7 +81,7 @@ pub extern "C" fn soodhiqune_step(nodes: &mut [u32], seats: &mut [u32], seat: u3
 
 #[no_mangle]
 pub extern "C" fn soodhiqune_release(nodes: &mut [u32], seats: &mut [u32], seat: u32) -> u64
-    ensures { λ r. ⌜ done r (tables (now (nodes .exit)) (now (seats .exit))) ≡ encoded (call.release (tables (now (nodes .entry)) (now (seats .entry))) seat) ⌝ }
+    ensures { λ r. ⌜ done (halvesOf r) (tables (now (nodes .exit)) (now (seats .exit))) ≡ encoded (call.release (tables (now (nodes .entry)) (now (seats .entry))) seat) ⌝ }
 {
     let reply = claims::release(nodes, seats, seat);
     number_of(reply)
@@ -98,7 +89,7 @@ pub extern "C" fn soodhiqune_release(nodes: &mut [u32], seats: &mut [u32], seat:
 
 #[no_mangle]
 pub extern "C" fn soodhiqune_free_count(nodes: &[u32], seats: &[u32]) -> u64
-    ensures { λ r. ⌜ r ≡ encodeCount (freeCount (tables (now (nodes .entry)) (now (seats .entry)))) ⌝ }
+    ensures { λ r. ⌜ halvesOf r ≡ encodeCount (freeCount (tables (now (nodes .entry)) (now (seats .entry)))) ⌝ }
 {
     let reply = claims::free_count(nodes, seats);
     number_of_count(reply)
@@ -111,10 +102,10 @@ pub extern "C" fn soodhiqune_run(
     schedule: &[u32],
     budget: u32,
 ) -> u64
-    ensures { λ r. ⌜ done r (tables (now (nodes .exit)) (now (seats .exit))) ≡ encodedRun (running.run (tables (now (nodes .entry)) (now (seats .entry))) (now (schedule .entry)) budget) ⌝ }
+    ensures { λ r. ⌜ done (halvesOf r) (tables (now (nodes .exit)) (now (seats .exit))) ≡ encodedRun (running.run (tables (now (nodes .entry)) (now (seats .entry))) (now (schedule .entry)) budget) ⌝ }
 {
     let ran = run::run(nodes, seats, schedule, budget);
-    number_of_run(ran)
+    joined(ran.refusal, ran.steps)
 }
 
 #[no_mangle]
@@ -124,15 +115,15 @@ pub extern "C" fn soodhiqune_board(
     rows: &mut [u32],
     covered: &mut u64,
 ) -> u64
-    ensures { λ r. ⌜ told r (now (covered .exit)) (now (rows .exit)) ≡ tell (now (covered .entry)) (boardNumbers (tables (now (nodes .entry)) (now (seats .entry))) (now (rows .entry))) ⌝ }
+    ensures { λ r. ⌜ told (halvesOf r) (now (covered .exit)) (now (rows .exit)) ≡ tell (now (covered .entry)) (boardNumbers (tables (now (nodes .entry)) (now (seats .entry))) (now (rows .entry))) ⌝ }
 {
     let reply = board::board(nodes, seats, rows);
     match reply {
         BoardReply::Rows(count, frames) => {
             *covered = frames;
-            accepted(count)
+            joined(1, count)
         }
-        BoardReply::Refused(number) => number as u64,
+        BoardReply::Refused(number) => joined(0, number),
     }
 }
 
@@ -141,6 +132,7 @@ pub extern "C" fn soodhiqune_board(
 pub extern "C" fn soodhiqune_play(script: &[u8], out: &mut [u8; 32768]) -> u64
     ensures { λ r. ⌜ take r (now (out .exit)) ≡ Play·play (now (script .entry)) ⌝ }
     ensures { λ r. ⌜ drop r (now (out .exit)) ≡ drop r (now (out .entry)) ⌝ }
+    ensures { λ r. ⌜ (r ≤ 26986) × (r ≡ length (take r (now (out .exit)))) ⌝ }
 {
     playing::play(script, out) as u64
 }
@@ -184,7 +176,7 @@ fn put_script(numbers: &mut [u32], script: Script)
 
 fn read_into(bytes: &[u8], numbers: &mut [u32]) -> u64
     requires { ⌜ length (now numbers) ≡ 5003 ⌝ }
-    ensures { λ r. ⌜ readAs r (now (numbers .exit)) ≡ encodeScript (readScript (now (bytes .entry))) (now (numbers .entry)) ⌝ }
+    ensures { λ r. ⌜ readAs (halvesOf r) (now (numbers .exit)) ≡ encodeScript (readScript (now (bytes .entry))) (now (numbers .entry)) ⌝ }
 {
     let script = script::read(bytes);
     let refusal = script.refusal;
@@ -192,12 +184,14 @@ fn read_into(bytes: &[u8], numbers: &mut [u32]) -> u64
         put_script(numbers, script);
         return 0;
     }
-    4294967296 * refusal as u64 + script.wrong as u64
+    joined(refusal, script.wrong)
 }
 
+// The length is promised so that the promise alone tells the script (proofs/ScriptTold.antt).
 #[no_mangle]
 pub extern "C" fn soodhiqune_read(bytes: &[u8], numbers: &mut [u32; 5003]) -> u64
-    ensures { λ r. ⌜ readAs r (now (numbers .exit)) ≡ encodeScript (readScript (now (bytes .entry))) (now (numbers .entry)) ⌝ }
+    ensures { λ r. ⌜ readAs (halvesOf r) (now (numbers .exit)) ≡ encodeScript (readScript (now (bytes .entry))) (now (numbers .entry)) ⌝ }
+    ensures { λ r. ⌜ length (now (numbers .exit)) ≡ 5003 ⌝ }
 {
     read_into(bytes, numbers)
 }

@@ -10,16 +10,15 @@ use Rattle.playing.proofs.play.Reads as play
 use Rattle.playing.proofs.play.Kinds as kinds
 
 -- a count and a buffer are given by what stands before the count and what stands from it on
-one-count : (text m n : List ℕ) (a b : ℕ) → take a m ≡ text → take b n ≡ text → a ≡ length (take a m) → b ≡ length (take b n) → a ≡ b
-one-count text m n a b p q c d = one-value (c ∙ ap length p) (d ∙ ap length q)
-
 split-is : (text rest m : List ℕ) (a : ℕ) → take a m ≡ text → drop a m ≡ rest → m ≡ text ++ rest
 split-is text rest m a p r = rw (← p, ← r) (sym (take-append-drop a m))
 
-one-buffer : (text l m n : List ℕ) (a b : ℕ) → a ≡ b → take a m ≡ text → take b n ≡ text → drop a m ≡ drop a l → drop b n ≡ drop b l → m ≡ n
-one-buffer text l m n a b e p q r s = one-value (split-is text (drop b l) m a p (rw (← e) r)) (split-is text (drop b l) n b q s)
+module _ (text l m n : List ℕ) (a b : ℕ) (p : take a m ≡ text) (q : take b n ≡ text) (c : a ≡ length (take a m)) (d : b ≡ length (take b n)) where
+  one-length : a ≡ b
+  one-length = one-value (c ∙ ap length p) (d ∙ ap length q)
+
+  pub one-text : drop a m ≡ drop a l → drop b n ≡ drop b l → (a ≡ b) × (m ≡ n)
+  one-text r s = (one-length, one-value (split-is text (drop b l) m a p (rw (← one-length) r)) (split-is text (drop b l) n b q s))
 
 pub one-playing : Settles kinds.ps kinds.r play.Post (λ κs s. now (s .1 .0))
-one-playing κs args a b s t p q =
-    let e : a ≡ b = one-count _ _ _ a b (p .0) (q .0) (p .1 .1 .1) (q .1 .1 .1) in
-    (e, one-buffer _ _ _ _ a b e (p .0) (q .0) (p .1 .0) (q .1 .0))
+one-playing κs args a b s t p q = one-text _ _ _ _ a b (p .0) (q .0) (p .1 .1 .0 .1) (q .1 .1 .0 .1) (p .1 .0) (q .1 .0)

