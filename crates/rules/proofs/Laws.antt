@@ -12,4 +12,5 @@ pub mod Refused
 pub mod AnswersByPhase
 pub mod RunSteps
 pub mod BoardNumbers
+pub mod ScriptRefused
 pub mod OneAnswer

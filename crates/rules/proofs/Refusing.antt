@@ -11,10 +11,12 @@ use Rattle.rules.specs.Calls.{clear}
 use Rattle.rules.specs.FreeCount.{Counted, freeCount}
 use Rattle.rules.specs.Run.{ran, run}
 use Rattle.rules.specs.Board.{Boarded, shown, board, rowWidth, boardNumbers}
+use Rattle.rules.specs.Script.{badAt, readScript}
 use Rattle.rules.specs.Play.{Call, call}
-use Rattle.rules.specs.Refusing.{Refuses, ClearRefuses, DamageRefuses, BoardRefuses}
+use Rattle.rules.specs.Refusing.{Refuses, ClearRefuses, DamageRefuses, BoardRefuses, ScriptRefuses}
 use Rattle.rules.specs.declared.Row.{Row}
 use Rattle.rules.proofs.Laws.RunSteps.{damaged-run-refused}
+use Rattle.rules.proofs.Laws.ScriptRefused.{script-by-table, script-refused}
 use Rattle.rules.proofs.Rules.RefusedExactly as exact
 
 -- ---- begin, step and release are refused only as the table says
@@ -58,3 +60,10 @@ numbers-only = exact.numbers-by-table
 
 pub numbers-there : (t : Tables) (lent : List ℕ) (k : ℕ) → BoardRefuses t (length lent / rowWidth) k → boardNumbers t lent ≡ shown (Boarded.refused k) lent
 numbers-there = exact.numbers-refused
+
+-- ---- script reading: a refusal is 10, with the first wrong line, and then nothing else is told
+pub script-only : (src : List ℕ) → readScript src .refusal ≢ 0 → (readScript src .refusal ≡ 10) × ScriptRefuses src (readScript src .wrong)
+script-only = script-by-table
+
+pub script-there : (src : List ℕ) (wrong : ℕ) → ScriptRefuses src wrong → readScript src ≡ badAt wrong
+script-there = script-refused

@@ -1,9 +1,10 @@
 -- The words in which demand 1 is stated: of each call, its refusals and when each is met, by what the lent tables and the numbers are. Every
 -- case also says that none before it was met, so the order of the refusals stands here a second time, apart from the lists of tests in
 -- Calls, Run, Board and Script. proofs/Refusing.antt says that the calls refuse exactly so, and that a refused call changes nothing.
-use Prim.Native.Nat.{ℕ, _≤_, _<_}
+use Prim.Native.Nat.{ℕ, suc, _+_, _≤_, _<_}
 use mathlib.Core.Path.{_≡_}
 use mathlib.Core.Bool.{true, false}
+use mathlib.Core.List.{List}
 use mathlib.Core.Logic.{_≢_, _⊎_}
 use lib.ListN.{length}
 use Rattle.rules.specs.Tables.{Tables, seatCount, phase}
@@ -12,6 +13,7 @@ use Rattle.rules.specs.Shape.{lengthsFit, sound}
 use Rattle.rules.specs.Reach.{lowestFree}
 use Rattle.rules.specs.Fetch.{takenOut}
 use Rattle.rules.specs.Board.{holders}
+use Rattle.rules.specs.Script.{nowhere, contentsOf, bodyAt}
 use Rattle.rules.specs.Play.{Call, beginCall, stepCall, releaseCall, seatOf}
 
 -- the tables are sound and have the seat
@@ -61,3 +63,17 @@ pub data DamageRefuses (t : Tables) : ℕ → Type 0 where
 pub data BoardRefuses (t : Tables) (rows : ℕ) : ℕ → Type 0 where
   board-damaged : sound t ≡ false → BoardRefuses t rows 1
   too-few-rows : sound t ≡ true → rows < length (holders t) → BoardRefuses t rows 9
+
+-- ---- script reading: "10: script not well formed", with the line
+-- line 1 and i bodies are read, and what comes next stands at this place
+pub data ReadTo (src : List ℕ) : ℕ → ℕ → Type 0 where
+  contents-read : contentsOf src .next ≢ nowhere src → ReadTo src 0 (contentsOf src .next)
+  body-read : {i at : ℕ} → ReadTo src i at → bodyAt src at .next ≢ nowhere src → ReadTo src (suc i) (bodyAt src at .next)
+
+-- "L the first wrong line from 1 (a missing line has the number it would have, an extra one K + 2), or `bad 0` if too long, which is looked at
+-- first"; body i, from 0, is line i + 2
+pub data ScriptRefuses (src : List ℕ) : ℕ → Type 0 where
+  too-long : 16384 < length src → ScriptRefuses src 0
+  contents-wrong : length src ≤ 16384 → contentsOf src .next ≡ nowhere src → ScriptRefuses src 1
+  body-wrong : length src ≤ 16384 → (i at : ℕ) → i < contentsOf src .k → ReadTo src i at → bodyAt src at .next ≡ nowhere src → ScriptRefuses src (i + 2)
+  more-follows : length src ≤ 16384 → (at : ℕ) → ReadTo src (contentsOf src .k) at → at ≢ length src → ScriptRefuses src (contentsOf src .k + 2)
