@@ -1,10 +1,11 @@
 -- The demands, of the library: what is proved of the rules, of the library's own promises. The words are those of Made and of the rules'
 -- specs/Refusing.antt, Apart.antt and Cause.antt; each proof cites what stands at the door of the rules' proofs.
-use Prim.Native.Nat.{ℕ, _+_, _*_}
+use Prim.Native.Nat.{ℕ, _+_, _*_, _≤_}
 use mathlib.Core.Path.{_≡_, sym, ap, subst, _∙_}
 use mathlib.Core.Bool.{true}
 use mathlib.Core.List.{List}
 use mathlib.Core.Logic.{_≢_, _⊎_}
+use lib.ListN.{replicate}
 use Rattle.rules.specs.Tables.{Tables, start, phase, own}
 use Rattle.rules.specs.Shape.{sound}
 use Rattle.rules.specs.Reach.{listOf}
@@ -100,3 +101,7 @@ module _ {N S : ℕ} {t : Tables} (l : Lent N S t) where
   last-step-tells s d m last =
       let e = made-call last in
       rw (ap (λ (d : Done Answer). d .answer) e, ap (λ (d : Done Answer). d .after) e, made-steps m) (cause.last-step-tells (lent-reached l) s d)
+
+  -- so does one run of as many entries of the seat, with a budget as large
+  pub run-settles : (s : ℕ) → phase t s ≢ 0 → {budget : ℕ} {r : Ran} {u : Tables} → 6 * N + 8 ≤ budget → RunMade t (replicate (6 * N + 8) s) budget r u → Settled u s
+  run-settles s d {budget} h m = rw (ap (λ (d : Done Ran). d .after) (made-run m)) (cause.run-settles (lent-reached l) s d budget h)
