@@ -29,7 +29,8 @@ static void check(const char *what, int holds)
 
 static int answers(uint64_t given, enum soodhiqune_answer answer, uint32_t node)
 {
-    return soodhiqune_refusal_of(given) == SOODHIQUNE_ACCEPTED && soodhiqune_answer_of(given) == answer && soodhiqune_node_of(given) == node;
+    return soodhiqune_refusal_of(given) == SOODHIQUNE_ACCEPTED && soodhiqune_answer_of(given) == answer &&
+           soodhiqune_node_of(given) == node;
 }
 
 static int refuses(uint64_t given, enum soodhiqune_refusal refusal)
