@@ -10,7 +10,7 @@
  *   addresses   of so many words or bytes, aligned as their type asks; no two of a call overlap. NULL will do where the length is 0
  *   threads     one call at a time on a pair of tables, save that board and free count only read. Nothing is kept between calls, so
  *               calls on different tables may be made at once
- *   stack       SOODHIQUNE_STACK_BYTES, and SOODHIQUNE_SCRIPT_STACK_BYTES for read and play; no call recurses
+ *   stack       SOODHIQUNE_STACK_BYTES, and SOODHIQUNE_SCRIPT_STACK_BYTES for read and play, whatever is lent
  * The library calls nothing but memset and memcpy. */
 #ifndef SOODHIQUNE_H
 #define SOODHIQUNE_H
@@ -36,7 +36,7 @@ extern "C" {
 #define SOODHIQUNE_PRINTED_BYTES 32768
 
 /* Room for the deepest stack seen, arguments and return address included: begin 432 bytes, step 480, run 544, every other call on tables
- * fewer; read 80,320 and play 86,624. tests/stack.c paints a stack, makes the calls on it, and fails if one needs more than is said here.
+ * fewer; read 80,704 and play 87,008. tests/stack.c paints a stack, makes the calls on it, and fails if one needs more than is said here.
  * The first use of memset or memcpy in a program may take more, while the C library finds it. */
 #define SOODHIQUNE_STACK_BYTES 1024
 #define SOODHIQUNE_SCRIPT_STACK_BYTES 98304

@@ -1,6 +1,7 @@
 /* The deepest stack of each call, by painting: a call is made on a stack filled with one byte, and the lowest byte that changed tells how
- * far down it went; what the switch to that stack takes is taken off. Prints the bytes seen of each call, and fails if the header promises
- * fewer, or if the way that goes deepest was not gone. The last line is 'N passed, M failed'. */
+ * far down it went; what the switch to that stack takes is taken off. The tables are the largest, most seats hold, and the script has
+ * numbers of the most digits, so that a call that went deeper with every node or digit would be seen. Prints the bytes seen of each call,
+ * and fails if the header promises fewer, or if the call took another way. The last line is 'N passed, M failed'. */
 #define _XOPEN_SOURCE 700
 #include "../include/soodhiqune.h"
 
@@ -8,14 +9,14 @@
 #include <string.h>
 #include <ucontext.h>
 
-enum { NODES = 8, SEATS = 4, STACK_BYTES = 1 << 18, PAINT = 0xa5 };
+enum { NODES = SOODHIQUNE_MOST_NODES, SEATS = SOODHIQUNE_MOST_SEATS, HOLDERS = SEATS - 4, STACK_BYTES = 1 << 18, PAINT = 0xa5 };
 
 static unsigned char stack[STACK_BYTES];
 static uint32_t nodes[SOODHIQUNE_NODE_WORDS(NODES)], seats[SOODHIQUNE_SEAT_WORDS(SEATS)], rows[SOODHIQUNE_ROW_WORDS(SEATS)];
 static uint32_t numbers[SOODHIQUNE_SCRIPT_NUMBERS];
 static uint8_t printed[SOODHIQUNE_PRINTED_BYTES];
 static uint64_t covered, given;
-static const char script[] = "4 3 2\nb 0 10 20 2\ns 0\n";
+static const char script[] = "256 64 1\nb 4294967295 4294967295 4294967295 4294967295\n", lines[] = "1 no 2\nlist\ncovered 0\n";
 static int passed, failed;
 
 #define TABLES nodes, SOODHIQUNE_NODE_WORDS(NODES), seats, SOODHIQUNE_SEAT_WORDS(SEATS)
@@ -52,9 +53,16 @@ static size_t painted_over(void (*call)(void))
     return sizeof stack - untouched;
 }
 
+/* the seats above 3 hold, one behind the other, and behind what H9 claims */
 static void set_up(void)
 {
+    uint32_t seat;
     clear();
+    for (seat = SEATS - 1; seat > 3; seat--) {
+        const uint32_t to_hold[] = {seat, seat};
+        soodhiqune_begin(TABLES, seat, 100 + seat, 101 + seat, SOODHIQUNE_WRITES);
+        soodhiqune_run(TABLES, STEPS(to_hold));
+    }
     soodhiqune_begin(TABLES, 0, 1, 10, SOODHIQUNE_READS);
     soodhiqune_run(TABLES, STEPS(to_hold_0));
     soodhiqune_begin(TABLES, 1, 12, 14, SOODHIQUNE_READS);
@@ -94,14 +102,14 @@ int main(void)
     read_script();
     play();
     check("clear", set_up, clear, SOODHIQUNE_ACCEPTED, SOODHIQUNE_STACK_BYTES);
-    check("begin", set_up, begin, both(SOODHIQUNE_NODE, 4), SOODHIQUNE_STACK_BYTES);
+    check("begin", set_up, begin, both(SOODHIQUNE_NODE, HOLDERS + 4), SOODHIQUNE_STACK_BYTES);
     check("step", set_up_withdrawal, step, both(SOODHIQUNE_ON, 0), SOODHIQUNE_STACK_BYTES);
     check("run", set_up_withdrawal, run, both(SOODHIQUNE_ACCEPTED, 1), SOODHIQUNE_STACK_BYTES);
     check("release", set_up_withdrawal, release, both(SOODHIQUNE_OUT, 0), SOODHIQUNE_STACK_BYTES);
-    check("board", set_up_withdrawal, board, both(1, 2), SOODHIQUNE_STACK_BYTES);
-    check("free count", set_up_withdrawal, free_count, both(1, 4), SOODHIQUNE_STACK_BYTES);
+    check("board", set_up_withdrawal, board, both(1, HOLDERS + 2), SOODHIQUNE_STACK_BYTES);
+    check("free count", set_up_withdrawal, free_count, both(1, NODES - HOLDERS - 4), SOODHIQUNE_STACK_BYTES);
     check("read", nothing, read_script, SOODHIQUNE_ACCEPTED, SOODHIQUNE_SCRIPT_STACK_BYTES);
-    check("play", nothing, play, sizeof "1 node 1\n2 on\nlist 1\ncovered 0\n" - 1, SOODHIQUNE_SCRIPT_STACK_BYTES);
+    check("play", nothing, play, sizeof lines - 1, SOODHIQUNE_SCRIPT_STACK_BYTES);
     printf("%d passed, %d failed\n", passed, failed);
     return failed != 0;
 }
