@@ -1,16 +1,17 @@
-/* The claims that keep scoring workers apart on a shared sheet: the public calls of the proved library, for C and Rust to link.
+/* The claims that keep scoring workers apart on a shared sheet: the public calls of the proved library, for C (C99 and later) and C++.
  *
- * The archive is made by `rt staticlib boundary` (target/staticlib/libboundary.a, x86-64 Linux). Every call takes any tables and any
- * numbers and ends; a refused call changes nothing that it was lent. A table is lent as its address and its number of 32-bit words:
+ * `./install --prefix DIR` puts this header, the archive libsoodhiqune.a (x86-64 Linux) and soodhiqune.pc for pkg-config in place. Every
+ * call takes any tables and any numbers and ends; a refused call changes nothing that it was lent. A table is lent as its address and
+ * its number of 32-bit words:
  *   nodes   one head word, then N nodes of five words: start, end, kind, next, mark (N is 1 to 256)
  *   seats   S seats of four words: phase, own, prev, cur (S is 1 to 64)
- * The addresses must be those of so many words, and no two of a call may overlap.
  *
- * An answer is one number: what kind of answer in the upper 32 bits, its number in the lower.
- *   0 refused, and the number of the refusal    1 node n, the node taken    2 out, released    3 on, step again
- *   4 wait n, at node n    5 held    6 back, withdrawn: step again, and it fetches anew
- * Refusals: 1 tables damaged, 2 no such seat, 3 start not below end, 4 kind not 1 (reads) or 2 (writes), 5 seat not idle, 6 seat idle,
- * 7 seat does not hold, 8 no node is free, 9 board too short. */
+ * What is asked of the caller:
+ *   addresses   of so many words or bytes, aligned as their type asks; no two of a call overlap. NULL will do where the length is 0
+ *   threads     one call at a time on a pair of tables, save that board and free count only read. Nothing is kept between calls, so
+ *               calls on different tables may be made at once
+ *   stack       SOODHIQUNE_STACK_BYTES, and SOODHIQUNE_SCRIPT_STACK_BYTES for read and play, whatever is lent
+ * The library calls nothing but memset and memcpy. */
 #ifndef SOODHIQUNE_H
 #define SOODHIQUNE_H
 
@@ -21,37 +22,162 @@
 extern "C" {
 #endif
 
-/* 0, or 1: the lengths do not fit. */
+/* ---- sizes, in words unless they say bytes */
+
+#define SOODHIQUNE_MOST_NODES 256
+#define SOODHIQUNE_MOST_SEATS 64
+#define SOODHIQUNE_NODE_WORDS(nodes) (1 + 5 * (size_t)(nodes))
+#define SOODHIQUNE_SEAT_WORDS(seats) (4 * (size_t)(seats))
+#define SOODHIQUNE_ROW_WORDS(rows) (4 * (size_t)(rows))
+
+#define SOODHIQUNE_MOST_SCRIPT_BYTES 16384
+#define SOODHIQUNE_MOST_SCRIPT_ROWS 1000
+#define SOODHIQUNE_SCRIPT_NUMBERS SOODHIQUNE_SCRIPT_ROW(SOODHIQUNE_MOST_SCRIPT_ROWS)
+#define SOODHIQUNE_PRINTED_BYTES 32768
+
+/* Room for the deepest stack seen, arguments and return address included: begin 432 bytes, step 480, run 544, every other call on tables
+ * fewer; read 80,704 and play 87,008. tests/stack.c paints a stack, makes the calls on it, and fails if one needs more than is said here.
+ * The first use of memset or memcpy in a program may take more, while the C library finds it. */
+#define SOODHIQUNE_STACK_BYTES 1024
+#define SOODHIQUNE_SCRIPT_STACK_BYTES 98304
+
+/* ---- words of a board's row r: rows[SOODHIQUNE_ROW_WORDS(r) + SOODHIQUNE_ROW_KIND] and the like */
+
+enum soodhiqune_row { SOODHIQUNE_ROW_SEAT, SOODHIQUNE_ROW_START, SOODHIQUNE_ROW_END, SOODHIQUNE_ROW_KIND };
+
+/* ---- numbers of a script: numbers[SOODHIQUNE_SCRIPT_SEATS], numbers[SOODHIQUNE_SCRIPT_ROW(r) + SOODHIQUNE_LINE_SEAT] and the like */
+
+enum soodhiqune_script { SOODHIQUNE_SCRIPT_NODES, SOODHIQUNE_SCRIPT_SEATS, SOODHIQUNE_SCRIPT_COUNT, SOODHIQUNE_SCRIPT_ROWS };
+enum soodhiqune_line {
+    SOODHIQUNE_LINE_CODE,
+    SOODHIQUNE_LINE_SEAT,
+    SOODHIQUNE_LINE_START,
+    SOODHIQUNE_LINE_END,
+    SOODHIQUNE_LINE_KIND,
+    SOODHIQUNE_LINE_NUMBERS
+};
+enum soodhiqune_code { SOODHIQUNE_NO_LINE, SOODHIQUNE_BEGIN, SOODHIQUNE_STEP, SOODHIQUNE_RELEASE };
+#define SOODHIQUNE_SCRIPT_ROW(row) (SOODHIQUNE_SCRIPT_ROWS + SOODHIQUNE_LINE_NUMBERS * (size_t)(row))
+
+/* ---- a claim reads its frames, and may share them with others that read, or writes them, and shares none */
+
+enum soodhiqune_kind { SOODHIQUNE_READS = 1, SOODHIQUNE_WRITES = 2 };
+
+/* ---- what a call gives back is one number, with two numbers of 32 bits in it: these take it apart */
+
+static inline uint32_t soodhiqune_upper(uint64_t given)
+{
+    return (uint32_t)(given >> 32);
+}
+
+static inline uint32_t soodhiqune_lower(uint64_t given)
+{
+    return (uint32_t)given;
+}
+
+enum soodhiqune_answer {
+    SOODHIQUNE_REFUSED, /* nothing changed; the number is that of the refusal */
+    SOODHIQUNE_NODE,    /* the claim has this node; step it */
+    SOODHIQUNE_OUT,     /* it is released */
+    SOODHIQUNE_ON,      /* it moved on; step it again */
+    SOODHIQUNE_WAIT,    /* it waits at this node, whose claim shares a frame; step it again once that is released or withdrawn */
+    SOODHIQUNE_HELD,    /* it holds; the worker may write */
+    SOODHIQUNE_BACK     /* it was withdrawn, since a reader was there first; step it again, and it takes a node anew */
+};
+
+enum soodhiqune_refusal {
+    SOODHIQUNE_ACCEPTED,
+    SOODHIQUNE_DAMAGED,         /* tables damaged (for clear: only lengths wrong) */
+    SOODHIQUNE_NO_SUCH_SEAT,    /* seat number not below S */
+    SOODHIQUNE_EMPTY_CLAIM,     /* start not below end */
+    SOODHIQUNE_NO_SUCH_KIND,    /* kind not 1 or 2 */
+    SOODHIQUNE_SEAT_HAS_CLAIM,  /* begin wants an idle seat */
+    SOODHIQUNE_SEAT_IDLE,       /* step wants a seat with a claim */
+    SOODHIQUNE_NOT_HOLDING,     /* release wants a seat that holds */
+    SOODHIQUNE_NO_NODE_FREE,    /* begin, or a step that takes a node anew */
+    SOODHIQUNE_BOARD_TOO_SHORT, /* fewer rows than holders */
+    SOODHIQUNE_BAD_SCRIPT       /* script not well formed */
+};
+
+/* of begin, step and release: which answer, and its node, if it has one */
+static inline enum soodhiqune_answer soodhiqune_answer_of(uint64_t given)
+{
+    return (enum soodhiqune_answer)soodhiqune_upper(given);
+}
+
+static inline uint32_t soodhiqune_node_of(uint64_t given)
+{
+    return soodhiqune_lower(given);
+}
+
+/* of every call but run, read and play: the refusal, or SOODHIQUNE_ACCEPTED */
+static inline enum soodhiqune_refusal soodhiqune_refusal_of(uint64_t given)
+{
+    return soodhiqune_upper(given) == 0 ? (enum soodhiqune_refusal)soodhiqune_lower(given) : SOODHIQUNE_ACCEPTED;
+}
+
+/* of board and free count, if accepted: how many */
+static inline uint32_t soodhiqune_count_of(uint64_t given)
+{
+    return soodhiqune_lower(given);
+}
+
+/* of run: the steps accepted, and the refusal met, or SOODHIQUNE_ACCEPTED */
+static inline uint32_t soodhiqune_run_steps(uint64_t given)
+{
+    return soodhiqune_lower(given);
+}
+
+static inline enum soodhiqune_refusal soodhiqune_run_refusal(uint64_t given)
+{
+    return (enum soodhiqune_refusal)soodhiqune_upper(given);
+}
+
+/* of read: SOODHIQUNE_ACCEPTED or SOODHIQUNE_BAD_SCRIPT, and then the first wrong line from 1, or 0 if the script is too long */
+static inline enum soodhiqune_refusal soodhiqune_read_refusal(uint64_t given)
+{
+    return (enum soodhiqune_refusal)soodhiqune_upper(given);
+}
+
+static inline uint32_t soodhiqune_wrong_line(uint64_t given)
+{
+    return soodhiqune_lower(given);
+}
+
+/* ---- the calls */
+
+/* Writes 0 everywhere. Refused: damaged. */
 uint64_t soodhiqune_clear(uint32_t *nodes, size_t node_words, uint32_t *seats, size_t seat_words);
 
-/* An answer: node n, or refused 1, 2, 3, 4, 5 or 8. */
+/* Takes a node for a claim of the frames from start up to but not including end. Answers: node. Refused: damaged, no such seat, empty
+ * claim, no such kind, seat has claim, no node free; the first that holds. */
 uint64_t soodhiqune_begin(uint32_t *nodes, size_t node_words, uint32_t *seats, size_t seat_words,
                           uint32_t seat, uint32_t start, uint32_t end, uint32_t kind);
 
-/* An answer: on, wait n, held or back, or refused 1, 2, 6 or 8. */
+/* One step of a seat. Answers: on, wait, held, back. Refused: damaged, no such seat, seat idle, no node free. */
 uint64_t soodhiqune_step(uint32_t *nodes, size_t node_words, uint32_t *seats, size_t seat_words, uint32_t seat);
 
-/* An answer: out, or refused 1, 2 or 7. */
+/* Ends the claim of a seat that holds. Answers: out. Refused: damaged, no such seat, not holding. */
 uint64_t soodhiqune_release(uint32_t *nodes, size_t node_words, uint32_t *seats, size_t seat_words, uint32_t seat);
 
-/* The refusal met, or 0, in the upper 32 bits; the steps accepted in the lower. */
+/* Steps the seats of a schedule in order, at most budget steps, up to the first that is refused. */
 uint64_t soodhiqune_run(uint32_t *nodes, size_t node_words, uint32_t *seats, size_t seat_words,
                         const uint32_t *schedule, size_t entries, uint32_t budget);
 
-/* 1 in the upper 32 bits and the number of rows in the lower, with the covered frames in *covered; or refused 1 or 9, *covered as found.
- * A row is four words: seat, first frame, end frame, kind. Rows past the count stay. */
+/* A row for each holder, by rising seat; rows past the count stay. *covered becomes the frames that they cover. Refused: damaged, board
+ * too short; *covered is then as found. */
 uint64_t soodhiqune_board(const uint32_t *nodes, size_t node_words, const uint32_t *seats, size_t seat_words,
                           uint32_t *rows, size_t row_words, uint64_t *covered);
 
-/* 1 in the upper 32 bits and the number of free nodes in the lower; or refused 1. */
+/* How many nodes are free. Refused: damaged. */
 uint64_t soodhiqune_free_count(const uint32_t *nodes, size_t node_words, const uint32_t *seats, size_t seat_words);
 
-/* The numbers of a script, into 5,003 words: N, S, K, then five for each of 1,000 rows (a code: b 1, s 2, r 3; seat, start, end, kind), 0
- * where the script has none. 0; or 10 in the upper 32 bits and the first wrong line in the lower (0 if too long), the words as found. */
+/* The numbers of a script, into SOODHIQUNE_SCRIPT_NUMBERS words, 0 where the script has none. Refused: bad script; the words are then as
+ * found. */
 uint64_t soodhiqune_read(const uint8_t *script, size_t bytes, uint32_t *numbers);
 
-/* What the program prints for a script, into a buffer of 32,768 bytes; the number of bytes, at most 26,986. */
-uint64_t soodhiqune_play(const uint8_t *script, size_t bytes, uint8_t *out);
+/* What the program prints for a script, into SOODHIQUNE_PRINTED_BYTES bytes; gives the number of bytes, at most 26,986. The others stay. */
+uint64_t soodhiqune_play(const uint8_t *script, size_t bytes, uint8_t *printed);
 
 #ifdef __cplusplus
 }

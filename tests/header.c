@@ -1,14 +1,21 @@
-/* H1 of document 01 and some refusals through include/soodhiqune.h and the archive: that the header says how each call is made. Prints
- * what differs, and a closing line 'N passed, M failed'. */
+/* H1 of document 01, every refusal and the edges of what may be lent, through include/soodhiqune.h and the archive: that the header says
+ * how each call is made, and that its names and sizes are those of the library. It is C99 and C++. Prints what differs, and a closing line
+ * 'N passed, M failed'. */
 #include "../include/soodhiqune.h"
 
 #include <stdio.h>
 #include <string.h>
 
-enum { NODE_WORDS = 1 + 5 * 4, SEAT_WORDS = 4 * 3, WRITES = 2 };
-enum { REFUSED, NODE, OUT, ON, WAIT, HELD, BACK };
+enum { NODES = 4, SEATS = 3, UNTOUCHED = 9 };
+
+#define NODE_TABLE nodes, SOODHIQUNE_NODE_WORDS(NODES)
+#define SEAT_TABLE seats, SOODHIQUNE_SEAT_WORDS(SEATS)
+#define TABLES NODE_TABLE, SEAT_TABLE
+#define ENTRIES(schedule) schedule, sizeof schedule / sizeof schedule[0]
+#define TEXT(script) (const uint8_t *)script, strlen(script)
 
 static int passed, failed;
+static uint32_t nodes[SOODHIQUNE_NODE_WORDS(SOODHIQUNE_MOST_NODES + 1)], seats[SOODHIQUNE_SEAT_WORDS(SOODHIQUNE_MOST_SEATS + 1)];
 
 static void check(const char *what, int holds)
 {
@@ -20,65 +27,176 @@ static void check(const char *what, int holds)
     }
 }
 
-static uint64_t answer(uint64_t kind, uint64_t number)
+static int answers(uint64_t given, enum soodhiqune_answer answer, uint32_t node)
 {
-    return kind << 32 | number;
+    return soodhiqune_refusal_of(given) == SOODHIQUNE_ACCEPTED && soodhiqune_answer_of(given) == answer &&
+           soodhiqune_node_of(given) == node;
 }
 
-static void check_claims(uint32_t *nodes, uint32_t *seats)
+static int refuses(uint64_t given, enum soodhiqune_refusal refusal)
 {
-    const uint32_t schedule[] = {1, 1, 1, 1, 0};
-    uint64_t first;
-    check("a table too short", soodhiqune_clear(nodes, NODE_WORDS - 1, seats, SEAT_WORDS) == 1);
-    check("clear", soodhiqune_clear(nodes, NODE_WORDS, seats, SEAT_WORDS) == 0);
-    first = soodhiqune_begin(nodes, NODE_WORDS, seats, SEAT_WORDS, 0, 10, 20, WRITES);
-    check("seat 0 begins", first == answer(NODE, 1));
-    check("its claim is written", nodes[1] == 10 && nodes[2] == 20 && nodes[3] == WRITES && seats[0] == 1 && seats[1] == 1);
-    check("seat 0 enters", soodhiqune_step(nodes, NODE_WORDS, seats, SEAT_WORDS, 0) == answer(ON, 0));
-    check("seat 0 holds", soodhiqune_step(nodes, NODE_WORDS, seats, SEAT_WORDS, 0) == answer(HELD, 0));
-    check("seat 1 begins", soodhiqune_begin(nodes, NODE_WORDS, seats, SEAT_WORDS, 1, 15, 25, WRITES) == answer(NODE, 2));
-    check("seat 1 waits at node 1", soodhiqune_step(nodes, NODE_WORDS, seats, SEAT_WORDS, 1) == answer(WAIT, 1));
-    check("nodes 3 and 4 are free", soodhiqune_free_count(nodes, NODE_WORDS, seats, SEAT_WORDS) == answer(1, 2));
-    check("seat 1 does not hold", soodhiqune_release(nodes, NODE_WORDS, seats, SEAT_WORDS, 1) == answer(REFUSED, 7));
-    check("seat 0 releases", soodhiqune_release(nodes, NODE_WORDS, seats, SEAT_WORDS, 0) == answer(OUT, 0));
-    check("seat 1 comes to hold, and seat 0 is idle",
-          soodhiqune_run(nodes, NODE_WORDS, seats, SEAT_WORDS, schedule, 5, 9) == answer(6, 4));
+    return soodhiqune_answer_of(given) == SOODHIQUNE_REFUSED && soodhiqune_refusal_of(given) == refusal;
 }
 
-static void check_board(const uint32_t *nodes, const uint32_t *seats)
+static int counts(uint64_t given, uint32_t count)
 {
-    const uint32_t wanted[8] = {1, 15, 25, WRITES, 9, 9, 9, 9};
-    uint32_t rows[8] = {9, 9, 9, 9, 9, 9, 9, 9};
-    uint64_t covered = 7;
-    check("no room for a row", soodhiqune_board(nodes, NODE_WORDS, seats, SEAT_WORDS, rows, 3, &covered) == answer(REFUSED, 9));
-    check("nothing stored", rows[0] == 9 && covered == 7);
-    check("seat 1 holds", soodhiqune_board(nodes, NODE_WORDS, seats, SEAT_WORDS, rows, 8, &covered) == answer(1, 1));
+    return soodhiqune_refusal_of(given) == SOODHIQUNE_ACCEPTED && soodhiqune_upper(given) == 1 && soodhiqune_count_of(given) == count;
+}
+
+static int ran(uint64_t given, uint32_t steps, enum soodhiqune_refusal refusal)
+{
+    return soodhiqune_run_steps(given) == steps && soodhiqune_run_refusal(given) == refusal;
+}
+
+static int accepts_lengths(size_t node_words, size_t seat_words)
+{
+    return soodhiqune_clear(nodes, node_words, seats, seat_words) == SOODHIQUNE_ACCEPTED;
+}
+
+static void check_lengths(void)
+{
+    const size_t node_words = SOODHIQUNE_NODE_WORDS(1), seat_words = SOODHIQUNE_SEAT_WORDS(1);
+    check("the numbers that document 01 says", SOODHIQUNE_NODE_WORDS(4) == 21 && SOODHIQUNE_SEAT_WORDS(3) == 12 &&
+          SOODHIQUNE_ROW_WORDS(2) == 8 && SOODHIQUNE_SCRIPT_NUMBERS == 5003 && SOODHIQUNE_BAD_SCRIPT == 10);
+    check("the fewest", accepts_lengths(node_words, seat_words));
+    check("the most", accepts_lengths(SOODHIQUNE_NODE_WORDS(SOODHIQUNE_MOST_NODES), SOODHIQUNE_SEAT_WORDS(SOODHIQUNE_MOST_SEATS)));
+    check("a node too many", !accepts_lengths(SOODHIQUNE_NODE_WORDS(SOODHIQUNE_MOST_NODES + 1), seat_words));
+    check("a seat too many", !accepts_lengths(node_words, SOODHIQUNE_SEAT_WORDS(SOODHIQUNE_MOST_SEATS + 1)));
+    check("a word too few for the node", !accepts_lengths(node_words - 1, seat_words));
+    check("a word too many for the node", !accepts_lengths(node_words + 1, seat_words));
+    check("a word too few for the seat", !accepts_lengths(node_words, seat_words - 1));
+    check("a word too many for the seat", !accepts_lengths(node_words, seat_words + 1));
+    check("a table that is too short", refuses(soodhiqune_step(nodes, node_words - 1, seats, seat_words, 0), SOODHIQUNE_DAMAGED));
+}
+
+static void check_claims(void)
+{
+    const uint32_t holds[] = {1, 1, 1, 1, 0};
+    memset(nodes, 7, sizeof nodes);
+    memset(seats, 7, sizeof seats);
+    check("a table of sevens is damaged", refuses(soodhiqune_step(TABLES, 0), SOODHIQUNE_DAMAGED));
+    check("clear", soodhiqune_clear(TABLES) == SOODHIQUNE_ACCEPTED);
+    check("seat 0 begins", answers(soodhiqune_begin(TABLES, 0, 10, 20, SOODHIQUNE_WRITES), SOODHIQUNE_NODE, 1));
+    check("seat 0 enters", answers(soodhiqune_step(TABLES, 0), SOODHIQUNE_ON, 0));
+    check("seat 0 holds", answers(soodhiqune_step(TABLES, 0), SOODHIQUNE_HELD, 0));
+    check("seat 1 begins", answers(soodhiqune_begin(TABLES, 1, 15, 25, SOODHIQUNE_WRITES), SOODHIQUNE_NODE, 2));
+    check("seat 1 waits at node 1", answers(soodhiqune_step(TABLES, 1), SOODHIQUNE_WAIT, 1));
+    check("nodes 3 and 4 are free", counts(soodhiqune_free_count(TABLES), 2));
+    check("seat 1 does not hold", refuses(soodhiqune_release(TABLES, 1), SOODHIQUNE_NOT_HOLDING));
+    check("seat 0 releases", answers(soodhiqune_release(TABLES, 0), SOODHIQUNE_OUT, 0));
+    check("an empty schedule", ran(soodhiqune_run(TABLES, holds, 0, 9), 0, SOODHIQUNE_ACCEPTED));
+    check("a budget of 1", ran(soodhiqune_run(TABLES, ENTRIES(holds), 1), 1, SOODHIQUNE_ACCEPTED));
+    check("seat 1 comes to hold, and steps on; seat 0 is idle", ran(soodhiqune_run(TABLES, ENTRIES(holds), 9), 4, SOODHIQUNE_SEAT_IDLE));
+}
+
+static void check_refusals(void)
+{
+    check("no such seat", refuses(soodhiqune_begin(TABLES, SEATS, 7, 7, 9), SOODHIQUNE_NO_SUCH_SEAT));
+    check("an empty claim", refuses(soodhiqune_begin(TABLES, 1, 7, 7, 9), SOODHIQUNE_EMPTY_CLAIM));
+    check("no such kind", refuses(soodhiqune_begin(TABLES, 1, 7, 8, 9), SOODHIQUNE_NO_SUCH_KIND));
+    check("the seat has a claim", refuses(soodhiqune_begin(TABLES, 1, 7, 8, SOODHIQUNE_READS), SOODHIQUNE_SEAT_HAS_CLAIM));
+    check("the seat is idle", refuses(soodhiqune_step(TABLES, 0), SOODHIQUNE_SEAT_IDLE));
+}
+
+/* H7 */
+static void check_no_node(void)
+{
+    uint32_t node[SOODHIQUNE_NODE_WORDS(1)] = {0}, both[SOODHIQUNE_SEAT_WORDS(2)] = {0};
+    const size_t node_words = SOODHIQUNE_NODE_WORDS(1), both_words = SOODHIQUNE_SEAT_WORDS(2);
+    soodhiqune_begin(node, node_words, both, both_words, 0, 0, 10, SOODHIQUNE_WRITES);
+    check("no node is free",
+          refuses(soodhiqune_begin(node, node_words, both, both_words, 1, 0, 10, SOODHIQUNE_WRITES), SOODHIQUNE_NO_NODE_FREE));
+}
+
+/* a writer that meets a reader goes back: document 01's H9 */
+static void check_back(void)
+{
+    const uint32_t first[] = {0, 0}, second[] = {1, 1, 1}, others[] = {3, 3, 2, 2, 3, 2, 2, 3};
+    uint32_t table[SOODHIQUNE_NODE_WORDS(8)] = {0}, four[SOODHIQUNE_SEAT_WORDS(4)] = {0};
+#define H9 table, SOODHIQUNE_NODE_WORDS(8), four, SOODHIQUNE_SEAT_WORDS(4)
+    soodhiqune_begin(H9, 0, 1, 10, SOODHIQUNE_READS);
+    soodhiqune_run(H9, ENTRIES(first), 9);
+    soodhiqune_begin(H9, 1, 12, 14, SOODHIQUNE_READS);
+    soodhiqune_run(H9, ENTRIES(second), 9);
+    soodhiqune_begin(H9, 2, 5, 20, SOODHIQUNE_READS);
+    soodhiqune_begin(H9, 3, 15, 20, SOODHIQUNE_WRITES);
+    soodhiqune_run(H9, ENTRIES(others), 9);
+    check("the writer goes back", answers(soodhiqune_step(H9, 3), SOODHIQUNE_BACK, 0));
+}
+
+static void check_board(void)
+{
+    const size_t row_words = SOODHIQUNE_ROW_WORDS(2);
+    uint32_t rows[SOODHIQUNE_ROW_WORDS(2)], untouched[SOODHIQUNE_ROW_WORDS(2)], wanted[SOODHIQUNE_ROW_WORDS(2)];
+    uint64_t covered = UNTOUCHED;
+    size_t word;
+    for (word = 0; word < row_words; word++) {
+        rows[word] = untouched[word] = wanted[word] = UNTOUCHED;
+    }
+    wanted[SOODHIQUNE_ROW_SEAT] = 1;
+    wanted[SOODHIQUNE_ROW_START] = 15;
+    wanted[SOODHIQUNE_ROW_END] = 25;
+    wanted[SOODHIQUNE_ROW_KIND] = SOODHIQUNE_WRITES;
+    check("no room for a row",
+          refuses(soodhiqune_board(TABLES, rows, SOODHIQUNE_ROW_WORDS(1) - 1, &covered), SOODHIQUNE_BOARD_TOO_SHORT));
+    check("nothing stored", memcmp(rows, untouched, sizeof rows) == 0 && covered == UNTOUCHED);
+    check("seat 1 holds", counts(soodhiqune_board(TABLES, rows, row_words, &covered), 1));
     check("its row, and the next kept", memcmp(rows, wanted, sizeof rows) == 0 && covered == 10);
 }
 
 static void check_scripts(void)
 {
-    static uint32_t numbers[5003];
-    static uint8_t printed[32768];
-    const char *good = "4 3 2\nb 0 10 20 2\ns 0\n", *bad = "4 3 1\ns 00\n";
-    const char *lines = "1 node 1\n2 on\nlist 1\ncovered 0\n";
-    const uint32_t wanted[13] = {4, 3, 2, 1, 0, 10, 20, WRITES, 2, 0, 0, 0, 0};
-    check("a bad line", soodhiqune_read((const uint8_t *)bad, strlen(bad), numbers) == answer(10, 2));
-    check("a good script", soodhiqune_read((const uint8_t *)good, strlen(good), numbers) == 0);
-    check("its numbers", memcmp(numbers, wanted, sizeof wanted) == 0);
-    check("played", soodhiqune_play((const uint8_t *)good, strlen(good), printed) == strlen(lines));
-    check("its lines", memcmp(printed, lines, strlen(lines)) == 0);
+    static uint32_t numbers[SOODHIQUNE_SCRIPT_NUMBERS];
+    static uint8_t printed[SOODHIQUNE_PRINTED_BYTES], too_long[SOODHIQUNE_MOST_SCRIPT_BYTES + 1];
+    const char *good = "4 3 2\nb 0 10 20 2\ns 2\n", *bad = "4 3 1\ns 00\n", *lines = "1 node 1\n2 no 6\nlist\ncovered 0\n";
+    const uint32_t *first = numbers + SOODHIQUNE_SCRIPT_ROW(0), *second = numbers + SOODHIQUNE_SCRIPT_ROW(1);
+    uint64_t given = soodhiqune_read(TEXT(bad), numbers);
+    check("a bad line", soodhiqune_read_refusal(given) == SOODHIQUNE_BAD_SCRIPT && soodhiqune_wrong_line(given) == 2);
+    given = soodhiqune_read(too_long, sizeof too_long, numbers);
+    check("a script too long", soodhiqune_read_refusal(given) == SOODHIQUNE_BAD_SCRIPT && soodhiqune_wrong_line(given) == 0);
+    check("the longest is read", soodhiqune_wrong_line(soodhiqune_read(too_long, sizeof too_long - 1, numbers)) == 1);
+    check("a good script", soodhiqune_read_refusal(soodhiqune_read(TEXT(good), numbers)) == SOODHIQUNE_ACCEPTED);
+    check("its contents", numbers[SOODHIQUNE_SCRIPT_NODES] == 4 && numbers[SOODHIQUNE_SCRIPT_SEATS] == 3 &&
+          numbers[SOODHIQUNE_SCRIPT_COUNT] == 2);
+    check("its first line", first[SOODHIQUNE_LINE_CODE] == SOODHIQUNE_BEGIN && first[SOODHIQUNE_LINE_SEAT] == 0 &&
+          first[SOODHIQUNE_LINE_START] == 10 && first[SOODHIQUNE_LINE_END] == 20 && first[SOODHIQUNE_LINE_KIND] == SOODHIQUNE_WRITES);
+    check("its second line", second[SOODHIQUNE_LINE_CODE] == SOODHIQUNE_STEP && second[SOODHIQUNE_LINE_SEAT] == 2);
+    check("no third line", numbers[SOODHIQUNE_SCRIPT_ROW(2) + SOODHIQUNE_LINE_CODE] == SOODHIQUNE_NO_LINE);
+    check("played", soodhiqune_play(TEXT(good), printed) == strlen(lines) && memcmp(printed, lines, strlen(lines)) == 0);
+}
+
+static void check_null(void)
+{
+    static uint32_t numbers[SOODHIQUNE_SCRIPT_NUMBERS];
+    static uint8_t printed[SOODHIQUNE_PRINTED_BYTES];
+    uint64_t covered = UNTOUCHED;
+    check("no tables to clear", refuses(soodhiqune_clear(NULL, 0, NULL, 0), SOODHIQUNE_DAMAGED));
+    check("no tables to begin on", refuses(soodhiqune_begin(NULL, 0, NULL, 0, 0, 1, 2, SOODHIQUNE_READS), SOODHIQUNE_DAMAGED));
+    check("no nodes to step on", refuses(soodhiqune_step(NULL, 0, SEAT_TABLE, 0), SOODHIQUNE_DAMAGED));
+    check("no seats to step", refuses(soodhiqune_step(NODE_TABLE, NULL, 0, 0), SOODHIQUNE_DAMAGED));
+    check("no tables to release on", refuses(soodhiqune_release(NULL, 0, NULL, 0, 0), SOODHIQUNE_DAMAGED));
+    check("no tables to run on", ran(soodhiqune_run(NULL, 0, NULL, 0, NULL, 0, 9), 0, SOODHIQUNE_DAMAGED));
+    check("no schedule", ran(soodhiqune_run(TABLES, NULL, 0, 9), 0, SOODHIQUNE_ACCEPTED));
+    check("no tables to show", refuses(soodhiqune_board(NULL, 0, NULL, 0, NULL, 0, &covered), SOODHIQUNE_DAMAGED));
+    check("no rows for a holder", refuses(soodhiqune_board(TABLES, NULL, 0, &covered), SOODHIQUNE_BOARD_TOO_SHORT));
+    check("covered as found", covered == UNTOUCHED);
+    soodhiqune_release(TABLES, 1);
+    check("no rows for no holder", counts(soodhiqune_board(TABLES, NULL, 0, &covered), 0) && covered == 0);
+    check("no tables to count on", refuses(soodhiqune_free_count(NULL, 0, NULL, 0), SOODHIQUNE_DAMAGED));
+    check("no script to read", soodhiqune_wrong_line(soodhiqune_read(NULL, 0, numbers)) == 1);
+    check("no script to play", soodhiqune_play(NULL, 0, printed) == strlen("bad 1\n") && memcmp(printed, "bad 1\n", 6) == 0);
 }
 
 int main(void)
 {
-    uint32_t nodes[NODE_WORDS], seats[SEAT_WORDS];
-    memset(nodes, 7, sizeof nodes);
-    memset(seats, 7, sizeof seats);
-    check("a table of sevens is damaged", soodhiqune_step(nodes, NODE_WORDS, seats, SEAT_WORDS, 0) == answer(REFUSED, 1));
-    check_claims(nodes, seats);
-    check_board(nodes, seats);
+    check_lengths();
+    check_claims();
+    check_refusals();
+    check_no_node();
+    check_back();
+    check_board();
     check_scripts();
+    check_null();
     printf("%d passed, %d failed\n", passed, failed);
     return failed != 0;
 }

@@ -3,8 +3,6 @@
 pub mod driver;
 pub mod generate;
 pub mod library;
-#[cfg(feature = "proved")]
-pub mod linked;
 pub mod machine;
 mod nodeset;
 #[cfg(feature = "proved")]

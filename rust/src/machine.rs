@@ -3,8 +3,9 @@
 //! Behind the test of sound shape every name of a node is in bounds, and the functions that follow rely on that.
 
 use crate::nodeset::NodeSet;
+pub use crate::nodeset::MOST_NODES;
 
-/// "Nodes: one head word, then N nodes of five words: start, end, kind, next, mark. N is 1 to 256."
+/// "Nodes: one head word, then N nodes of five words: start, end, kind, next, mark."
 pub const HEAD: usize = 0;
 pub const HEAD_WORDS: usize = 1;
 pub const START: usize = 0;
@@ -13,7 +14,6 @@ pub const KIND: usize = 2;
 pub const NEXT: usize = 3;
 pub const MARK: usize = 4;
 pub const NODE_WORDS: usize = 5;
-pub const MOST_NODES: usize = 256;
 
 /// "Seats: S seats of four words: phase, own, prev, cur. S is 1 to 64, numbered from 0."
 pub const PHASE: usize = 0;
@@ -24,6 +24,9 @@ pub const SEAT_WORDS: usize = 4;
 pub const MOST_SEATS: usize = 64;
 
 type Seat = [u32; SEAT_WORDS];
+
+/// "An idle seat (0) has zeros in all four words."
+const IDLE_SEAT: Seat = [0; SEAT_WORDS];
 
 pub const IDLE: u32 = 0;
 pub const WALKING: u32 = 1;
@@ -98,11 +101,18 @@ fn claim_of(nodes: &[u32], node: u32) -> Claim {
 /// The words of a seat. Refusal 2: "seat number not below S".
 fn load_seat(seats: &[u32], number: u32) -> Result<Seat, u32> {
     let seat = seats.chunks_exact(SEAT_WORDS).nth(number as usize).ok_or(2_u32)?;
-    Ok([seat[PHASE], seat[OWN], seat[PREV], seat[CUR]])
+    Ok(seat.try_into().expect("a chunk is a seat"))
 }
 
 fn store_seat(seats: &mut [u32], number: u32, seat: Seat) {
     seats[SEAT_WORDS * number as usize..][..SEAT_WORDS].copy_from_slice(&seat);
+}
+
+/// Every phase that a seat comes to by fetch, hold or withdraw has prev 0.
+fn come_to(seat: &mut Seat, phase: u32, cur: u32) {
+    seat[PHASE] = phase;
+    seat[PREV] = 0;
+    seat[CUR] = cur;
 }
 
 /// "'The link of prev' is head if prev is 0, else prev's next": the place of that word.
@@ -148,7 +158,7 @@ fn seat_is_sound(nodes: &[u32], count: usize, seat: &[u32]) -> bool {
         HOLDING | WITHDRAWN => seat[PREV] | seat[CUR] == 0,
         _ => false,
     };
-    words_fit && seat[OWN] != 0 && seat[OWN..].iter().all(|&name| names_a_claim(nodes, count, name))
+    words_fit && seat[OWN] != 0 && seat[OWN..=CUR].iter().all(|&name| names_a_claim(nodes, count, name))
 }
 
 /// The nodes met by following next from a node, itself included; in a circle they never end.
@@ -248,14 +258,16 @@ fn take_free_node(nodes: &mut [u32], seats: &[u32], asking: u32) -> Result<u32, 
 }
 
 /// "The node gets the claim, next 0, mark 0; the seat gets phase 1, own, prev 0, cur = head."
-fn fetch(nodes: &mut [u32], seats: &[u32], asking: u32, claim: Claim) -> Result<Seat, u32> {
+fn fetch(nodes: &mut [u32], seats: &[u32], asking: u32, seat: &mut Seat, claim: Claim) -> Result<(), u32> {
     let node = take_free_node(nodes, seats, asking)?;
     nodes[place(node, START)] = claim.start;
     nodes[place(node, END)] = claim.end;
     nodes[place(node, KIND)] = claim.kind;
     nodes[place(node, NEXT)] = 0;
     nodes[place(node, MARK)] = 0;
-    Ok([WALKING, node, 0, nodes[HEAD]])
+    seat[OWN] = node;
+    come_to(seat, WALKING, nodes[HEAD]);
+    Ok(())
 }
 
 // The step rules
@@ -308,13 +320,13 @@ fn insert(nodes: &mut [u32], seat: &mut Seat) {
 
 /// "Hold: phase 5, prev and cur 0."
 fn hold(seat: &mut Seat) {
-    *seat = [HOLDING, seat[OWN], 0, 0];
+    come_to(seat, HOLDING, 0);
 }
 
 /// "Withdraw: own is marked, phase 6, prev and cur 0, own kept."
 fn withdraw(nodes: &mut [u32], seat: &mut Seat) {
     nodes[place(seat[OWN], MARK)] = 1;
-    *seat = [WITHDRAWN, seat[OWN], 0, 0];
+    come_to(seat, WITHDRAWN, 0);
 }
 
 /// "Cur 0: insert. cur marked: unlink. Else compare cur with own: +1: prev becomes cur, cur its next; 0: phase 2; −1: insert."
@@ -378,7 +390,7 @@ fn step_sound(nodes: &mut [u32], seats: &mut [u32], number: u32) -> Result<(Seat
         VALIDATING if word(nodes, seat[OWN], KIND) == READS => step_validating_reader(nodes, &mut seat),
         VALIDATING => step_validating_writer(nodes, &mut seat),
         READER_WAITING => step_waiting(nodes, &mut seat, VALIDATING),
-        WITHDRAWN => seat = fetch(nodes, seats, number, claim_of(nodes, seat[OWN]))?,
+        WITHDRAWN => fetch(nodes, seats, number, &mut seat, claim_of(nodes, before[OWN]))?,
         _ => {}
     }
     store_seat(seats, number, seat);
@@ -398,13 +410,13 @@ pub fn clear(nodes: &mut [u32], seats: &mut [u32]) -> Result<(), u32> {
 /// "Begin: `node n`."
 pub fn begin(nodes: &mut [u32], seats: &mut [u32], seat: u32, start: u32, end: u32, kind: u32) -> Result<Answer, u32> {
     refuse(1, !sound(nodes, seats))?;
-    let before = load_seat(seats, seat)?;
+    let mut words = load_seat(seats, seat)?;
     refuse(3, start >= end)?;
     refuse(4, kind != READS && kind != WRITES)?;
-    refuse(5, before[PHASE] != IDLE)?;
-    let fetched = fetch(nodes, seats, seat, Claim { start, end, kind })?;
-    store_seat(seats, seat, fetched);
-    Ok(Answer::Node(fetched[OWN]))
+    refuse(5, words[PHASE] != IDLE)?;
+    fetch(nodes, seats, seat, &mut words, Claim { start, end, kind })?;
+    store_seat(seats, seat, words);
+    Ok(Answer::Node(words[OWN]))
 }
 
 /// "Step, from the seat's new phase: 2 or 4 `wait n` with n = cur; 5 `held`; 6 `back`; else `on`."
@@ -425,7 +437,7 @@ pub fn release(nodes: &mut [u32], seats: &mut [u32], seat: u32) -> Result<Answer
     let before = load_seat(seats, seat)?;
     refuse(7, before[PHASE] != HOLDING)?;
     nodes[place(before[OWN], MARK)] = 1;
-    store_seat(seats, seat, [IDLE, 0, 0, 0]);
+    store_seat(seats, seat, IDLE_SEAT);
     Ok(Answer::Out)
 }
 

@@ -1,6 +1,7 @@
 //! Sets of nodes, for the second machine's fetch: a bit for each number, so that each node is met once.
 
-use crate::machine::MOST_NODES;
+/// "N is 1 to 256": what a set has room for.
+pub const MOST_NODES: usize = 256;
 
 /// A set of nodes, a bit for each of the numbers 1 to 256.
 pub struct NodeSet([u64; MOST_NODES / 64]);
@@ -8,7 +9,7 @@ pub struct NodeSet([u64; MOST_NODES / 64]);
 impl NodeSet {
     pub fn all(count: usize) -> NodeSet {
         let ones = |width: usize| if width < 64 { (1 << width) - 1 } else { u64::MAX };
-        NodeSet([0, 64, 128, 192].map(|before| ones(count.saturating_sub(before))))
+        NodeSet(std::array::from_fn(|at| ones(count.saturating_sub(64 * at))))
     }
 
     pub fn has(&self, node: u32) -> bool {

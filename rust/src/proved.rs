@@ -3,64 +3,123 @@
 
 use crate::library::{Numbers, Printed};
 
-#[allow(improper_ctypes)]
 mod archive {
-    use super::{Numbers, Printed};
-
     extern "C" {
-        pub fn soodhiqune_clear(nodes: &mut [u32], seats: &mut [u32]) -> u64;
+        pub fn soodhiqune_clear(nodes: *mut u32, node_words: usize, seats: *mut u32, seat_words: usize) -> u64;
         pub fn soodhiqune_begin(
-            nodes: &mut [u32],
-            seats: &mut [u32],
+            nodes: *mut u32,
+            node_words: usize,
+            seats: *mut u32,
+            seat_words: usize,
             seat: u32,
             start: u32,
             end: u32,
             kind: u32,
         ) -> u64;
-        pub fn soodhiqune_step(nodes: &mut [u32], seats: &mut [u32], seat: u32) -> u64;
-        pub fn soodhiqune_release(nodes: &mut [u32], seats: &mut [u32], seat: u32) -> u64;
-        pub fn soodhiqune_run(nodes: &mut [u32], seats: &mut [u32], entries: &[u32], budget: u32) -> u64;
-        pub fn soodhiqune_board(nodes: &[u32], seats: &[u32], rows: &mut [u32], covered: &mut u64) -> u64;
-        pub fn soodhiqune_free_count(nodes: &[u32], seats: &[u32]) -> u64;
-        pub fn soodhiqune_read(bytes: &[u8], numbers: &mut Numbers) -> u64;
-        pub fn soodhiqune_play(bytes: &[u8], printed: &mut Printed) -> u64;
+        pub fn soodhiqune_step(
+            nodes: *mut u32,
+            node_words: usize,
+            seats: *mut u32,
+            seat_words: usize,
+            seat: u32,
+        ) -> u64;
+        pub fn soodhiqune_release(
+            nodes: *mut u32,
+            node_words: usize,
+            seats: *mut u32,
+            seat_words: usize,
+            seat: u32,
+        ) -> u64;
+        pub fn soodhiqune_run(
+            nodes: *mut u32,
+            node_words: usize,
+            seats: *mut u32,
+            seat_words: usize,
+            entries: *const u32,
+            entry_count: usize,
+            budget: u32,
+        ) -> u64;
+        pub fn soodhiqune_board(
+            nodes: *const u32,
+            node_words: usize,
+            seats: *const u32,
+            seat_words: usize,
+            rows: *mut u32,
+            row_words: usize,
+            covered: *mut u64,
+        ) -> u64;
+        pub fn soodhiqune_free_count(nodes: *const u32, node_words: usize, seats: *const u32, seat_words: usize)
+            -> u64;
+        pub fn soodhiqune_read(bytes: *const u8, byte_count: usize, numbers: *mut u32) -> u64;
+        pub fn soodhiqune_play(bytes: *const u8, byte_count: usize, printed: *mut u8) -> u64;
     }
 }
 
-// No function of the archive asks anything of its caller, so each call is safe.
+// No function of the archive asks anything of its caller but that so many words stand where it is told, so each call is safe.
 
 pub fn clear(nodes: &mut [u32], seats: &mut [u32]) -> u64 {
-    unsafe { archive::soodhiqune_clear(nodes, seats) }
+    unsafe { archive::soodhiqune_clear(nodes.as_mut_ptr(), nodes.len(), seats.as_mut_ptr(), seats.len()) }
 }
 
 pub fn begin(nodes: &mut [u32], seats: &mut [u32], seat: u32, start: u32, end: u32, kind: u32) -> u64 {
-    unsafe { archive::soodhiqune_begin(nodes, seats, seat, start, end, kind) }
+    unsafe {
+        archive::soodhiqune_begin(
+            nodes.as_mut_ptr(),
+            nodes.len(),
+            seats.as_mut_ptr(),
+            seats.len(),
+            seat,
+            start,
+            end,
+            kind,
+        )
+    }
 }
 
 pub fn step(nodes: &mut [u32], seats: &mut [u32], seat: u32) -> u64 {
-    unsafe { archive::soodhiqune_step(nodes, seats, seat) }
+    unsafe { archive::soodhiqune_step(nodes.as_mut_ptr(), nodes.len(), seats.as_mut_ptr(), seats.len(), seat) }
 }
 
 pub fn release(nodes: &mut [u32], seats: &mut [u32], seat: u32) -> u64 {
-    unsafe { archive::soodhiqune_release(nodes, seats, seat) }
+    unsafe { archive::soodhiqune_release(nodes.as_mut_ptr(), nodes.len(), seats.as_mut_ptr(), seats.len(), seat) }
 }
 
 pub fn run(nodes: &mut [u32], seats: &mut [u32], entries: &[u32], budget: u32) -> u64 {
-    unsafe { archive::soodhiqune_run(nodes, seats, entries, budget) }
+    unsafe {
+        archive::soodhiqune_run(
+            nodes.as_mut_ptr(),
+            nodes.len(),
+            seats.as_mut_ptr(),
+            seats.len(),
+            entries.as_ptr(),
+            entries.len(),
+            budget,
+        )
+    }
 }
 
 pub fn board(nodes: &[u32], seats: &[u32], rows: &mut [u32], covered: &mut u64) -> u64 {
-    unsafe { archive::soodhiqune_board(nodes, seats, rows, covered) }
+    unsafe {
+        archive::soodhiqune_board(
+            nodes.as_ptr(),
+            nodes.len(),
+            seats.as_ptr(),
+            seats.len(),
+            rows.as_mut_ptr(),
+            rows.len(),
+            covered,
+        )
+    }
 }
 
 pub fn free_count(nodes: &[u32], seats: &[u32]) -> u64 {
-    unsafe { archive::soodhiqune_free_count(nodes, seats) }
+    unsafe { archive::soodhiqune_free_count(nodes.as_ptr(), nodes.len(), seats.as_ptr(), seats.len()) }
 }
 
 pub fn read(bytes: &[u8], numbers: &mut Numbers) -> u64 {
-    unsafe { archive::soodhiqune_read(bytes, numbers) }
+    unsafe { archive::soodhiqune_read(bytes.as_ptr(), bytes.len(), numbers.as_mut_ptr()) }
 }
 
 pub fn play(bytes: &[u8], printed: &mut Printed) -> u64 {
-    unsafe { archive::soodhiqune_play(bytes, printed) }
+    unsafe { archive::soodhiqune_play(bytes.as_ptr(), bytes.len(), printed.as_mut_ptr()) }
 }

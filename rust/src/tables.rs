@@ -70,8 +70,12 @@ fn put_seat(random: &mut Random, phase: u32, seat: &mut [u32], nodes: &[u32], na
     if cur == 0 && (phase == WAITING_TO_ENTER || phase == READER_WAITING) {
         cur = random.pick(named);
     }
-    let stands = phase == HOLDING || phase == WITHDRAWN;
-    seat.copy_from_slice(&if stands { [phase, own, 0, 0] } else { [phase, own, prev, cur] });
+    seat[PHASE] = phase;
+    seat[OWN] = own;
+    if phase != HOLDING && phase != WITHDRAWN {
+        seat[PREV] = prev;
+        seat[CUR] = cur;
+    }
 }
 
 /// Sound words at random, with a claim in the named nodes, some of which are listed, and the seats in these phases.

@@ -1,6 +1,7 @@
 //! Each refusal, the board, run, and a step that damages.
 
-use crate::machine::{begin, board, clear, free_count, fresh, release, run, step, Answer};
+use crate::machine::{begin, board, clear, free_count, fresh, place, release, run, step, Answer, WALKING};
+use crate::machine::{END, HEAD, KIND, NEXT, OWN, PHASE, PREV, START};
 
 #[test]
 fn the_lowest_refusal_that_holds_is_given() {
@@ -15,7 +16,7 @@ fn the_lowest_refusal_that_holds_is_given() {
     assert_eq!(step(&mut nodes, &mut seats, u32::MAX), Err(2));
     assert_eq!(release(&mut nodes, &mut seats, 0), Err(7));
     assert_eq!(release(&mut nodes, &mut seats, 2), Err(2));
-    nodes[0] = 2;
+    nodes[HEAD] = 2;
     assert_eq!(begin(&mut nodes, &mut seats, 2, 7, 7, 9), Err(1));
     assert_eq!(step(&mut nodes, &mut seats, 2), Err(1));
     assert_eq!(release(&mut nodes, &mut seats, 2), Err(1));
@@ -27,12 +28,17 @@ fn the_lowest_refusal_that_holds_is_given() {
 
 #[test]
 fn lengths_that_do_not_fit_are_refused() {
-    for (nodes, seats) in [(0, 4), (1, 4), (5, 4), (7, 4), (1286, 4), (6, 0), (6, 3), (6, 260)] {
+    let node_words = |count| fresh(count, 0).0.len();
+    let seat_words = |count| fresh(0, count).1.len();
+    let (one, seat) = (node_words(1), seat_words(1));
+    let wrong_nodes = [0, node_words(0), one - 1, one + 1, node_words(257)].map(|nodes| (nodes, seat));
+    let wrong_seats = [0, seat - 1, seat + 1, seat_words(65)].map(|seats| (one, seats));
+    for (nodes, seats) in wrong_nodes.into_iter().chain(wrong_seats) {
         assert_eq!(clear(&mut vec![7; nodes], &mut vec![7; seats]), Err(1), "{nodes} {seats}");
         assert_eq!(free_count(&vec![0; nodes], &vec![0; seats]), Err(1), "{nodes} {seats}");
     }
-    assert_eq!(free_count(&vec![0; 1281], &vec![0; 256]), Ok(256));
-    assert_eq!(free_count(&[0; 6], &[0; 4]), Ok(1));
+    assert_eq!(free_count(&vec![0; node_words(256)], &vec![0; seat_words(64)]), Ok(256));
+    assert_eq!(free_count(&vec![0; one], &vec![0; seat]), Ok(1));
 }
 
 /// A writer of each seat's own frame that holds.
@@ -65,15 +71,24 @@ fn run_stops_at_the_end_at_its_budget_and_at_a_refused_entry() {
     assert_eq!(run(&mut nodes, &mut seats, &[2], 0), (0, 0));
     assert_eq!(release(&mut nodes, &mut seats, 1), Ok(Answer::Out));
     assert_eq!(run(&mut nodes, &mut seats, &[0, 1, 2], 9), (1, 6));
-    nodes[0] = 3;
+    nodes[HEAD] = 3;
     assert_eq!(run(&mut nodes, &mut seats, &[0], 0), (0, 1));
 }
 
 #[test]
 fn a_step_can_damage_sound_tables_that_were_never_reached() {
-    let (mut nodes, mut seats) = (vec![1, 0, 1, 2, 0, 0], vec![1, 1, 1, 0]);
+    let (mut nodes, mut seats) = fresh(1, 1);
+    nodes[HEAD] = 1;
+    for (field, value) in [(START, 0), (END, 1), (KIND, 2)] {
+        nodes[place(1, field)] = value;
+    }
+    for (field, value) in [(PHASE, WALKING), (OWN, 1), (PREV, 1)] {
+        seats[field] = value;
+    }
+    let mut damaged = nodes.clone();
+    damaged[place(1, NEXT)] = 1;
     assert_eq!(run(&mut nodes.clone(), &mut seats.clone(), &[0, 0], 9), (1, 1));
     assert_eq!(step(&mut nodes, &mut seats, 0), Ok(Answer::On));
-    assert_eq!(nodes, [1, 0, 1, 2, 1, 0]);
+    assert_eq!(nodes, damaged);
     assert_eq!(step(&mut nodes, &mut seats, 0), Err(1));
 }

@@ -2,41 +2,75 @@
 
 use crate::driver::{outcome, Call, Case};
 use crate::library_of;
-use crate::machine::*;
+use crate::machine::{begin, free_count, listed, run, step, Answer};
 use crate::random::Random;
 use crate::tables::{any_words, damaged, sound_words, DAMAGES};
 
+// Where each word stands, as the document says it: not the machine's constants, so that a wrong one is seen.
+const HEAD: usize = 0;
+const WORDS_BEFORE_NODES: usize = 1;
+const NODE_WORDS: usize = 5;
+const START: usize = 0;
+const END: usize = 1;
+const KIND: usize = 2;
+const NEXT: usize = 3;
+const MARK: usize = 4;
+const SEAT_WORDS: usize = 4;
+const PHASE: usize = 0;
+const OWN: usize = 1;
+const PREV: usize = 2;
+const CUR: usize = 3;
+
+fn place(node: u32, field: usize) -> usize {
+    WORDS_BEFORE_NODES + NODE_WORDS * (node as usize - 1) + field
+}
+
+fn word(nodes: &[u32], node: u32, field: usize) -> u32 {
+    nodes[place(node, field)]
+}
+
+fn node_count(nodes: &[u32]) -> usize {
+    nodes.len().saturating_sub(WORDS_BEFORE_NODES) / NODE_WORDS
+}
+
+fn names(seat: &[u32]) -> [u32; 3] {
+    [seat[OWN], seat[PREV], seat[CUR]]
+}
+
+fn lengths_fit(nodes: &[u32], seats: &[u32]) -> bool {
+    nodes.len() == WORDS_BEFORE_NODES + NODE_WORDS * node_count(nodes)
+        && (1..=256).contains(&node_count(nodes))
+        && seats.len() % SEAT_WORDS == 0
+        && (1..=64).contains(&(seats.len() / SEAT_WORDS))
+}
+
 /// Sound shape, clause by clause.
 fn is_sound(nodes: &[u32], seats: &[u32]) -> bool {
-    let count = nodes.len() / 5;
-    if nodes.len() != 1 + 5 * count || !(1..=256).contains(&count) {
+    if !lengths_fit(nodes, seats) {
         return false;
     }
-    if seats.len() % 4 != 0 || !(1..=64).contains(&(seats.len() / 4)) {
-        return false;
-    }
-    let node = |number: usize| -> &[u32] { &nodes[1 + 5 * (number - 1)..][..5] };
-    let names = |name: u32| name == 0 || (name as usize <= count && [1, 2].contains(&node(name as usize)[2]));
-    let nodes_fit = (1..=count).map(node).all(|words| {
-        words == [0; 5] || ([1, 2].contains(&words[2]) && words[0] < words[1] && names(words[3]) && words[4] <= 1)
+    let count = node_count(nodes) as u32;
+    let named = |name: u32| name == 0 || (name <= count && [1, 2].contains(&word(nodes, name, KIND)));
+    let nodes_fit = (1..=count).all(|node| {
+        let [start, end, kind, next, mark] = [START, END, KIND, NEXT, MARK].map(|field| word(nodes, node, field));
+        [start, end, kind, next, mark] == [0; 5] || ([1, 2].contains(&kind) && start < end && named(next) && mark <= 1)
     });
-    let seats_fit = seats.chunks(4).all(|seat| match seat {
-        [0, own, prev, cur] => [*own, *prev, *cur] == [0; 3],
-        [phase, own, prev, cur] => {
-            *phase <= 6
-                && *own != 0
-                && [*own, *prev, *cur].into_iter().all(names)
-                && (![5, 6].contains(phase) || [*prev, *cur] == [0, 0])
-                && (![2, 4].contains(phase) || *cur != 0)
+    let seats_fit = seats.chunks(SEAT_WORDS).all(|seat| match seat[PHASE] {
+        0 => names(seat) == [0; 3],
+        phase => {
+            phase <= 6
+                && seat[OWN] != 0
+                && names(seat).into_iter().all(named)
+                && (![5, 6].contains(&phase) || [seat[PREV], seat[CUR]] == [0, 0])
+                && (![2, 4].contains(&phase) || seat[CUR] != 0)
         }
-        _ => false,
     });
-    if !nodes_fit || !seats_fit || !names(nodes[0]) {
+    if !nodes_fit || !seats_fit || !named(nodes[HEAD]) {
         return false;
     }
-    let mut met = nodes[0];
+    let mut met = nodes[HEAD];
     for _ in 0..count {
-        met = if met == 0 { 0 } else { node(met as usize)[3] };
+        met = if met == 0 { 0 } else { word(nodes, met, NEXT) };
     }
     met == 0
 }
@@ -48,26 +82,27 @@ fn reaches(nodes: &[u32], from: u32, wanted: u32) -> bool {
         if met == 0 || met == wanted {
             break;
         }
-        met = nodes[5 * met as usize - 1];
+        met = word(nodes, met, NEXT);
     }
     met == wanted
 }
 
 /// The free nodes by the rule, node by node.
 fn free_nodes(nodes: &[u32], seats: &[u32], asking: Option<usize>) -> Vec<u32> {
-    let others = seats.chunks(4).enumerate().filter(|(number, _)| Some(*number) != asking);
-    let mut sources: Vec<u32> = others.flat_map(|(_, seat)| seat[1..].to_vec()).collect();
-    sources.push(nodes[0]);
-    (1..=nodes.len() as u32 / 5).filter(|&node| !sources.iter().any(|&from| reaches(nodes, from, node))).collect()
+    let others = seats.chunks(SEAT_WORDS).enumerate().filter(|(number, _)| Some(*number) != asking);
+    let mut sources: Vec<u32> = others.flat_map(|(_, seat)| names(seat)).collect();
+    sources.push(nodes[HEAD]);
+    let reached = |node: u32| sources.iter().any(|&from| reaches(nodes, from, node));
+    (1..=node_count(nodes) as u32).filter(|&node| !reached(node)).collect()
 }
 
 /// The table with the marked nodes taken out of the list.
 fn taken_out(nodes: &[u32]) -> Vec<u32> {
     let mut after = nodes.to_vec();
-    let mut link = 0;
-    for node in listed(nodes).filter(|&node| nodes[5 * node as usize] == 0) {
+    let mut link = HEAD;
+    for node in listed(nodes).filter(|&node| word(nodes, node, MARK) == 0) {
         after[link] = node;
-        link = 5 * node as usize - 1;
+        link = place(node, NEXT);
     }
     after[link] = 0;
     after
@@ -82,10 +117,14 @@ fn begun(nodes: &[u32], seats: &[u32], seat: usize, claim: [u32; 3]) -> Option<(
         free = free_nodes(&after, seats, Some(seat));
     }
     let node = *free.first()?;
-    after[5 * node as usize - 4..][..3].copy_from_slice(&claim);
-    after[5 * node as usize - 1..][..2].copy_from_slice(&[0, 0]);
+    let [start, end, kind] = claim;
+    for (field, value) in [(START, start), (END, end), (KIND, kind), (NEXT, 0), (MARK, 0)] {
+        after[place(node, field)] = value;
+    }
     let mut seats = seats.to_vec();
-    seats[4 * seat..][..4].copy_from_slice(&[1, node, 0, after[0]]);
+    for (field, value) in [(PHASE, 1), (OWN, node), (PREV, 0), (CUR, after[HEAD])] {
+        seats[SEAT_WORDS * seat + field] = value;
+    }
     Some((after, seats))
 }
 
@@ -145,13 +184,13 @@ fn fetch_and_free_count_are_what_the_rule_says() {
             Ok(free_nodes(&nodes, &seats, None).len() as u32),
             "{nodes:?} {seats:?}"
         );
-        let idle = seats.chunks(4).position(|seat| seat[0] == 0);
+        let idle = seats.chunks(SEAT_WORDS).position(|seat| seat[PHASE] == 0);
         if let Some(seat) = idle {
             let (mut after_nodes, mut after_seats) = (nodes.clone(), seats.clone());
             let answer = begin(&mut after_nodes, &mut after_seats, seat as u32, 3, 5, 2);
             match begun(&nodes, &seats, seat, [3, 5, 2]) {
                 Some(after) => {
-                    assert_eq!(answer, Ok(Answer::Node(after.1[4 * seat + 1])));
+                    assert_eq!(answer, Ok(Answer::Node(after.1[SEAT_WORDS * seat + OWN])));
                     assert_eq!((after_nodes, after_seats), after, "{nodes:?} {seats:?}");
                     taken_out_first += u32::from(free_nodes(&nodes, &seats, Some(seat)).is_empty());
                 }
@@ -172,7 +211,7 @@ fn run_is_step_after_step() {
     let mut damaged_on_the_way = 0;
     for _ in 0..20_000 {
         let (nodes, seats) = sound_words(&mut random);
-        let seat_count = seats.len() as u32 / 4;
+        let seat_count = (seats.len() / SEAT_WORDS) as u32;
         let entries: Vec<u32> = (0..20).map(|_| random.below(seat_count + seat_count / 4)).collect();
         let (mut step_nodes, mut step_seats) = (nodes.clone(), seats.clone());
         let answers = entries.iter().map(|&seat| step(&mut step_nodes, &mut step_seats, seat));

@@ -1,0 +1,61 @@
+/* An example for C: H1 of document 01. Seat 0 claims frames 10 up to 20 and holds them; seat 1 claims 15 up to 25, waits, and holds once
+ * seat 0 has released. Prints what `./play < scripts/h01.txt` prints, but for the list.
+ *
+ *     cc h1.c $(pkg-config --cflags --libs soodhiqune) -o h1      after ./install --prefix DIR, with DIR/lib/pkgconfig in PKG_CONFIG_PATH
+ */
+#include <inttypes.h>
+#include <soodhiqune.h>
+#include <stdio.h>
+
+enum { NODES = 4, SEATS = 3 };
+static uint32_t nodes[SOODHIQUNE_NODE_WORDS(NODES)], seats[SOODHIQUNE_SEAT_WORDS(SEATS)];
+#define TABLES nodes, SOODHIQUNE_NODE_WORDS(NODES), seats, SOODHIQUNE_SEAT_WORDS(SEATS)
+
+static void say(uint64_t given)
+{
+    static const char *const words[] = {"no", "node", "out", "on", "wait", "held", "back"};
+    static int calls;
+    const enum soodhiqune_answer answer = soodhiqune_answer_of(given);
+    printf("%d %s", ++calls, words[answer]);
+    if (answer == SOODHIQUNE_REFUSED) {
+        printf(" %d", (int)soodhiqune_refusal_of(given));
+    } else if (answer == SOODHIQUNE_NODE || answer == SOODHIQUNE_WAIT) {
+        printf(" %" PRIu32, soodhiqune_node_of(given));
+    }
+    puts("");
+}
+
+static int show_holders(void)
+{
+    uint32_t rows[SOODHIQUNE_ROW_WORDS(SEATS)];
+    uint64_t covered;
+    const uint64_t given = soodhiqune_board(TABLES, rows, SOODHIQUNE_ROW_WORDS(SEATS), &covered);
+    const uint32_t *row;
+    if (soodhiqune_refusal_of(given) != SOODHIQUNE_ACCEPTED) {
+        return 1;
+    }
+    for (row = rows; row < rows + SOODHIQUNE_ROW_WORDS(soodhiqune_count_of(given)); row += SOODHIQUNE_ROW_WORDS(1)) {
+        printf("hold %" PRIu32 " %" PRIu32 " %" PRIu32 " %" PRIu32 "\n", row[SOODHIQUNE_ROW_SEAT], row[SOODHIQUNE_ROW_START],
+               row[SOODHIQUNE_ROW_END], row[SOODHIQUNE_ROW_KIND]);
+    }
+    printf("covered %" PRIu64 "\n", covered);
+    return 0;
+}
+
+int main(void)
+{
+    int message;
+    if (soodhiqune_clear(TABLES) != SOODHIQUNE_ACCEPTED) {
+        return 1;
+    }
+    say(soodhiqune_begin(TABLES, 0, 10, 20, SOODHIQUNE_WRITES));
+    say(soodhiqune_step(TABLES, 0));
+    say(soodhiqune_step(TABLES, 0));
+    say(soodhiqune_begin(TABLES, 1, 15, 25, SOODHIQUNE_WRITES));
+    say(soodhiqune_step(TABLES, 1));
+    say(soodhiqune_release(TABLES, 0));
+    for (message = 0; message < 4; message++) {
+        say(soodhiqune_step(TABLES, 1));
+    }
+    return show_holders();
+}

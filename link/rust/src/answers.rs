@@ -1,0 +1,264 @@
+//! What the calls give back, as values with words for people; and how a number of the archive is read as one. A number that the promises
+//! of the archive shut out means that another archive was linked, and panics.
+
+use std::error::Error;
+use std::fmt::{self, Display, Formatter};
+
+/// What a claim does with its frames.
+#[derive(Clone, Copy, Debug, PartialEq, Eq, Hash)]
+pub enum Kind {
+    /// It reads them, and may share them with others that read.
+    Reads,
+    /// It writes them, and shares none.
+    Writes,
+}
+
+impl From<Kind> for u32 {
+    fn from(kind: Kind) -> u32 {
+        match kind {
+            Kind::Reads => 1,
+            Kind::Writes => 2,
+        }
+    }
+}
+
+impl TryFrom<u32> for Kind {
+    type Error = Refused;
+
+    fn try_from(number: u32) -> Result<Kind, Refused> {
+        [Kind::Reads, Kind::Writes].into_iter().find(|&kind| u32::from(kind) == number).ok_or(Refused::NoSuchKind)
+    }
+}
+
+impl Display for Kind {
+    fn fmt(&self, out: &mut Formatter) -> fmt::Result {
+        out.write_str(match self {
+            Kind::Reads => "reads",
+            Kind::Writes => "writes",
+        })
+    }
+}
+
+/// What begin, step or release answers if it is accepted. It is displayed as the program prints it.
+#[derive(Clone, Copy, Debug, PartialEq, Eq, Hash)]
+#[non_exhaustive]
+pub enum Answer {
+    /// Begin: the claim has this node. Step it.
+    Node(u32),
+    /// Release: the seat is idle again.
+    Out,
+    /// Step: the claim moved on. Step it again.
+    On,
+    /// Step: the claim waits at this node, whose claim shares a frame with it. Step it again once that is released or withdrawn.
+    Wait(u32),
+    /// Step: the claim holds its frames. The worker may write.
+    Held,
+    /// Step: the claim was withdrawn, since a reader was there first. Step it again, and it takes a node anew.
+    Back,
+}
+
+impl Display for Answer {
+    fn fmt(&self, out: &mut Formatter) -> fmt::Result {
+        match self {
+            Answer::Node(node) => write!(out, "node {node}"),
+            Answer::Out => out.write_str("out"),
+            Answer::On => out.write_str("on"),
+            Answer::Wait(node) => write!(out, "wait {node}"),
+            Answer::Held => out.write_str("held"),
+            Answer::Back => out.write_str("back"),
+        }
+    }
+}
+
+/// Why a call was refused. It has changed nothing.
+#[derive(Clone, Copy, Debug, PartialEq, Eq, Hash)]
+#[non_exhaustive]
+pub enum Refused {
+    /// The tables are damaged; for clear, only their lengths are wrong.
+    Damaged = 1,
+    /// The seat's number is not below the number of seats.
+    NoSuchSeat = 2,
+    /// The claim starts at its end, or behind it.
+    EmptyClaim = 3,
+    /// The kind is neither 1 nor 2.
+    NoSuchKind = 4,
+    /// Begin wants an idle seat.
+    SeatHasClaim = 5,
+    /// Step wants a seat with a claim.
+    SeatIdle = 6,
+    /// Release wants a seat that holds.
+    NotHolding = 7,
+    /// Begin, or a step that takes a node anew, found no node free.
+    NoNodeFree = 8,
+    /// The board has fewer rows than there are holders.
+    BoardTooShort = 9,
+}
+
+impl Refused {
+    const ALL: [Refused; 9] = [
+        Refused::Damaged,
+        Refused::NoSuchSeat,
+        Refused::EmptyClaim,
+        Refused::NoSuchKind,
+        Refused::SeatHasClaim,
+        Refused::SeatIdle,
+        Refused::NotHolding,
+        Refused::NoNodeFree,
+        Refused::BoardTooShort,
+    ];
+
+    /// The number that the program prints as `no k`.
+    pub fn number(self) -> u32 {
+        self as u32
+    }
+
+    fn of(number: u32) -> Refused {
+        let known = Refused::ALL.into_iter().find(|refused| refused.number() == number);
+        known.unwrap_or_else(|| {
+            panic!("the archive that is linked gave refusal {number}, which this package does not know")
+        })
+    }
+}
+
+impl Display for Refused {
+    fn fmt(&self, out: &mut Formatter) -> fmt::Result {
+        out.write_str(match self {
+            Refused::Damaged => "the tables are damaged",
+            Refused::NoSuchSeat => "there is no such seat",
+            Refused::EmptyClaim => "the claim does not start below its end",
+            Refused::NoSuchKind => "the kind is neither 1 (reads) nor 2 (writes)",
+            Refused::SeatHasClaim => "the seat has a claim already",
+            Refused::SeatIdle => "the seat has no claim",
+            Refused::NotHolding => "the seat does not hold",
+            Refused::NoNodeFree => "no node is free",
+            Refused::BoardTooShort => "the board has fewer rows than there are holders",
+        })
+    }
+}
+
+impl Error for Refused {}
+
+/// What a run did: the steps accepted, which stand, and the refusal that it stopped at, if any.
+#[derive(Clone, Copy, Debug, PartialEq, Eq, Hash)]
+pub struct Ran {
+    pub steps: u32,
+    pub refused: Option<Refused>,
+}
+
+/// A row of a board: a seat that holds, and its claim of the frames from start up to but not including end.
+#[derive(Clone, Copy, Debug, Default, PartialEq, Eq, Hash)]
+#[repr(C)]
+pub struct Row {
+    pub seat: u32,
+    pub start: u32,
+    pub end: u32,
+    pub kind: u32,
+}
+
+/// How many rows a board has, and the frames that they cover.
+#[derive(Clone, Copy, Debug, PartialEq, Eq, Hash)]
+pub struct Shown {
+    pub rows: usize,
+    pub covered: u64,
+}
+
+/// Why a script is not well formed: refusal 10.
+#[derive(Clone, Copy, Debug, PartialEq, Eq, Hash)]
+pub enum BadScript {
+    /// It has more than 16,384 bytes.
+    TooLong,
+    /// The first wrong line, from 1.
+    Line(u32),
+}
+
+impl Display for BadScript {
+    fn fmt(&self, out: &mut Formatter) -> fmt::Result {
+        match self {
+            BadScript::TooLong => out.write_str("the script is too long"),
+            BadScript::Line(line) => write!(out, "line {line} of the script is wrong"),
+        }
+    }
+}
+
+impl Error for BadScript {}
+
+// ---- a number of the archive as a value
+
+fn upper(given: u64) -> u32 {
+    (given >> 32) as u32
+}
+
+fn lower(given: u64) -> u32 {
+    given as u32
+}
+
+pub(crate) fn done(given: u64) -> Result<(), Refused> {
+    match lower(given) {
+        0 => Ok(()),
+        number => Err(Refused::of(number)),
+    }
+}
+
+pub(crate) fn answer(given: u64) -> Result<Answer, Refused> {
+    let number = lower(given);
+    match upper(given) {
+        0 => Err(Refused::of(number)),
+        1 => Ok(Answer::Node(number)),
+        2 => Ok(Answer::Out),
+        3 => Ok(Answer::On),
+        4 => Ok(Answer::Wait(number)),
+        5 => Ok(Answer::Held),
+        6 => Ok(Answer::Back),
+        code => panic!("the archive that is linked gave answer {code}, which this package does not know"),
+    }
+}
+
+pub(crate) fn count(given: u64) -> Result<u32, Refused> {
+    match upper(given) {
+        0 => Err(Refused::of(lower(given))),
+        _ => Ok(lower(given)),
+    }
+}
+
+pub(crate) fn ran(given: u64) -> Ran {
+    let refused = match upper(given) {
+        0 => None,
+        number => Some(Refused::of(number)),
+    };
+    Ran { steps: lower(given), refused }
+}
+
+pub(crate) fn well_formed(given: u64) -> Result<(), BadScript> {
+    match (upper(given), lower(given)) {
+        (0, _) => Ok(()),
+        (_, 0) => Err(BadScript::TooLong),
+        (_, line) => Err(BadScript::Line(line)),
+    }
+}
+
+#[cfg(test)]
+mod tests {
+    use super::*;
+
+    #[test]
+    fn every_refusal_has_its_number_and_words_of_its_own() {
+        let numbers: Vec<u32> = Refused::ALL.iter().map(|refused| refused.number()).collect();
+        assert_eq!(numbers, (1..=9).collect::<Vec<u32>>());
+        for (place, refused) in Refused::ALL.iter().enumerate() {
+            assert_eq!(Refused::of(refused.number()), *refused);
+            assert!(Refused::ALL[..place].iter().all(|other| other.to_string() != refused.to_string()));
+        }
+    }
+
+    #[test]
+    #[should_panic(expected = "refusal 11")]
+    fn a_refusal_of_another_archive_is_not_taken_for_one_of_ours() {
+        let _ = answer(11);
+    }
+
+    #[test]
+    #[should_panic(expected = "answer 7")]
+    fn an_answer_of_another_archive_is_not_taken_for_one_of_ours() {
+        let _ = answer(7 << 32);
+    }
+}

@@ -1,0 +1,40 @@
+//! The functions of the archive, as `include/soodhiqune.h` declares them: a table, list or text is its address and its length.
+//! None asks anything of its caller but that so many words stand there, and that what it may change overlaps nothing else.
+
+extern "C" {
+    pub fn soodhiqune_clear(nodes: *mut u32, node_words: usize, seats: *mut u32, seat_words: usize) -> u64;
+    pub fn soodhiqune_begin(
+        nodes: *mut u32,
+        node_words: usize,
+        seats: *mut u32,
+        seat_words: usize,
+        seat: u32,
+        start: u32,
+        end: u32,
+        kind: u32,
+    ) -> u64;
+    pub fn soodhiqune_step(nodes: *mut u32, node_words: usize, seats: *mut u32, seat_words: usize, seat: u32) -> u64;
+    pub fn soodhiqune_release(nodes: *mut u32, node_words: usize, seats: *mut u32, seat_words: usize, seat: u32)
+        -> u64;
+    pub fn soodhiqune_run(
+        nodes: *mut u32,
+        node_words: usize,
+        seats: *mut u32,
+        seat_words: usize,
+        schedule: *const u32,
+        entries: usize,
+        budget: u32,
+    ) -> u64;
+    pub fn soodhiqune_board(
+        nodes: *const u32,
+        node_words: usize,
+        seats: *const u32,
+        seat_words: usize,
+        rows: *mut u32,
+        row_words: usize,
+        covered: *mut u64,
+    ) -> u64;
+    pub fn soodhiqune_free_count(nodes: *const u32, node_words: usize, seats: *const u32, seat_words: usize) -> u64;
+    pub fn soodhiqune_read(script: *const u8, bytes: usize, numbers: *mut u32) -> u64;
+    pub fn soodhiqune_play(script: *const u8, bytes: usize, printed: *mut u8) -> u64;
+}

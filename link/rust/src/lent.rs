@@ -1,0 +1,123 @@
+//! The calls on tables that stay the caller's: lent slices of words, as the archive takes them. Any slices and any numbers will do, and a
+//! refused call changes nothing. The two slices of a call must be those of one pair; [`Tables`](crate::Tables) keeps them together.
+
+use crate::answers::{answer, count, done, ran, well_formed, Answer, BadScript, Ran, Refused, Row, Shown};
+use crate::archive;
+use std::ops::Range;
+
+/// N is 1 to this.
+pub const MOST_NODES: usize = 256;
+/// S is 1 to this.
+pub const MOST_SEATS: usize = 64;
+
+const ROW_WORDS: usize = std::mem::size_of::<Row>() / std::mem::size_of::<u32>();
+
+/// Where a script's rows start among its numbers, and how many numbers a row has.
+pub(crate) const CONTENTS_NUMBERS: usize = 3;
+pub(crate) const LINE_NUMBERS: usize = 5;
+const MOST_LINES: usize = 1000;
+
+/// How many numbers a script is read into.
+pub const SCRIPT_NUMBERS: usize = CONTENTS_NUMBERS + LINE_NUMBERS * MOST_LINES;
+/// Room for what the program prints: at most 26,986 bytes.
+pub const PRINTED_BYTES: usize = 32768;
+
+/// How many words a table of so many nodes has.
+pub const fn node_words(nodes: usize) -> usize {
+    1 + 5 * nodes
+}
+
+/// How many words a table of so many seats has.
+pub const fn seat_words(seats: usize) -> usize {
+    4 * seats
+}
+
+// Safety, of every call below: a slice has as many words as its length says, and what is lent to be changed overlaps nothing else.
+
+/// Writes 0 everywhere, if the lengths are those of 1 to 256 nodes and 1 to 64 seats.
+pub fn clear(nodes: &mut [u32], seats: &mut [u32]) -> Result<(), Refused> {
+    done(unsafe { archive::soodhiqune_clear(nodes.as_mut_ptr(), nodes.len(), seats.as_mut_ptr(), seats.len()) })
+}
+
+/// Takes a node for a claim of these frames, and starts the seat's walk. The kind is a [`Kind`](crate::Kind) or a number.
+pub fn begin(
+    nodes: &mut [u32],
+    seats: &mut [u32],
+    seat: u32,
+    frames: Range<u32>,
+    kind: impl Into<u32>,
+) -> Result<Answer, Refused> {
+    answer(unsafe {
+        archive::soodhiqune_begin(
+            nodes.as_mut_ptr(),
+            nodes.len(),
+            seats.as_mut_ptr(),
+            seats.len(),
+            seat,
+            frames.start,
+            frames.end,
+            kind.into(),
+        )
+    })
+}
+
+/// One step of a seat that has a claim.
+pub fn step(nodes: &mut [u32], seats: &mut [u32], seat: u32) -> Result<Answer, Refused> {
+    answer(unsafe { archive::soodhiqune_step(nodes.as_mut_ptr(), nodes.len(), seats.as_mut_ptr(), seats.len(), seat) })
+}
+
+/// Ends the claim of a seat that holds.
+pub fn release(nodes: &mut [u32], seats: &mut [u32], seat: u32) -> Result<Answer, Refused> {
+    answer(unsafe {
+        archive::soodhiqune_release(nodes.as_mut_ptr(), nodes.len(), seats.as_mut_ptr(), seats.len(), seat)
+    })
+}
+
+/// Steps the seats of a schedule in order, within a budget, up to the first that is refused.
+pub fn run(nodes: &mut [u32], seats: &mut [u32], schedule: &[u32], budget: u32) -> Ran {
+    ran(unsafe {
+        archive::soodhiqune_run(
+            nodes.as_mut_ptr(),
+            nodes.len(),
+            seats.as_mut_ptr(),
+            seats.len(),
+            schedule.as_ptr(),
+            schedule.len(),
+            budget,
+        )
+    })
+}
+
+/// The holders by rising seat; rows past their number stay.
+pub fn board(nodes: &[u32], seats: &[u32], rows: &mut [Row]) -> Result<Shown, Refused> {
+    let mut covered = 0;
+    // a row is four words in the archive's order, and nothing else
+    let given = unsafe {
+        archive::soodhiqune_board(
+            nodes.as_ptr(),
+            nodes.len(),
+            seats.as_ptr(),
+            seats.len(),
+            rows.as_mut_ptr().cast(),
+            ROW_WORDS * rows.len(),
+            &mut covered,
+        )
+    };
+    count(given).map(|rows| Shown { rows: rows as usize, covered })
+}
+
+/// How many nodes are free.
+pub fn free_count(nodes: &[u32], seats: &[u32]) -> Result<u32, Refused> {
+    count(unsafe { archive::soodhiqune_free_count(nodes.as_ptr(), nodes.len(), seats.as_ptr(), seats.len()) })
+}
+
+/// The numbers of a script: N, S, K, then five for each of 1,000 rows: a code (b 1, s 2, r 3), seat, start, end and kind; 0 where the
+/// script has none. Of one that is not well formed they stay as they were.
+pub fn read(script: &[u8], numbers: &mut [u32; SCRIPT_NUMBERS]) -> Result<(), BadScript> {
+    well_formed(unsafe { archive::soodhiqune_read(script.as_ptr(), script.len(), numbers.as_mut_ptr()) })
+}
+
+/// What the program prints for a script, `bad L` if it is not well formed: so many bytes. The others stay as they were.
+pub fn play(script: &[u8], printed: &mut [u8; PRINTED_BYTES]) -> usize {
+    unsafe { archive::soodhiqune_play(script.as_ptr(), script.len(), printed.as_mut_ptr()) as usize }
+}

@@ -1,0 +1,78 @@
+//! A pair of tables that belong together, with the calls as methods.
+
+use crate::answers::{Answer, Ran, Refused, Row};
+use crate::lent::{self, node_words, seat_words, MOST_NODES, MOST_SEATS};
+use std::ops::Range;
+
+/// The node table and the seat table of one sheet.
+#[derive(Clone, Debug, PartialEq, Eq)]
+pub struct Tables {
+    nodes: Vec<u32>,
+    seats: Vec<u32>,
+}
+
+/// The holders by rising seat, and the frames that they cover.
+#[derive(Clone, Debug, PartialEq, Eq)]
+pub struct Board {
+    pub rows: Vec<Row>,
+    pub covered: u64,
+}
+
+impl Tables {
+    /// Fresh tables of 1 to 256 nodes and 1 to 64 seats.
+    pub fn new(nodes: usize, seats: usize) -> Result<Tables, Refused> {
+        if nodes > MOST_NODES || seats > MOST_SEATS {
+            return Err(Refused::Damaged);
+        }
+        let mut tables = Tables { nodes: vec![0; node_words(nodes)], seats: vec![0; seat_words(seats)] };
+        tables.clear().map(|()| tables)
+    }
+
+    /// Tables of any words, such as were kept elsewhere; if they are damaged, the calls say so.
+    pub fn from_words(nodes: Vec<u32>, seats: Vec<u32>) -> Tables {
+        Tables { nodes, seats }
+    }
+
+    /// The words of the nodes and of the seats.
+    pub fn words(&self) -> (&[u32], &[u32]) {
+        (&self.nodes, &self.seats)
+    }
+
+    /// Makes the tables fresh again.
+    pub fn clear(&mut self) -> Result<(), Refused> {
+        lent::clear(&mut self.nodes, &mut self.seats)
+    }
+
+    /// Takes a node for a claim of these frames, and starts the seat's walk. The kind is a [`Kind`](crate::Kind) or a number.
+    pub fn begin(&mut self, seat: u32, frames: Range<u32>, kind: impl Into<u32>) -> Result<Answer, Refused> {
+        lent::begin(&mut self.nodes, &mut self.seats, seat, frames, kind)
+    }
+
+    /// One step of a seat that has a claim.
+    pub fn step(&mut self, seat: u32) -> Result<Answer, Refused> {
+        lent::step(&mut self.nodes, &mut self.seats, seat)
+    }
+
+    /// Ends the claim of a seat that holds.
+    pub fn release(&mut self, seat: u32) -> Result<Answer, Refused> {
+        lent::release(&mut self.nodes, &mut self.seats, seat)
+    }
+
+    /// Steps the seats of a schedule in order, within a budget, up to the first that is refused.
+    pub fn run(&mut self, schedule: &[u32], budget: u32) -> Ran {
+        lent::run(&mut self.nodes, &mut self.seats, schedule, budget)
+    }
+
+    /// The holders, and the frames that they cover.
+    pub fn board(&self) -> Result<Board, Refused> {
+        let mut rows = vec![Row::default(); MOST_SEATS];
+        let shown = lent::board(&self.nodes, &self.seats, &mut rows)?;
+        rows.truncate(shown.rows);
+        Ok(Board { rows, covered: shown.covered })
+    }
+
+    /// How many nodes are free.
+    pub fn free_count(&self) -> Result<u32, Refused> {
+        lent::free_count(&self.nodes, &self.seats)
+    }
+}

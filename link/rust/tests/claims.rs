@@ -1,0 +1,101 @@
+//! H1 of document 01 through tables that are owned and through lent ones, and the edges of run and board.
+
+use soodhiqune::lent::{self, node_words, seat_words};
+use soodhiqune::{Answer, Board, Kind, Ran, Refused, Row, Shown, Tables};
+
+const SEAT_1_HOLDS: Row = Row { seat: 1, start: 15, end: 25, kind: 2 };
+
+/// H1 up to its end: seat 1 holds frames 15 up to 25.
+fn h1() -> Tables {
+    let mut tables = Tables::new(4, 3).unwrap();
+    assert_eq!(tables.begin(0, 10..20, Kind::Writes), Ok(Answer::Node(1)));
+    assert_eq!(tables.step(0), Ok(Answer::On));
+    assert_eq!(tables.step(0), Ok(Answer::Held));
+    assert_eq!(tables.begin(1, 15..25, Kind::Writes), Ok(Answer::Node(2)));
+    assert_eq!(tables.step(1), Ok(Answer::Wait(1)));
+    assert_eq!(tables.free_count(), Ok(2));
+    assert_eq!(tables.release(0), Ok(Answer::Out));
+    assert_eq!([(); 4].map(|()| tables.step(1).unwrap()), [Answer::On, Answer::On, Answer::On, Answer::Held]);
+    tables
+}
+
+#[test]
+fn h1_on_tables_that_are_owned() {
+    assert_eq!(h1().board(), Ok(Board { rows: vec![SEAT_1_HOLDS], covered: 10 }));
+}
+
+#[test]
+fn h1_on_lent_tables_ends_in_the_same_words() {
+    let (mut nodes, mut seats) = (vec![7; node_words(4)], vec![7; seat_words(3)]);
+    assert_eq!(lent::step(&mut nodes, &mut seats, 0), Err(Refused::Damaged));
+    assert_eq!(lent::clear(&mut nodes, &mut seats), Ok(()));
+    assert_eq!(lent::begin(&mut nodes, &mut seats, 0, 10..20, Kind::Writes), Ok(Answer::Node(1)));
+    assert_eq!(lent::run(&mut nodes, &mut seats, &[0, 0], 9), Ran { steps: 2, refused: None });
+    assert_eq!(lent::begin(&mut nodes, &mut seats, 1, 15..25, 2_u32), Ok(Answer::Node(2)));
+    assert_eq!(lent::step(&mut nodes, &mut seats, 1), Ok(Answer::Wait(1)));
+    assert_eq!(lent::free_count(&nodes, &seats), Ok(2));
+    assert_eq!(lent::release(&mut nodes, &mut seats, 0), Ok(Answer::Out));
+    assert_eq!(lent::run(&mut nodes, &mut seats, &[1; 9], 4), Ran { steps: 4, refused: None });
+    assert_eq!(h1().words(), (&nodes[..], &seats[..]));
+    assert_eq!(Tables::from_words(nodes, seats), h1());
+}
+
+#[test]
+fn the_rows_past_the_holders_stay() {
+    let tables = h1();
+    let (nodes, seats) = tables.words();
+    let untouched = Row { seat: 9, start: 9, end: 9, kind: 9 };
+    let mut rows = [untouched; 2];
+    assert_eq!(lent::board(nodes, seats, &mut rows), Ok(Shown { rows: 1, covered: 10 }));
+    assert_eq!(rows, [SEAT_1_HOLDS, untouched]);
+}
+
+#[test]
+fn run_stops_at_its_end_its_budget_and_a_refused_entry() {
+    let mut tables = h1();
+    let before = tables.clone();
+    assert_eq!(tables.run(&[], 9), Ran { steps: 0, refused: None });
+    assert_eq!(tables.run(&[1, 1, 1], 9), Ran { steps: 3, refused: None });
+    assert_eq!(tables.run(&[1, 1, 1], 2), Ran { steps: 2, refused: None });
+    assert_eq!(tables.run(&[1, 0, 1], 9), Ran { steps: 1, refused: Some(Refused::SeatIdle) });
+    assert_eq!(tables.run(&[3], 0), Ran { steps: 0, refused: None });
+    assert_eq!(tables, before, "a holder's steps change nothing");
+}
+
+#[test]
+fn a_writer_that_meets_a_reader_goes_back() {
+    let mut tables = Tables::new(8, 4).unwrap();
+    tables.begin(0, 1..10, Kind::Reads).unwrap();
+    tables.run(&[0; 2], 9);
+    tables.begin(1, 12..14, Kind::Reads).unwrap();
+    tables.run(&[1; 3], 9);
+    tables.begin(2, 5..20, Kind::Reads).unwrap();
+    tables.begin(3, 15..20, Kind::Writes).unwrap();
+    tables.run(&[3, 3, 2, 2, 3, 2, 2, 3], 9);
+    assert_eq!(tables.step(3), Ok(Answer::Back));
+}
+
+#[test]
+fn clear_makes_tables_fresh_again() {
+    let mut tables = h1();
+    tables.clear().unwrap();
+    assert_eq!(Ok(tables), Tables::new(4, 3));
+}
+
+#[test]
+fn tables_of_their_own_are_used_at_once() {
+    let threads: Vec<_> =
+        (0..4).map(|_| std::thread::spawn(|| (0..50).map(|_| h1()).collect::<Vec<Tables>>())).collect();
+    for thread in threads {
+        assert!(thread.join().unwrap().into_iter().all(|tables| tables == h1()));
+    }
+}
+
+#[test]
+fn answers_and_kinds_have_words() {
+    let answers = [Answer::Node(1), Answer::Out, Answer::On, Answer::Wait(4), Answer::Held, Answer::Back];
+    let words = answers.map(|answer| answer.to_string());
+    assert_eq!(words, ["node 1", "out", "on", "wait 4", "held", "back"]);
+    assert_eq!([Kind::Reads, Kind::Writes].map(|kind| kind.to_string()), ["reads", "writes"]);
+    assert_eq!([1, 2, 3].map(Kind::try_from), [Ok(Kind::Reads), Ok(Kind::Writes), Err(Refused::NoSuchKind)]);
+}

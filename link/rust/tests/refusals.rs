@@ -1,0 +1,99 @@
+//! Each refusal of a call on tables, met; and that it changes nothing.
+
+use soodhiqune::lent::{self, node_words, seat_words, MOST_NODES, MOST_SEATS};
+use soodhiqune::{Answer, Kind, Ran, Refused, Row, Tables};
+
+/// One node, which seat 0 holds; seat 1 is idle.
+fn seat_0_holds() -> Tables {
+    let mut tables = Tables::new(1, 2).unwrap();
+    tables.begin(0, 0..10, Kind::Writes).unwrap();
+    assert_eq!(tables.run(&[0, 0], 9), Ran { steps: 2, refused: None });
+    tables
+}
+
+/// A call that is refused so, and leaves the tables as they were.
+fn refuses(refused: Refused, call: impl Fn(&mut Tables) -> Result<Answer, Refused>) {
+    let mut tables = seat_0_holds();
+    assert_eq!(call(&mut tables), Err(refused));
+    assert_eq!(tables, seat_0_holds(), "{refused}");
+}
+
+#[test]
+fn the_first_refusal_that_holds_is_given() {
+    refuses(Refused::NoSuchSeat, |tables| tables.begin(2, 7..7, 9_u32));
+    refuses(Refused::EmptyClaim, |tables| tables.begin(0, 7..7, 9_u32));
+    refuses(Refused::NoSuchKind, |tables| tables.begin(0, 7..8, 9_u32));
+    refuses(Refused::SeatHasClaim, |tables| tables.begin(0, 7..8, Kind::Reads));
+    refuses(Refused::NoNodeFree, |tables| tables.begin(1, 7..8, Kind::Reads));
+    refuses(Refused::NoSuchSeat, |tables| tables.step(u32::MAX));
+    refuses(Refused::SeatIdle, |tables| tables.step(1));
+    refuses(Refused::NoSuchSeat, |tables| tables.release(2));
+    refuses(Refused::NotHolding, |tables| tables.release(1));
+}
+
+/// Every call but clear finds these tables damaged, and leaves them as they were.
+fn all_find_damage(nodes: Vec<u32>, seats: Vec<u32>) {
+    let before = Tables::from_words(nodes, seats);
+    let mut tables = before.clone();
+    assert_eq!(tables.begin(0, 7..8, Kind::Reads), Err(Refused::Damaged));
+    assert_eq!(tables.step(0), Err(Refused::Damaged));
+    assert_eq!(tables.release(0), Err(Refused::Damaged));
+    assert_eq!(tables.run(&[0], 9), Ran { steps: 0, refused: Some(Refused::Damaged) });
+    assert_eq!(tables.board(), Err(Refused::Damaged));
+    assert_eq!(tables.free_count(), Err(Refused::Damaged));
+    assert_eq!(tables, before);
+}
+
+#[test]
+fn a_table_of_a_wrong_size_is_refused_by_every_call() {
+    let (node, seat) = (node_words(1), seat_words(1));
+    let wrong_nodes = [0, node_words(0), node - 1, node + 1, node_words(MOST_NODES + 1)].map(|nodes| (nodes, seat));
+    let wrong_seats = [0, seat - 1, seat + 1, seat_words(MOST_SEATS + 1)].map(|seats| (node, seats));
+    for (nodes, seats) in wrong_nodes.into_iter().chain(wrong_seats) {
+        all_find_damage(vec![0; nodes], vec![0; seats]);
+        let mut tables = Tables::from_words(vec![7; nodes], vec![7; seats]);
+        assert_eq!(tables.clear(), Err(Refused::Damaged), "{nodes} {seats}");
+        assert_eq!(tables, Tables::from_words(vec![7; nodes], vec![7; seats]));
+    }
+    assert!(Tables::new(1, 1).is_ok() && Tables::new(MOST_NODES, MOST_SEATS).is_ok());
+    for (nodes, seats) in [(0, 1), (1, 0), (MOST_NODES + 1, 1), (1, MOST_SEATS + 1), (usize::MAX, usize::MAX)] {
+        assert_eq!(Tables::new(nodes, seats), Err(Refused::Damaged), "{nodes} {seats}");
+    }
+}
+
+#[test]
+fn damaged_words_are_refused_by_every_call() {
+    all_find_damage(vec![7; node_words(4)], vec![0; seat_words(3)]);
+    all_find_damage(vec![0; node_words(4)], vec![7; seat_words(3)]);
+}
+
+#[test]
+fn the_tables_of_two_sheets_do_not_fit_together() {
+    let (held, fresh) = (seat_0_holds(), Tables::new(1, 2).unwrap());
+    assert_eq!(lent::free_count(fresh.words().0, held.words().1), Err(Refused::Damaged));
+}
+
+#[test]
+fn a_board_too_short_keeps_its_rows() {
+    let tables = seat_0_holds();
+    let (nodes, seats) = tables.words();
+    assert_eq!(lent::board(nodes, seats, &mut []), Err(Refused::BoardTooShort));
+    let mut both = Tables::new(2, 2).unwrap();
+    both.begin(0, 0..1, Kind::Reads).unwrap();
+    both.run(&[0; 2], 9);
+    both.begin(1, 0..1, Kind::Reads).unwrap();
+    both.run(&[1; 3], 9);
+    let (nodes, seats) = both.words();
+    let mut rows = [Row { seat: 9, start: 9, end: 9, kind: 9 }];
+    assert_eq!(lent::board(nodes, seats, &mut rows), Err(Refused::BoardTooShort));
+    assert_eq!(rows, [Row { seat: 9, start: 9, end: 9, kind: 9 }]);
+}
+
+#[test]
+fn a_refusal_is_an_error() {
+    fn asked() -> Result<(), Box<dyn std::error::Error>> {
+        Tables::new(1, 1)?.step(0)?;
+        Ok(())
+    }
+    assert_eq!(asked().unwrap_err().to_string(), "the seat has no claim");
+}

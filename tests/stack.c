@@ -1,0 +1,115 @@
+/* The deepest stack of each call, by painting: a call is made on a stack filled with one byte, and the lowest byte that changed tells how
+ * far down it went; what the switch to that stack takes is taken off. The tables are the largest, most seats hold, and the script has
+ * numbers of the most digits, so that a call that went deeper with every node or digit would be seen. Prints the bytes seen of each call,
+ * and fails if the header promises fewer, or if the call took another way. The last line is 'N passed, M failed'. */
+#define _XOPEN_SOURCE 700
+#include "../include/soodhiqune.h"
+
+#include <stdio.h>
+#include <string.h>
+#include <ucontext.h>
+
+enum { NODES = SOODHIQUNE_MOST_NODES, SEATS = SOODHIQUNE_MOST_SEATS, HOLDERS = SEATS - 4, STACK_BYTES = 1 << 18, PAINT = 0xa5 };
+
+static unsigned char stack[STACK_BYTES];
+static uint32_t nodes[SOODHIQUNE_NODE_WORDS(NODES)], seats[SOODHIQUNE_SEAT_WORDS(SEATS)], rows[SOODHIQUNE_ROW_WORDS(SEATS)];
+static uint32_t numbers[SOODHIQUNE_SCRIPT_NUMBERS];
+static uint8_t printed[SOODHIQUNE_PRINTED_BYTES];
+static uint64_t covered, given;
+static const char script[] = "256 64 1\nb 4294967295 4294967295 4294967295 4294967295\n", lines[] = "1 no 2\nlist\ncovered 0\n";
+static int passed, failed;
+
+#define TABLES nodes, SOODHIQUNE_NODE_WORDS(NODES), seats, SOODHIQUNE_SEAT_WORDS(SEATS)
+
+/* document 01's H9, up to the withdrawal of seat 3: its next step fetches, which goes deepest */
+static const uint32_t to_hold_0[] = {0, 0}, to_hold_1[] = {1, 1, 1}, to_withdrawal[] = {3, 3, 2, 2, 3, 2, 2, 3, 3}, fetching[] = {3};
+#define STEPS(schedule) schedule, sizeof schedule / sizeof schedule[0], UINT32_MAX
+
+static void nothing(void) { }
+static void clear(void) { given = soodhiqune_clear(TABLES); }
+static void begin(void) { given = soodhiqune_begin(TABLES, 3, 15, 20, SOODHIQUNE_WRITES); }
+static void step(void) { given = soodhiqune_step(TABLES, 3); }
+static void run(void) { given = soodhiqune_run(TABLES, STEPS(fetching)); }
+static void release(void) { given = soodhiqune_release(TABLES, 0); }
+static void board(void) { given = soodhiqune_board(TABLES, rows, SOODHIQUNE_ROW_WORDS(SEATS), &covered); }
+static void free_count(void) { given = soodhiqune_free_count(TABLES); }
+static void read_script(void) { given = soodhiqune_read((const uint8_t *)script, sizeof script - 1, numbers); }
+static void play(void) { given = soodhiqune_play((const uint8_t *)script, sizeof script - 1, printed); }
+
+static size_t painted_over(void (*call)(void))
+{
+    ucontext_t here, there;
+    size_t untouched = 0;
+    memset(stack, PAINT, sizeof stack);
+    getcontext(&there);
+    there.uc_stack.ss_sp = stack;
+    there.uc_stack.ss_size = sizeof stack;
+    there.uc_link = &here;
+    makecontext(&there, call, 0);
+    swapcontext(&here, &there);
+    while (untouched < sizeof stack && stack[untouched] == PAINT) {
+        untouched++;
+    }
+    return sizeof stack - untouched;
+}
+
+/* the seats above 3 hold, one behind the other, and behind what H9 claims */
+static void set_up(void)
+{
+    uint32_t seat;
+    clear();
+    for (seat = SEATS - 1; seat > 3; seat--) {
+        const uint32_t to_hold[] = {seat, seat};
+        soodhiqune_begin(TABLES, seat, 100 + seat, 101 + seat, SOODHIQUNE_WRITES);
+        soodhiqune_run(TABLES, STEPS(to_hold));
+    }
+    soodhiqune_begin(TABLES, 0, 1, 10, SOODHIQUNE_READS);
+    soodhiqune_run(TABLES, STEPS(to_hold_0));
+    soodhiqune_begin(TABLES, 1, 12, 14, SOODHIQUNE_READS);
+    soodhiqune_run(TABLES, STEPS(to_hold_1));
+    soodhiqune_begin(TABLES, 2, 5, 20, SOODHIQUNE_READS);
+}
+
+static void set_up_withdrawal(void)
+{
+    set_up();
+    begin();
+    soodhiqune_run(TABLES, STEPS(to_withdrawal));
+}
+
+static void check(const char *name, void (*prepare)(void), void (*call)(void), uint64_t wanted, size_t promised)
+{
+    size_t bytes;
+    prepare();
+    bytes = painted_over(call) - painted_over(nothing);
+    printf("%s: %lu bytes of stack\n", name, (unsigned long)bytes);
+    if (given == wanted && bytes <= promised) {
+        passed++;
+    } else {
+        failed++;
+        printf("differs: %s gave %llx, promised %lu bytes\n", name, (unsigned long long)given, (unsigned long)promised);
+    }
+}
+
+static uint64_t both(uint64_t upper, uint64_t lower)
+{
+    return upper << 32 | lower;
+}
+
+int main(void)
+{
+    /* the C library's functions are found at their first call, which takes a stack of its own */
+    read_script();
+    play();
+    check("clear", set_up, clear, SOODHIQUNE_ACCEPTED, SOODHIQUNE_STACK_BYTES);
+    check("begin", set_up, begin, both(SOODHIQUNE_NODE, HOLDERS + 4), SOODHIQUNE_STACK_BYTES);
+    check("step", set_up_withdrawal, step, both(SOODHIQUNE_ON, 0), SOODHIQUNE_STACK_BYTES);
+    check("run", set_up_withdrawal, run, both(SOODHIQUNE_ACCEPTED, 1), SOODHIQUNE_STACK_BYTES);
+    check("release", set_up_withdrawal, release, both(SOODHIQUNE_OUT, 0), SOODHIQUNE_STACK_BYTES);
+    check("board", set_up_withdrawal, board, both(1, HOLDERS + 2), SOODHIQUNE_STACK_BYTES);
+    check("free count", set_up_withdrawal, free_count, both(1, NODES - HOLDERS - 4), SOODHIQUNE_STACK_BYTES);
+    check("read", nothing, read_script, SOODHIQUNE_ACCEPTED, SOODHIQUNE_SCRIPT_STACK_BYTES);
+    check("play", nothing, play, sizeof lines - 1, SOODHIQUNE_SCRIPT_STACK_BYTES);
+    printf("%d passed, %d failed\n", passed, failed);
+    return failed != 0;
+}
