@@ -5,6 +5,7 @@ use std::env;
 use std::fs;
 use std::path::{Path, PathBuf};
 use std::process::{exit, Command};
+use std::time::SystemTime;
 
 const VARIABLE: &str = "SOODHIQUNE_ARCHIVE";
 const CRATE: &str = "boundary";
@@ -33,6 +34,34 @@ fn make(repository: &Path, archive: &Path) {
     }
 }
 
+/// A file below this folder that was changed later than that.
+fn newer(folder: &Path, than: SystemTime) -> Option<PathBuf> {
+    for entry in fs::read_dir(folder).ok()?.flatten() {
+        let path = entry.path();
+        let found = if path.is_dir() {
+            newer(&path, than)
+        } else {
+            entry.metadata().ok()?.modified().ok().filter(|changed| *changed > than).map(|_| path)
+        };
+        if found.is_some() {
+            return found;
+        }
+    }
+    None
+}
+
+/// A build starts no proof of some minutes unasked, so an archive that is older than its sources is linked, and said.
+fn tell_if_older(archive: &Path, sources: &Path) {
+    let made = fs::metadata(archive).and_then(|file| file.modified());
+    if let Some(path) = made.ok().and_then(|made| newer(sources, made)) {
+        println!(
+            "cargo:warning=the archive {} is older than {}; `rt staticlib {CRATE}` makes it anew",
+            archive.display(),
+            path.display()
+        );
+    }
+}
+
 fn archive_of_the_repository() -> PathBuf {
     let repository = variable("CARGO_MANIFEST_DIR").join("../..");
     let archive = repository.join(format!("target/staticlib/lib{CRATE}.a"));
@@ -44,6 +73,9 @@ fn archive_of_the_repository() -> PathBuf {
         }
         make(&repository, &archive);
     }
+    let sources = repository.join("crates");
+    println!("cargo:rerun-if-changed={}", sources.display());
+    tell_if_older(&archive, &sources);
     archive
 }
 
