@@ -8,7 +8,7 @@ use lib.ListN.{length, getD, set, take, length-set}
 use lib.Seq.{getD-set-same, getD-set-other, take-suc, take-all}
 use denote.Ref.{now}
 use Rattle.rules.specs.Notation.{_is_, _<?_}
-use Rattle.rules.specs.Script.{noLine, bodyAt, contentsOf, badAt, goodScript, bodiesFrom, readScript}
+use Rattle.rules.specs.Script.{nowhere, noLine, bodyAt, contentsOf, badAt, goodScript, bodiesFrom, readScript}
 use Rattle.rules.specs.declared.Line.{Line}
 use Rattle.rules.specs.declared.Contents.{Contents}
 use Rattle.rules.specs.declared.Script.{Script}
@@ -100,14 +100,14 @@ bodies-read : (src : List ℕ) (top : Contents) (left i at : ℕ) (rows : List L
 unfolding bodiesFrom goodScript
 bodies-read src top zero i at rows = branch AsRead (at is length src) (λ e. good refl refl) (λ e. bad (i + 2))
 bodies-read src top (suc left) i at rows =
-    branch AsRead (bodyAt src at .next is 0) (λ e. bad (i + 2))
+    branch AsRead (bodyAt src at .next is nowhere src) (λ e. bad (i + 2))
     (λ e. bodies-read src top left (i + 1) (bodyAt src at .next) (set rows i (bodyAt src at .line)))
 
 as-read : (src : List ℕ) → AsRead (readScript src)
 unfolding readScript
 as-read src =
     branch AsRead (16384 <? length src) (λ e. bad 0)
-    (λ e. branch AsRead (contentsOf src .next is 0) (λ f. bad 1) (λ f. bodies-read src (contentsOf src) _ _ _ _))
+    (λ e. branch AsRead (contentsOf src .next is nowhere src) (λ f. bad 1) (λ f. bodies-read src (contentsOf src) _ _ _ _))
 
 -- ---- so the whole script is read back
 same-script : (x y : Script) → x .refusal ≡ y .refusal → x .wrong ≡ y .wrong → x .n ≡ y .n → x .s ≡ y .s → x .k ≡ y .k → x .rows ≡ y .rows → x ≡ y
