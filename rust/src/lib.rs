@@ -7,6 +7,7 @@ pub mod library;
 pub mod linked;
 pub mod machine;
 mod nodeset;
+pub mod process;
 #[cfg(feature = "proved")]
 pub mod proved;
 pub mod random;
