@@ -1,8 +1,8 @@
-//! compare SEED COUNT FIRST LIMIT SHRINKING DIRECTORY PROGRAM [ARGUMENT...]: plays the scripts 0 to COUNT − 1 of a seed on
+//! compare SEED COUNT FIRST LIMIT SHRINK DIRECTORY PROGRAM [ARGUMENT...]: plays the scripts 0 to COUNT − 1 of a seed on
 //! the second machine and on a program that reads them from its standard input, and compares every byte that is printed,
 //! and how the program ended: with status 0, or 1 on a bad script. It has FIRST seconds for the empty script, which comes
 //! first, since a program may build itself when it is first run, and LIMIT seconds for each other. The first script that
-//! differs is shrunk for SHRINKING seconds. The scripts that differ go into the directory with both outputs; those of an
+//! differs is shrunk for SHRINK seconds. The scripts that differ go into the directory with both outputs; those of an
 //! earlier run are removed from it. The last line is 'N passed, M failed'.
 
 use second::generate::script;
@@ -217,14 +217,14 @@ fn number(name: &str, argument: &str, least: u64) -> u64 {
 fn main() -> io::Result<()> {
     let arguments: Vec<String> = std::env::args().skip(1).collect();
     if arguments.len() < 7 {
-        fail("compare SEED COUNT FIRST LIMIT SHRINKING DIRECTORY PROGRAM [ARGUMENT...]");
+        fail("compare SEED COUNT FIRST LIMIT SHRINK DIRECTORY PROGRAM [ARGUMENT...]");
     }
     let comparison = Comparison {
         seed: number("SEED", &arguments[0], 0),
         count: number("COUNT", &arguments[1], 1),
         first: Duration::from_secs(number("FIRST", &arguments[2], 1)),
         limit: Duration::from_secs(number("LIMIT", &arguments[3], 1)),
-        shrinking: Duration::from_secs(number("SHRINKING", &arguments[4], 0)),
+        shrinking: Duration::from_secs(number("SHRINK", &arguments[4], 0)),
         directory: &arguments[5],
         command: &arguments[6..],
     };
