@@ -5,6 +5,7 @@ pub mod generate;
 pub mod library;
 pub mod machine;
 mod nodeset;
+pub mod process;
 #[cfg(feature = "proved")]
 pub mod proved;
 pub mod random;

@@ -183,7 +183,7 @@ fn leave_out(
 }
 
 /// The shortest script found on which the machines differ, from one on which they do.
-fn shrink_script(script: Vec<u8>, differs: impl Fn(&[u8]) -> bool) -> Vec<u8> {
+pub fn shrink_script(script: Vec<u8>, differs: impl Fn(&[u8]) -> bool) -> Vec<u8> {
     let fewer_bodies = leave_out(script, body_count, without_bodies, &differs);
     leave_out(fewer_bodies, <[u8]>::len, without, &differs)
 }
