@@ -14,7 +14,7 @@ use Rattle.rules.specs.Reach.{free, lowestFree, countFree}
 use Rattle.rules.specs.Fetch.{takenOut, writeClaim, enterAtHead, takeNode, Fetched, fetched, fetchAgain, fetch}
 use Rattle.rules.proofs.Ground.Counting.{count-cut}
 use Rattle.rules.proofs.Laws.Shape.{is-sound}
-use Rattle.rules.proofs.Laws.Refused.{fetch-none}
+use Rattle.rules.proofs.Rules.Reasons.{fetch-none}
 use Rattle.nodesets.specs.Set.{has, members}
 use Rattle.reach.specs.FreeSet.{IsFreeSet}
 use Rattle.reach.proofs.TakingOut.{Going, going-end, going-left, going-skip, going-keep}

@@ -1,5 +1,5 @@
 -- What follows from one definition of specs/ by itself: the words after a store, sound shape clause by clause, what is met, what each number
--- of the comparison says, that a refused call changes nothing, that a run is its steps, that the board on numbers is the board on rows, that
+-- of the comparison says, what an answer tells, that a run is its steps, that the board on numbers is the board on rows, that
 -- two results of one promise are equal. They may use specs/ and the ground, and hold for any tables.
 pub mod Opened
 pub mod Words
@@ -8,8 +8,7 @@ pub mod NodesAlone
 pub mod Listed
 pub mod Free
 pub mod Compared
-pub mod Refused
-pub mod AnswersByPhase
+pub mod Answers
 pub mod RunSteps
 pub mod BoardNumbers
 pub mod ScriptRefused

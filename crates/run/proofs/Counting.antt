@@ -19,7 +19,7 @@ use Rattle.rules.specs.declared.Ran.{Ran}
 use Rattle.rules.proofs.Ground.Logic.{branch, clash, not-of, or-case, or-neither, and-left, all5}
 use Rattle.rules.proofs.Laws.Words.{same-node-count, same-seat-count}
 use Rattle.rules.proofs.Laws.Shape.{is-sound}
-use Rattle.rules.proofs.Laws.Refused.{step-keeps}
+use Rattle.rules.proofs.Rules.RefusedExactly.{refused-step-keeps}
 use Rattle.rules.proofs.Soundness.SoundKept.{step-keeps-sound}
 use Rattle.shape.specs.Parts.{listEnds}
 use Rattle.phases.proofs.Ways.{step-past}
@@ -97,7 +97,7 @@ module _ (schedule : List ℕ) (budget : ℕ) (whole : Done Ran) (n t : List ℕ
     pub left-refused : r ≢ 0 → done (ran k r) (tables n′ t′) ≡ whole
     left-refused d =
         let z : refusalOf (step (tables n t) s .answer) ≢ 0 = λ e. d (refusal ∙ e) in
-        rw (refusal, after ∙ step-keeps (tables n t) s z)
+        rw (refusal, after ∙ refused-step-keeps (tables n t) s z)
         (plus-none k (refusalOf (step (tables n t) s .answer)) (tables n t)
         ∙ ap (plus k) (rw isEntry (sym (here k h i ∙ turned-away (budget - (k + 1)) (tables n t) (getD schedule k 0) (drop (k + 1) schedule) (rw isEntry at z))))
         ∙ left)

@@ -14,7 +14,7 @@ use Rattle.rules.specs.Play.{Call, beginCall, stepCall, releaseCall, cal
 use Rattle.rules.specs.Reached.{Request, afterRequests}
 use Rattle.rules.specs.Apart.{claimOfSeat, LinkedIn, Stands, GivesUp, released, withdrawn, GivenUp, now, later, callsMade, StillStands}
 use Rattle.rules.proofs.Ground.Deciding.{if-same}
-use Rattle.rules.proofs.Laws.AnswersByPhase.{answers-back}
+use Rattle.rules.proofs.Laws.Answers.{answers-back}
 use Rattle.rules.proofs.Laws.RunSteps.{requests-are-calls}
 use Rattle.rules.proofs.Invariant.View.{Linked, validating, reader-waiting, holding}
 use Rattle.rules.proofs.Invariant.Phases.{linked-busy, linked-in, in-linked}

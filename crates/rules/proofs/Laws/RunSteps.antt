@@ -19,7 +19,7 @@ use Rattle.rules.specs.Refusing.{DamageRefuses, tables-damaged}
 use Rattle.rules.specs.declared.Ran.{Ran}
 use Rattle.rules.specs.Apart.{stepsOf, no-more, one-more, IsItsSteps, Stops, at-the-end, budget-used, at-a-refusal, callsMade}
 use Rattle.rules.proofs.Ground.Logic.{branch}
-use Rattle.rules.proofs.Laws.Refused.{refused-as}
+use Rattle.rules.proofs.Laws.Answers.{refused-as}
 
 none-taken : (t : Tables) (schedule : List ℕ) (budget number : ℕ) → IsItsSteps t schedule budget (done (ran 0 number) t)
 unfolding afterAll

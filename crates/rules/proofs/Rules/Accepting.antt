@@ -1,11 +1,11 @@
 -- Why a call is refused, or what is known where it is accepted. Over any tables and numbers.
-use Prim.Native.Nat.{ℕ, _<_}
+use Prim.Native.Nat.{ℕ, _≤_, _<_}
 use mathlib.Core.Path.{_≡_}
 use mathlib.Core.Bool.{true, false, not}
 use mathlib.Core.Logic.{_≢_}
 use native.Mathlib.Omega.{arith}
 use borrow.Author.Tests.{eqb-true, eqb-false, leb-true, leb-false, not-false, lt-leb, ne-eqb}
-use Rattle.rules.specs.Notation.{_is_, _≤?_}
+use Rattle.rules.specs.Notation.{if_then_else_, _is_, _≤?_}
 use Rattle.rules.specs.Tables.{Tables, seatCount, phase}
 use Rattle.rules.specs.Comparison.{Claim}
 use Rattle.rules.specs.Shape.{sound, isKind}
@@ -46,6 +46,17 @@ no-such-kind : (k : ℕ) → not (isKind k) ≡ true → (k ≢ 1) × (k ≢ 2)
 unfolding isKind
 no-such-kind k e = let q = or-neither (k is 1) (k is 2) (not-true (isKind k) e) in (eqb-false k 1 (q .0), eqb-false k 2 (q .1))
 
+-- every call on a seat looks at the tables first, and then at the seat's number
+seat-first : (t : Tables) (s : ℕ) {d : Done Answer} (P : Done Answer → Type 0)
+    → (sound t ≡ false → P (done (refused 1) t))
+    → (sound t ≡ true → seatCount t ≤ s → P (done (refused 2) t))
+    → (HasSeat t s → P d)
+    → P (if not (sound t) then done (refused 1) t else if noSeat t s then done (refused 2) t else d)
+seat-first t s P broken past there =
+    branch P (not (sound t)) (λ e. broken (not-true (sound t) e)) (λ e.
+    branch P (noSeat t s) (λ h. past (not-false (sound t) e) (leb-true (seatCount t) s h)) (λ h.
+    there (record { is-sound = not-false (sound t) e; is-seat = leb-false (seatCount t) s h })))
+
 pub data Beginning (t : Tables) (s : ℕ) (c : Claim) : Done Answer → Type 0 where
   begin-refused : (number : ℕ) → Refuses t (beginCall s c) number → Beginning t s c (done (refused number) t)
   begin-accepted : {f : Fetched} → sound t ≡ true → s < seatCount t → Proper c → phase t s ≡ 0 → Fetching t s c f → Beginning t s c (begun t f)
@@ -53,16 +64,13 @@ pub data Beginning (t : Tables) (s : ℕ) (c : Claim) : Done Answer → Type 0 w
 pub beginning : (t : Tables) (s : ℕ) (c : Claim) → Beginning t s c (begin t s c)
 unfolding begin
 beginning t s c =
-    branch (Beginning t s c) (not (sound t)) (λ e. begin-refused 1 (damaged (not-true (sound t) e))) (λ e₁.
-    let shaped = not-false (sound t) e₁ in
-    branch (Beginning t s c) (noSeat t s) (λ e. begin-refused 2 (no-seat shaped (leb-true (seatCount t) s e))) (λ e₂.
-    let has : HasSeat t s = record { is-sound = shaped; is-seat = leb-false (seatCount t) s e₂ } in
+    seat-first t s (Beginning t s c) (λ e. begin-refused 1 (damaged e)) (λ e h. begin-refused 2 (no-seat e h)) (λ has.
     branch (Beginning t s c) (c .end ≤? c .start) (λ e. begin-refused 3 (no-frames has (leb-true (c .end) (c .start) e))) (λ e₃.
     let frames = leb-false (c .end) (c .start) e₃ in
     branch (Beginning t s c) (not (isKind (c .kind))) (λ e. let k = no-such-kind (c .kind) e in begin-refused 4 (no-kind has frames (k .0) (k .1))) (λ e₄.
     let proper : Proper c = record { some = frames; reads-or-writes = is-kind (c .kind) (not-false (isKind (c .kind)) e₄) } in
     branch (Beginning t s c) (not (phase t s is 0)) (λ e. begin-refused 5 (not-idle has proper (eqb-false (phase t s) 0 (not-true (phase t s is 0) e)))) (λ e₅.
-    begin-accepted shaped (has .is-seat) proper (eqb-true (phase t s) 0 (not-false (phase t s is 0) e₅)) (fetching t s c))))))
+    begin-accepted (has .is-sound) (has .is-seat) proper (eqb-true (phase t s) 0 (not-false (phase t s is 0) e₅)) (fetching t s c)))))
 
 pub data Stepped (t : Tables) (s : ℕ) : Done Answer → Type 0 where
   step-refused : (number : ℕ) → Refuses t (stepCall s) number → Stepped t s (done (refused number) t)
@@ -71,12 +79,10 @@ pub data Stepped (t : Tables) (s : ℕ) : Done Answer → Type 0 where
 pub stepped : (t : Tables) (s : ℕ) → Stepped t s (step t s)
 unfolding step
 stepped t s =
-    branch (Stepped t s) (not (sound t)) (λ e. step-refused 1 (damaged (not-true (sound t) e))) (λ e₁.
-    let shaped = not-false (sound t) e₁ in
-    branch (Stepped t s) (noSeat t s) (λ e. step-refused 2 (no-seat shaped (leb-true (seatCount t) s e))) (λ e₂.
-    let has : HasSeat t s = record { is-sound = shaped; is-seat = leb-false (seatCount t) s e₂ } in
-    branch (Stepped t s) (phase t s is 0) (λ e. step-refused 6 (idle has (eqb-true (phase t s) 0 e))) (λ e₃.
-    step-accepted shaped (has .is-seat) (eqb-false (phase t s) 0 e₃) (steps t s))))
+    seat-first t s (Stepped t s) (λ e. step-refused 1 (damaged e)) (λ e h. step-refused 2 (no-seat e h)) (λ has.
+    branch (Stepped t s) (phase t s is 0)
+    (λ e. step-refused 6 (idle has (eqb-true (phase t s) 0 e)))
+    (λ e. step-accepted (has .is-sound) (has .is-seat) (eqb-false (phase t s) 0 e) (steps t s)))
 
 pub data Releasing (t : Tables) (s : ℕ) : Done Answer → Type 0 where
   release-refused : (number : ℕ) → Refuses t (releaseCall s) number → Releasing t s (done (refused number) t)
@@ -85,22 +91,18 @@ pub data Releasing (t : Tables) (s : ℕ) : Done Answer → Type 0 where
 pub releasing : (t : Tables) (s : ℕ) → Releasing t s (release t s)
 unfolding release
 releasing t s =
-    branch (Releasing t s) (not (sound t)) (λ e. release-refused 1 (damaged (not-true (sound t) e))) (λ e₁.
-    let shaped = not-false (sound t) e₁ in
-    branch (Releasing t s) (noSeat t s) (λ e. release-refused 2 (no-seat shaped (leb-true (seatCount t) s e))) (λ e₂.
-    let has : HasSeat t s = record { is-sound = shaped; is-seat = leb-false (seatCount t) s e₂ } in
-    branch (Releasing t s) (not (phase t s is 5)) (λ e. release-refused 7 (not-holding has (eqb-false (phase t s) 5 (not-true (phase t s is 5) e)))) (λ e₃.
-    release-accepted shaped (has .is-seat) (eqb-true (phase t s) 5 (not-false (phase t s is 5) e₃)))))
+    seat-first t s (Releasing t s) (λ e. release-refused 1 (damaged e)) (λ e h. release-refused 2 (no-seat e h)) (λ has.
+    branch (Releasing t s) (not (phase t s is 5))
+    (λ e. release-refused 7 (not-holding has (eqb-false (phase t s) 5 (not-true (phase t s is 5) e))))
+    (λ e. release-accepted (has .is-sound) (has .is-seat) (eqb-true (phase t s) 5 (not-false (phase t s is 5) e))))
 
 -- a step is refused and changes nothing, or is the step by phase
 pub step-or-same : (t : Tables) (s : ℕ) (P : Tables → Type 0) → P t
     → (sound t ≡ true → s < seatCount t → phase t s ≢ 0 → P (stepByPhase t s .after)) → P (step t s .after)
 unfolding step
 step-or-same t s P same accepted =
-    branch (λ (d : Done Answer). P (d .after)) (not (sound t)) (λ e. same) (λ e₁.
-    branch (λ (d : Done Answer). P (d .after)) (noSeat t s) (λ e. same) (λ e₂.
-    branch (λ (d : Done Answer). P (d .after)) (phase t s is 0) (λ e. same) (λ e₃.
-    accepted (not-false (sound t) e₁) (leb-false (seatCount t) s e₂) (eqb-false (phase t s) 0 e₃))))
+    seat-first t s (λ (d : Done Answer). P (d .after)) (λ e. same) (λ e h. same) (λ has.
+    branch (λ (d : Done Answer). P (d .after)) (phase t s is 0) (λ e. same) (λ e. accepted (has .is-sound) (has .is-seat) (eqb-false (phase t s) 0 e)))
 
 -- an accepted step of sound tables is the step by phase
 pub step-is : (t : Tables) (s : ℕ) → sound t ≡ true → s < seatCount t → phase t s ≢ 0 → step t s ≡ stepByPhase t s

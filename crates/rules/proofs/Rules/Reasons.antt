@@ -176,6 +176,15 @@ fetching t s c =
     (λ f. found-then (lowestFree (takenOut t) s) z refl (eqb-false (lowestFree (takenOut t) s) 0 f)))
     (λ e. found (lowestFree t s) refl (eqb-false (lowestFree t s) 0 e))
 
+-- where it finds none it changes nothing
+none-found : {t : Tables} {s : ℕ} {c : Claim} {f : Fetched} → Fetching t s c f → f .node ≡ 0 → f .after ≡ t
+none-found (found a e z) q = absurd (z q)
+none-found (found-then a e e′ z) q = absurd (z q)
+none-found (none e e′) q = refl
+
+pub fetch-none : (t : Tables) (s : ℕ) (c : Claim) → fetch t s c .node ≡ 0 → fetch t s c .after ≡ t
+fetch-none t s c = none-found (fetching t s c)
+
 -- ---- the step by phase
 pub data Stepping (t : Tables) (s : ℕ) : Done Answer → Type 0 where
   in-1 : {u : Tables} → phase t s ≡ 1 → Walking t s u → Stepping t s (answered u s)

@@ -23,7 +23,7 @@ use Rattle.rules.specs.Play.{Call, beginCall, stepCall, releaseCall, cal
 use Rattle.rules.specs.Refusing.{HasSeat, Proper, NoNodeFree, Refuses, damaged, no-seat, no-frames, no-kind, not-idle, idle, not-holding, none-to-begin, none-again, ClearRefuses, lengths-wrong, DamageRefuses, tables-damaged, BoardRefuses, board-damaged, too-few-rows}
 use Rattle.rules.specs.declared.Row.{Row}
 use Rattle.rules.proofs.Ground.Logic.{branch, not-true, neither, or-left, or-right}
-use Rattle.rules.proofs.Laws.AnswersByPhase.{answers-no-refusal}
+use Rattle.rules.proofs.Laws.Answers.{refused-as, answers-no-refusal}
 use Rattle.rules.proofs.Rules.Reasons.{Fetching, found, found-then, none, Stepping, in-1, in-2, in-3, in-4, in-6, at-rest, by-phase-6}
 use Rattle.rules.proofs.Rules.Accepting.{Beginning, begin-refused, begin-accepted, beginning, Stepped, step-refused, step-accepted, stepped, Releasing, release-refused, release-accepted, releasing, step-is}
 
@@ -118,6 +118,16 @@ table-refused t _ k (none-to-begin {s = s} {c = c} w p e n) =
     rw (w .is-sound, lt-leb (seatCount t) s (w .is-seat), lt-leb (c .end) (c .start) (p .some), is-a-kind (c .kind) (p .reads-or-writes), eq-eqb (phase t s) 0 e, no-node-found t s c n)
 table-refused t _ k (none-again {s = s} w e n) =
     step-is t s (w .is-sound) (w .is-seat) (omega arith) ∙ by-phase-6 t s e ∙ rw (no-node-found t s (claimOf t (own t s)) n)
+
+-- so what is refused, with whatever number, keeps the tables
+pub refused-keeps : (t : Tables) (c : Call) → refusalOf (call t c .answer) ≢ 0 → call t c .after ≡ t
+refused-keeps t c d =
+    let k = refusalOf (call t c .answer) in
+    ap (λ (d : Done Answer). d .after) (table-refused t c k (call-by-table t c k (refused-as (call t c .answer) d)))
+
+pub refused-step-keeps : (t : Tables) (s : ℕ) → refusalOf (step t s .answer) ≢ 0 → step t s .after ≡ t
+unfolding call
+refused-step-keeps t s = refused-keeps t (stepCall s)
 
 -- ---- clear, free count and board
 pub clear-by-table : (t : Tables) (k : ℕ) → clear t .answer ≡ k → k ≢ 0 → ClearRefuses t k

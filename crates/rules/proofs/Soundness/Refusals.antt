@@ -19,7 +19,7 @@ use Rattle.rules.specs.Refusing.{Refuses}
 use Rattle.rules.specs.Reached.{single, Reached, asked}
 use Rattle.rules.specs.declared.Ran.{Ran}
 use Rattle.rules.proofs.Ground.Logic.{branch, clash}
-use Rattle.rules.proofs.Laws.Refused.{refused-as, answer-accepts}
+use Rattle.rules.proofs.Laws.Answers.{refused-as, answer-accepts}
 use Rattle.rules.proofs.Rules.Reasons.{Stepping, in-1, in-2, in-3, in-4, in-6, at-rest}
 use Rattle.rules.proofs.Soundness.SoundReached.{reached-sound}
 use Rattle.rules.proofs.Rules.Accepting.{refuses-1, Beginning, begin-refused, begin-accepted, beginning, Stepped, step-refused, step-accepted, stepped, Releasing, release-refused, release-accepted, releasing}

@@ -15,7 +15,7 @@ use Rattle.rules.specs.Calls.{step}
 use Rattle.rules.specs.Apart.{Covers}
 use Rattle.rules.specs.Cause.{Cause, Settled, holds, waits, no-node}
 use Rattle.rules.proofs.Laws.Words.{seat-count}
-use Rattle.rules.proofs.Laws.AnswersByPhase.{answers-held, answers-wait}
+use Rattle.rules.proofs.Laws.Answers.{answers-held, answers-wait}
 use Rattle.rules.proofs.Laws.Compared.{Precedes, apart, readers}
 use Rattle.rules.proofs.Invariant.View.{seatsOf, waiting, reader-waiting}
 use Rattle.rules.proofs.Invariant.Phases.{linked-busy, linked-in}

@@ -11,7 +11,7 @@ use Rattle.rules.specs.Steps.{refetched}
 use Rattle.rules.specs.Calls.{step}
 use Rattle.rules.specs.Cause.{Cause}
 use Rattle.rules.proofs.Ground.Logic.{branch}
-use Rattle.rules.proofs.Laws.AnswersByPhase.{waits-in}
+use Rattle.rules.proofs.Laws.Answers.{waits-in}
 use Rattle.rules.proofs.Rules.Reasons.{Stepping, in-1, in-2, in-3, in-4, in-6, at-rest}
 use Rattle.rules.proofs.Rules.Accepting.{Stepped, step-refused, step-accepted, stepped}
 use Rattle.rules.proofs.Keeping.Good.{Good, room}

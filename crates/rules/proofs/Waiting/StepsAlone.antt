@@ -14,7 +14,7 @@ use Rattle.rules.specs.Cause.{stepTimes, Settled, holds, waits, no-node,
 use Rattle.rules.specs.declared.Ran.{Ran}
 use Rattle.rules.proofs.Ground.Logic.{branch}
 use Rattle.rules.proofs.Laws.Shape.{sound-is}
-use Rattle.rules.proofs.Laws.Refused.{step-keeps as refused-keeps}
+use Rattle.rules.proofs.Rules.RefusedExactly.{refused-step-keeps}
 use Rattle.rules.proofs.Rules.Reasons.{steps}
 use Rattle.rules.proofs.Soundness.Refusals.{NoneOr8, no-refusal, refusal-8, stepping-none-or-8}
 use Rattle.rules.proofs.Frames.AfterStep.{step-stays-busy}
@@ -79,7 +79,7 @@ run-steps-alone (suc k) zero t s l = absurd (omega arith)
 run-steps-alone (suc k) (suc budget) t s l =
     branch (λ (d : Done Ran). d .after ≡ stepTimes k (step t s .after) s) (refusalOf (step t s .answer) is 0)
     (λ e. run-steps-alone k budget (step t s .after) s (omega arith))
-    (λ e. let q = refused-keeps t s (eqb-false (refusalOf (step t s .answer)) 0 e) in sym (rw q (same-times k t s q)))
+    (λ e. let q = refused-step-keeps t s (eqb-false (refusalOf (step t s .answer)) 0 e) in sym (rw q (same-times k t s q)))
 
 pub run-alone : {N S : ℕ} → Bounds N S → {t : Tables} → Good N S t → (k budget s : ℕ) → k ≤ budget → run t (replicate k s) budget .after ≡ stepTimes k t s
 unfolding run

@@ -1,4 +1,4 @@
--- What a step answers, from the seat's new phase and the other way round.
+-- What an answer tells: a refusal its number, and the answer of a step the seat's new phase.
 use Prim.Native.Nat.{ℕ}
 use mathlib.Core.Path.{_≡_, refl, sym, ap, _∙_}
 use mathlib.Core.Logic.{_≢_, _⊎_, inl, inr}
@@ -6,8 +6,28 @@ use native.Mathlib.Omega.{arith}
 use borrow.Author.Tests.{eqb-true}
 use Rattle.rules.specs.Notation.{_is_}
 use Rattle.rules.specs.Tables.{Tables, phase, cur}
+use Rattle.rules.specs.Run.{refusalOf}
 use Rattle.rules.specs.Answers.{Answer, node, out, on, wait, held, back, refused, answerOf}
 use Rattle.rules.proofs.Ground.Logic.{branch}
+
+-- an answer that is a refusal is the refusal of its number
+pub refused-as : (a : Answer) → refusalOf a ≢ 0 → a ≡ refused (refusalOf a)
+refused-as (node n) d = absurd (d refl)
+refused-as out d = absurd (d refl)
+refused-as on d = absurd (d refl)
+refused-as (wait n) d = absurd (d refl)
+refused-as held d = absurd (d refl)
+refused-as back d = absurd (d refl)
+refused-as (refused number) d = refl
+
+-- an answer from the seat's phase is no refusal
+pub answer-accepts : (t : Tables) (s : ℕ) → refusalOf (answerOf t s) ≡ 0
+unfolding answerOf
+answer-accepts t s =
+    branch (λ a. refusalOf a ≡ 0) (phase t s is 2) (λ e. refl)
+    (λ e. branch (λ a. refusalOf a ≡ 0) (phase t s is 4) (λ e. refl)
+    (λ e. branch (λ a. refusalOf a ≡ 0) (phase t s is 5) (λ e. refl)
+    (λ e. branch (λ a. refusalOf a ≡ 0) (phase t s is 6) (λ e. refl) (λ e. refl))))
 
 module _ (t : Tables) (s : ℕ) where
   pub answers-wait : (phase t s ≡ 2) ⊎ (phase t s ≡ 4) → answerOf t s ≡ wait (cur t s)
