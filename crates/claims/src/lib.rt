@@ -101,10 +101,7 @@ pub fn step(nodes: &mut [u32], seats: &mut [u32], s: u32) -> Reply
     ensures { λ r. ⌜ done (means r) (tables (now (nodes .exit)) (now (seats .exit))) ≡ call.step (tables (now (nodes .entry)) (now (seats .entry))) s ⌝ }
 {
     if shape::is_sound(nodes, seats) {
-        if (s as usize) < words::seat_count(seats) {
-            return phases::step_by_phase(nodes, seats, s);
-        }
-        return Reply::Refused(2);
+        return phases::step_known(nodes, seats, s);
     }
     Reply::Refused(1)
 }

@@ -1,5 +1,5 @@
-// The phase decides the step: what a seat that there is does in each of its phases, on tables that are known to be sound. These are inner
-// functions: the public call `claims::step` and run come here with both tested.
+// A step on tables that are known to be sound, in each of the seat's phases. These are inner functions: the public calls `claims::step` and
+// `run::run` test the tables and come here.
 ghost use mathlib.Core.Path.{_≡_};
 ghost use mathlib.Core.Bool.{true};
 ghost use Rattle.rules.specs.Tables.{tables};
@@ -7,6 +7,7 @@ ghost use Rattle.rules.specs.Shape.{sound};
 ghost use Rattle.rules.specs.Answers.{done};
 ghost use Rattle.rules.specs.Means.{means};
 ghost use Rattle.rules.specs.Steps as rule;
+ghost use Rattle.rules.specs.Calls as call;
 ghost use Rattle.phases.specs.Parts as part;
 use rules::Reply;
 
@@ -26,8 +27,8 @@ fn step_withdrawn(nodes: &mut [u32], seats: &mut [u32], s: u32) -> Reply
     steps::answer(seats, s)
 }
 
-// refusal 6, or the step that the phase decides
-pub fn step_by_phase(nodes: &mut [u32], seats: &mut [u32], s: u32) -> Reply
+// the phase decides the step
+fn step_by_phase(nodes: &mut [u32], seats: &mut [u32], s: u32) -> Reply
     requires { ⌜ sound (tables (now nodes) (now seats)) ≡ true ⌝ }
     ensures { λ r. ⌜ done (means r) (tables (now (nodes .exit)) (now (seats .exit))) ≡ part.stepBusy (tables (now (nodes .entry)) (now (seats .entry))) s ⌝ }
 {
@@ -42,4 +43,15 @@ pub fn step_by_phase(nodes: &mut [u32], seats: &mut [u32], s: u32) -> Reply
         6 => step_withdrawn(nodes, seats, s),
         7..=4294967295 => Reply::Refused(1),
     }
+}
+
+// Whether there is such a seat is asked here, for run too, so that no read or store of its words asks again.
+pub fn step_known(nodes: &mut [u32], seats: &mut [u32], s: u32) -> Reply
+    requires { ⌜ sound (tables (now nodes) (now seats)) ≡ true ⌝ }
+    ensures { λ r. ⌜ done (means r) (tables (now (nodes .exit)) (now (seats .exit))) ≡ call.step (tables (now (nodes .entry)) (now (seats .entry))) s ⌝ }
+{
+    if (s as usize) < words::seat_count(seats) {
+        return step_by_phase(nodes, seats, s);
+    }
+    Reply::Refused(2)
 }

@@ -84,7 +84,7 @@ fn run_steps(nodes: &mut [u32], seats: &mut [u32], schedule: &[u32], budget: u32
             };
         }
         let before = words::seat_word_within(seats, s, words::PHASE);
-        let reply = phases::step_by_phase(nodes, seats, s);
+        let reply = phases::step_known(nodes, seats, s);
         let refusal = refusal_of(reply);
         if refusal != 0 {
             break Ran {

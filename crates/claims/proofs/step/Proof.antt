@@ -1,6 +1,5 @@
 -- `claims::step` meets its promise.
 use Rattle.shape.proofs.Tests.{now-sound}
-use Rattle.phases.proofs.Ways.{step-seat, step-past}
 use Rattle.claims.proofs.Ways.{step-damaged}
 use borrow.Author.Needs.{needs}
 use Rattle.claims.proofs.step.Statement.{statement}
@@ -9,11 +8,8 @@ use Rattle.claims.proofs.step.Tie as tie
 is-sound-requires : tie.Need-is-sound-requires
 is-sound-requires c κs = search needs
 
-seat-count-requires : tie.Need-seat-count-requires
-seat-count-requires c κs = search needs
-
-step-by-phase-requires : tie.Need-step-by-phase-requires
-step-by-phase-requires c κs = search now-sound
+step-known-requires : tie.Need-step-known-requires
+step-known-requires c κs = search now-sound
 
 same-length : tie.Need-same-length
 same-length c = search needs
@@ -22,7 +18,7 @@ same-length-2 : tie.Need-same-length-2
 same-length-2 c = search needs
 
 returns : tie.Need-returns
-returns c = search (step-seat, now-sound)
+returns c = search needs
 
 same-length-3 : tie.Need-same-length-3
 same-length-3 c = search needs
@@ -31,30 +27,17 @@ same-length-4 : tie.Need-same-length-4
 same-length-4 c = search needs
 
 returns-2 : tie.Need-returns-2
-returns-2 c = search (step-past, now-sound)
-
-same-length-5 : tie.Need-same-length-5
-same-length-5 c = search needs
-
-same-length-6 : tie.Need-same-length-6
-same-length-6 c = search needs
-
-returns-3 : tie.Need-returns-3
-returns-3 c = search step-damaged
+returns-2 c = search step-damaged
 
 pub step-spec : {M : Type 1} → statement M
 step-spec =
     tie.close
     (tie.spec
     is-sound-requires
-    seat-count-requires
-    step-by-phase-requires
+    step-known-requires
     same-length
     same-length-2
     returns
     same-length-3
     same-length-4
-    returns-2
-    same-length-5
-    same-length-6
-    returns-3)
+    returns-2)

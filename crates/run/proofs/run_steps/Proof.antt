@@ -8,7 +8,6 @@ use Prim.Native.Nat.{_+_, _-_, _*_, _≤_}
 use mathlib.Core.Path.{_≡_, refl}
 use native.Mathlib.Omega.{arith}
 use Rattle.rules.proofs.Laws.Shape.{seats-few}
-use Rattle.phases.proofs.Ways.{step-seat}
 use borrow.Author.Needs.{needs}
 use Rattle.run.proofs.Counting.{plus, seat-there, still-there, left-all, left-again, left-refused, left-past, left-budget, left-end, left-stopped, still-fit, still-sound, now-damaged}
 use Rattle.run.proofs.run_steps.Statement.{statement}
@@ -48,8 +47,8 @@ seat-word-within-requires c κs =
     let seat = c .before in
     (seat-there _ _ _ (seat .before .seat-count .ensures) (seat .if3 .left), search needs)
 
-step-by-phase-requires : tie.Need-step-by-phase-requires Inv-loop μ-loop
-step-by-phase-requires c κs = search needs
+step-known-requires : tie.Need-step-known-requires Inv-loop μ-loop
+step-known-requires c κs = search needs
 
 refusal-of-requires : tie.Need-refusal-of-requires Inv-loop μ-loop
 refusal-of-requires c κs = search needs
@@ -85,7 +84,7 @@ loop-again c =
     let loop = unused .before in
     let h = loop .loop .inv .2 in
     let i = loop .loop .inv .3 in
-    let stepped = step-seat _ _ _ _ (seat .before .seat-count .ensures) (loop .loop .inv .4) _ _ _ (step .step-by-phase .ensures) (seat .if3 .left) in (
+    let stepped = step .step-known .ensures in (
       search needs,
       search needs,
       omega (arith, h, unused .if1 .left),
@@ -143,7 +142,7 @@ returns-4 c =
     let loop = unused .before in
     let h = loop .loop .inv .2 in
     let i = loop .loop .inv .3 in
-    let stepped = step-seat _ _ _ _ (seat .before .seat-count .ensures) (loop .loop .inv .4) _ _ _ (step .step-by-phase .ensures) (seat .if3 .left) in
+    let stepped = step .step-known .ensures in
     left-refused _ _ _ _ _ _ _ _ _ _ _ (loop .loop .inv .5) stepped (refusal .refusal-of .ensures) refl (omega (arith, h, unused .if1 .left)) (omega (arith, i, more .if2 .left)) (c .if4 .taken)
 
 same-length-9 : tie.Need-same-length-9 Inv-loop μ-loop
@@ -167,7 +166,7 @@ returns-5 c =
     let loop = unused .before in
     let h = loop .loop .inv .2 in
     let i = loop .loop .inv .3 in
-    let stepped = step-seat _ _ _ _ (seat .before .seat-count .ensures) (loop .loop .inv .4) _ _ _ (step .step-by-phase .ensures) (seat .if3 .left) in
+    let stepped = step .step-known .ensures in
     left-stopped _ _ _ _ _ _ _
     (left-again _ _ _ _ _ _ _ _ _ _ _ (loop .loop .inv .5) stepped (refusal .refusal-of .ensures) refl (omega (arith, h, unused .if1 .left)) (omega (arith, i, more .if2 .left)) (accepted .if4 .left))
     (c .stop-at-damage .ensures)
@@ -188,7 +187,7 @@ run-steps-spec =
     seat-count-requires
     cast-count
     seat-word-within-requires
-    step-by-phase-requires
+    step-known-requires
     refusal-of-requires
     seat-word-within-requires-2
     add-steps
