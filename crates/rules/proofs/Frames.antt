@@ -1,5 +1,5 @@
--- What a call leaves as it was: of the seats, of the nodes, of the claims. Of any tables, but for the last law of ClaimFrames. May use the
--- reasons and effects of the rules.
+-- What a call leaves as it was: of the seats, of the nodes, of the claims; and where a step leaves its seat. Of any tables, but for the last law
+-- of ClaimFrames. May use all rooms before.
 pub mod SeatFrames
 pub mod NodeFrames
 pub mod ClaimFrames
