@@ -1,3 +1,3 @@
 pub mod Made
-pub mod Fresh
+pub mod MadeByRules
 pub mod Library

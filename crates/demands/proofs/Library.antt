@@ -1,29 +1,30 @@
 -- The demands, of the library: what is proved of the rules, of the library's own promises. The words are those of Made and of the rules'
 -- specs/Refusing.antt, Apart.antt and Cause.antt; each proof cites what stands at the door of the rules' proofs.
-use Prim.Native.Nat.{ℕ, _+_, _*_, _≤_}
+use Prim.Native.Nat.{ℕ, _+_, _*_, _/_, _≤_}
 use mathlib.Core.Path.{_≡_, sym, ap, subst, _∙_}
 use mathlib.Core.Bool.{true}
 use mathlib.Core.List.{List}
 use mathlib.Core.Logic.{_≢_, _⊎_}
-use lib.ListN.{replicate}
+use lib.ListN.{length, replicate}
 use Rattle.rules.specs.Tables.{Tables, start, phase, own}
 use Rattle.rules.specs.Shape.{sound}
 use Rattle.rules.specs.Reach.{listOf}
 use Rattle.rules.specs.Answers.{Answer, wait, refused, Done, done}
 use Rattle.rules.specs.Calls.{step}
 use Rattle.rules.specs.FreeCount.{Counted}
-use Rattle.rules.specs.Board.{Boarded, Shown}
+use Rattle.rules.specs.Board.{Boarded, Shown, rowWidth}
 use Rattle.rules.specs.Play.{Call, stepCall, call}
 use Rattle.rules.specs.Reached.{Request}
-use Rattle.rules.specs.Refusing.{Refuses}
+use Rattle.rules.specs.Run.{ran}
+use Rattle.rules.specs.Refusing.{Refuses, ClearRefuses, DamageRefuses, BoardRefuses}
 use Rattle.rules.specs.Apart.{Covers, claimOfSeat, Holds, LinkedIn, Stands, OfOneSeat, Rising, IsItsSteps, Stops, GivenUp, callsMade, StillStands}
 use Rattle.rules.specs.Cause.{Cause, Settled, Told}
 use Rattle.rules.specs.declared.Ran.{Ran}
 use Rattle.rules.proofs.Refusing as refusing
 use Rattle.rules.proofs.Apart as apart
 use Rattle.rules.proofs.Cause as cause
-use Rattle.demands.proofs.Made.{CallMade, RunMade, CountMade, BoardMade, RequestsMade, StepsMade, Lent}
-use Rattle.demands.proofs.Fresh.{made-call, made-run, made-requests, made-steps, count-not-1, board-not-1, lent-reached}
+use Rattle.demands.proofs.Made.{ClearMade, CallMade, RunMade, CountMade, BoardMade, RequestsMade, StepsMade, Lent}
+use Rattle.demands.proofs.MadeByRules.{made-clear, made-call, made-run, made-count, made-board, made-requests, made-steps, count-not-1, board-not-1, lent-reached}
 
 -- ---- demand 1, of any tables: a call is refused exactly where the table of refusals says, and a refused one leaves the tables as found
 pub refused-only : {t u : Tables} {c : Call} {k : ℕ} → CallMade t c (refused k) u → Refuses t c k × (u ≡ t)
@@ -35,6 +36,29 @@ pub refused-there : {t u : Tables} {c : Call} {a : Answer} {k : ℕ} → Refuses
 refused-there {t} {u} {c} {a} {k} r m =
     let e : done a u ≡ done (refused k) t = made-call m ∙ refusing.refused-there t c k r in
     (ap (λ (d : Done Answer). d .answer) e, ap (λ (d : Done Answer). d .after) e)
+
+-- so it is with the other calls: clear
+pub clear-refused : {t u : Tables} {k : ℕ} → k ≢ 0 → ClearMade t k u → ClearRefuses t k × (u ≡ t)
+clear-refused {t} {u} {k} d m =
+    let e = made-clear m in
+    let why = refusing.clear-only t k (sym (ap (λ (x : Done ℕ). x .answer) e)) d in
+    (why, ap (λ (x : Done ℕ). x .after) (e ∙ refusing.clear-there t k why))
+
+-- run as a whole
+pub run-refused : {t u : Tables} {schedule : List ℕ} {budget k : ℕ} {r : Ran} → DamageRefuses t k → RunMade t schedule budget r u → (r ≡ ran 0 k) × (u ≡ t)
+run-refused {t} {u} {schedule} {budget} {k} {r} why m =
+    let e : done r u ≡ done (ran 0 k) t = made-run m ∙ refusing.run-there t schedule budget k why in
+    (ap (λ (x : Done Ran). x .answer) e, ap (λ (x : Done Ran). x .after) e)
+
+-- free count, and the board on numbers
+pub count-refused : {t : Tables} {k : ℕ} → CountMade t (Counted.refused k) → DamageRefuses t k
+count-refused {t} {k} m = refusing.count-only t k (sym (made-count m))
+
+pub board-refused : {t : Tables} {rows after : List ℕ} {k : ℕ} → BoardMade t rows (Boarded.refused k) after → BoardRefuses t (length rows / rowWidth) k × (after ≡ rows)
+board-refused {t} {rows} {after} {k} m =
+    let e = made-board m in
+    let why = refusing.numbers-only t rows k (sym (ap (λ (x : Shown ℕ). x .answer) e)) in
+    (why, ap (λ (x : Shown ℕ). x .board) (e ∙ refusing.numbers-there t rows k why))
 
 -- ---- a run, of any tables: it is its steps, and on sound tables it stops at the end, when the budget is used, or at the first refused entry
 pub run-is-steps : {t u : Tables} {schedule : List ℕ} {budget : ℕ} {r : Ran} → RunMade t schedule budget r u → IsItsSteps t schedule budget (done r u)

@@ -1,4 +1,4 @@
--- What the library's calls did is what the rules say, so lent tables are reached tables of the rules.
+-- What the library's calls did is what the rules say; so lent tables are reached tables of the rules.
 use Prim.Native.Nat.{ℕ, _/_}
 use mathlib.Core.Path.{_≡_, refl, sym, ap, subst, _∙_}
 use mathlib.Core.Bool.{Bool, true, false, not}
