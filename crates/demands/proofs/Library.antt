@@ -1,7 +1,7 @@
 -- The demands, of the library: what is proved of the rules, of the library's own promises. The words are those of Made and of the rules'
 -- specs/Refusing.antt, Apart.antt and Cause.antt; each proof cites what stands at the door of the rules' proofs.
 use Prim.Native.Nat.{ℕ, _+_, _*_, _/_, _≤_}
-use mathlib.Core.Path.{_≡_, sym, ap, subst, _∙_}
+use mathlib.Core.Path.{_≡_, sym, ap, _∙_}
 use mathlib.Core.Bool.{true}
 use mathlib.Core.List.{List}
 use mathlib.Core.Logic.{_≢_, _⊎_}
@@ -10,7 +10,6 @@ use Rattle.rules.specs.Tables.{Tables, start, phase, own}
 use Rattle.rules.specs.Shape.{sound}
 use Rattle.rules.specs.Reach.{listOf}
 use Rattle.rules.specs.Answers.{Answer, wait, refused, Done, done}
-use Rattle.rules.specs.Calls.{step}
 use Rattle.rules.specs.FreeCount.{Counted}
 use Rattle.rules.specs.Board.{Boarded, Shown, rowWidth}
 use Rattle.rules.specs.Play.{Call, stepCall, call}

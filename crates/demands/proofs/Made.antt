@@ -1,7 +1,7 @@
 -- What the library's calls did, under names: the tables that a call was lent, what it was told, what it answered, and the tables that it left.
 -- What ties them together is the call's own promise, as the checker reads it from the source: `args` is what the call was given, in the
 -- order of its parameters, `r` its result, `end` what the lent tables hold when it returns.
-use Prim.Native.Nat.{ℕ, suc, _+_}
+use Prim.Native.Nat.{ℕ, suc}
 use mathlib.Core.List.{List, [], _∷_}
 use borrow.Fn.Kinds.{Dens, resT, endedOf}
 use contract.Lifetimes.{Lfts}

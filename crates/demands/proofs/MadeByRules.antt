@@ -14,7 +14,7 @@ use Rattle.rules.specs.Calls.{clear}
 use Rattle.rules.specs.FreeCount.{Counted, freeCount}
 use Rattle.rules.specs.Board.{Boarded, Shown, shown, rowWidth, boardNumbers}
 use Rattle.rules.specs.Run.{run}
-use Rattle.rules.specs.Play.{Call, stepCall, call}
+use Rattle.rules.specs.Play.{Call, call}
 use Rattle.rules.specs.Reached.{Request, afterRequest, afterRequests, Reached, cleared, asked}
 use Rattle.rules.specs.Cause.{stepTimes}
 use Rattle.rules.specs.declared.Ran.{Ran}

@@ -1,6 +1,5 @@
 -- The board: who holds what.
 use Prim.Native.Nat.{ℕ, zero, suc, _+_, _-_, _*_, _/_}
-use mathlib.Core.Bool.{Bool}
 use mathlib.Core.List.{List, [], _∷_, _++_}
 use lib.ListN.{length, drop}
 use Rattle.rules.specs.Notation.{if_then_else_, _is_, _<?_}

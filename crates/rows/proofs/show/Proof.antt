@@ -1,8 +1,8 @@
 -- `rows::show` meets its promise: a walk of its MIR, by hand, since no covered function may hold a `&mut [Row]`. It asks for the answer and
 -- for how many rows it shows, opens the borrow, stores a row each turn from the last to the first, and closes the borrow.
 -- What is left to store gives the whole (`Left`); Filling.antt says that the whole is the board.
-use mathlib.Core.Path.{_≡_, refl, sym, ap, subst, _∙_}
-use Prim.Native.Nat.{ℕ, zero, suc, _-_, _≤_, _<_, _^_}
+use mathlib.Core.Path.{_≡_, refl, sym, ap, subst}
+use Prim.Native.Nat.{ℕ, zero, suc, _-_, _<_, _^_}
 use native.Mathlib.Omega.{arith}
 use lib.Dec.{lit<}
 use lib.WfN.{Nat·lt-wfRel}

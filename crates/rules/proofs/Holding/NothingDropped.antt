@@ -7,12 +7,12 @@ use native.Mathlib.Omega.{arith}
 use borrow.Author.Tests.{ne-eqb, eqb-false}
 use Rattle.rules.specs.Tables.{Tables, phaseAt, ownAt, mark, next, phase, own, cur}
 use Rattle.rules.specs.Comparison.{Claim, claimOf}
-use Rattle.rules.specs.Answers.{Answer, back, Done, done, answerOf, answered}
+use Rattle.rules.specs.Answers.{Answer, back, Done, answered}
 use Rattle.rules.specs.Steps.{withdraw}
-use Rattle.rules.specs.Calls.{begin, step, release}
+use Rattle.rules.specs.Calls.{step, release}
 use Rattle.rules.specs.Play.{Call, beginCall, stepCall, releaseCall, call, seatOf, afterAll}
 use Rattle.rules.specs.Reached.{Request, afterRequests}
-use Rattle.rules.specs.Apart.{claimOfSeat, LinkedIn, Stands, GivesUp, released, withdrawn, GivenUp, now, later, callsMade, StillStands}
+use Rattle.rules.specs.Apart.{LinkedIn, Stands, GivesUp, released, withdrawn, GivenUp, now, later, callsMade, StillStands}
 use Rattle.rules.proofs.Ground.Deciding.{if-same}
 use Rattle.rules.proofs.Laws.Answers.{answers-back}
 use Rattle.rules.proofs.Laws.RunSteps.{requests-are-calls}

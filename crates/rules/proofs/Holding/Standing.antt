@@ -1,6 +1,6 @@
 -- What the invariant says of linked claims in the words of demand 2: they stand, no two seats have one node, and nothing else stands.
 use Prim.Native.Nat.{ℕ}
-use mathlib.Core.Path.{_≡_, sym, _∙_}
+use mathlib.Core.Path.{sym, _∙_}
 use mathlib.Core.Logic.{_≢_}
 use borrow.Author.Tests.{eqb-false}
 use Rattle.rules.specs.Tables.{Tables, mark, phase, own}

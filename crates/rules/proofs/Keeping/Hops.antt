@@ -1,13 +1,12 @@
 -- N hops are enough: what the tests find listed or free is so in the theory's sense.
 use Prim.Native.Nat.{ℕ, _≤_, _<_}
 use mathlib.Core.Path.{_≡_, sym, _∙_}
-use mathlib.Core.Bool.{Bool, true, false, not, _&&_, _||_}
-use mathlib.Core.Logic.{_≢_, inl, inr}
+use mathlib.Core.Bool.{true, false, _||_}
+use mathlib.Core.Logic.{_≢_}
 use native.Mathlib.Omega.{arith}
 use native.Mathlib.Decide.{decLt}
-use borrow.Author.Tests.{ne-eqb}
 use Rattle.rules.specs.Notation.{_is_}
-use Rattle.rules.specs.Tables.{Tables, nodeCount, seatCount, seatWord, phaseAt, ownAt, prevAt, curAt, link, head, phase, own, prev, cur}
+use Rattle.rules.specs.Tables.{Tables, nodeCount, seatWord, phaseAt, ownAt, prevAt, curAt, link, head, phase, prev, cur}
 use Rattle.rules.specs.Reach.{met, listed, othersReach, free, Reach}
 use Rattle.rules.proofs.Ground.Logic.{or-neither, not-true, clash}
 use Rattle.rules.proofs.Laws.Words.{seat-past, node-count, seat-count}

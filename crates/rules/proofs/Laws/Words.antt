@@ -1,15 +1,15 @@
 -- What a store leaves in each word of the tables, N and S by the lengths, the words of fresh tables, and stores that come to nothing new: the
 -- one place beside specs/Tables.antt that knows where a word stands. Stated over the node, the seat, the field and the value; all above
 -- cites these.
-use Prim.Native.Nat.{ℕ, zero, suc, _+_, _-_, _*_, _/_, _<_, _≤_}
-use mathlib.Core.Path.{_≡_, refl, sym, ap, _∙_}
+use Prim.Native.Nat.{ℕ, zero, suc, _+_, _-_, _*_, _<_, _≤_}
+use mathlib.Core.Path.{_≡_, refl, sym, _∙_}
 use mathlib.Core.List.{List}
 use mathlib.Core.Logic.{_≢_}
 use native.Mathlib.Omega.{arith}
 use native.Mathlib.Decide.{decLt}
 use lib.ListN.{getD, set, length, length-set, length-replicate, getD-replicate, List·getD-eq-default}
 use lib.Seq.{ext-getD, set-getD, getD-set-same, getD-set-other}
-use Rattle.rules.specs.Tables.{Tables, tables, headAt, beforeNodes, nodeWidth, seatWidth, nextAt, topWord, nodeWord, putNode, linkWord, putLink, seatWord, putSeat, nodeCountOf, seatCountOf, nodeCount, seatCount, zeros, fresh}
+use Rattle.rules.specs.Tables.{Tables, headAt, beforeNodes, nodeWidth, seatWidth, nextAt, topWord, nodeWord, putNode, linkWord, putLink, seatWord, putSeat, nodeCountOf, seatCountOf, nodeCount, seatCount, zeros, fresh}
 use Rattle.rules.proofs.Ground.Deciding.{if-same}
 
 -- ---- lengths

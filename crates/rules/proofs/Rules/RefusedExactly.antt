@@ -1,19 +1,18 @@
 -- The calls refuse exactly as the tables of specs/Refusing.antt say, and what is refused changes nothing. Of any tables and numbers.
 use Prim.Native.Nat.{ℕ, _/_, _≤_, _<_}
-use mathlib.Core.Path.{_≡_, refl, sym, ap, subst, _∙_}
-use mathlib.Core.Bool.{Bool, true, false, not, _||_}
+use mathlib.Core.Path.{_≡_, sym, ap, subst, _∙_}
+use mathlib.Core.Bool.{true, false, not}
 use mathlib.Core.List.{List}
 use mathlib.Core.Logic.{_≢_, _⊎_, inl, inr}
 use native.Mathlib.Omega.{arith}
 use lib.ListN.{length}
-use borrow.Author.Tests.{eqb-true, ltb-true, ltb-false, lt-ltb, le-leb, lt-leb, eq-eqb, ne-eqb, not-false}
+use borrow.Author.Tests.{ltb-true, lt-ltb, le-leb, lt-leb, eq-eqb, ne-eqb, not-false}
 use Rattle.rules.specs.Notation.{if_then_else_, _is_, _<?_}
 use Rattle.rules.specs.Tables.{Tables, seatCount, phase, own}
 use Rattle.rules.specs.Comparison.{Claim, claimOf}
 use Rattle.rules.specs.Shape.{lengthsFit, sound, isKind}
-use Rattle.rules.specs.Reach.{lowestFree}
-use Rattle.rules.specs.Fetch.{Fetched, fetched, takenOut, fetch, fetchAgain}
-use Rattle.rules.specs.Answers.{Answer, node, refused, out, Done, done}
+use Rattle.rules.specs.Fetch.{Fetched, fetched, fetch, fetchAgain}
+use Rattle.rules.specs.Answers.{Answer, node, refused, Done, done}
 use Rattle.rules.specs.Steps.{refetched}
 use Rattle.rules.specs.Calls.{begun, clear, begin, step, release}
 use Rattle.rules.specs.FreeCount.{Counted, freeCount}

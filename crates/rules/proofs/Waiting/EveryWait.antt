@@ -1,12 +1,11 @@
 -- Whenever a step answers `wait n`, the claim at n is the cause.
 use Prim.Native.Nat.{ℕ}
 use mathlib.Core.Path.{_≡_}
-use mathlib.Core.Logic.{_≢_}
 use native.Mathlib.Omega.{arith}
 use Rattle.rules.specs.Notation.{_is_}
-use Rattle.rules.specs.Tables.{Tables, phase}
+use Rattle.rules.specs.Tables.{Tables}
 use Rattle.rules.specs.Fetch.{Fetched}
-use Rattle.rules.specs.Answers.{Answer, wait, Done, answerOf, answered}
+use Rattle.rules.specs.Answers.{Answer, wait, Done, answerOf}
 use Rattle.rules.specs.Steps.{refetched}
 use Rattle.rules.specs.Calls.{step}
 use Rattle.rules.specs.Cause.{Cause}
@@ -16,7 +15,7 @@ use Rattle.rules.proofs.Rules.Reasons.{Stepping, in-1, in-2, in-3, in-4
 use Rattle.rules.proofs.Rules.Accepting.{Stepped, step-refused, step-accepted, stepped}
 use Rattle.rules.proofs.Keeping.Good.{Good, room}
 use Rattle.rules.proofs.Keeping.CallKeeps.{seat-in, step-keeps}
-use Rattle.rules.proofs.Frames.AfterStep.{Left, stepping-leaves}
+use Rattle.rules.proofs.Frames.AfterStep.{stepping-leaves}
 use Rattle.rules.proofs.Soundness.SoundReached.{Bounds}
 use Rattle.rules.proofs.Waiting.Causes.{waits-with-cause}
 

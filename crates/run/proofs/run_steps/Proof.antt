@@ -4,7 +4,7 @@ use Rattle.rules.specs.Shape.{sound}
 use Rattle.rules.specs.Tables.{tables}
 use lib.ListN.{length, drop}
 use mathlib.Core.Bool.{true}
-use Prim.Native.Nat.{_+_, _-_, _*_, _≤_}
+use Prim.Native.Nat.{_-_, _≤_}
 use mathlib.Core.Path.{_≡_, refl}
 use native.Mathlib.Omega.{arith}
 use Rattle.rules.proofs.Laws.Shape.{seats-few}
