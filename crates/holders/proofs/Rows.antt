@@ -1,4 +1,4 @@
--- The rows of the first seats, seat by seat: what one seat more adds to them, to their number and to the frames that they cover.
+-- The rows of the first seats, seat by seat: what one seat more adds to them and to their number.
 use Prim.Native.Nat.{ℕ, zero, suc, _+_, _-_, _≤_}
 use native.Mathlib.Omega.{arith}
 use native.Mathlib.Numerals.{add-one}
@@ -10,8 +10,7 @@ use lib.ListN.{length, length-append}
 use borrow.Author.Tests.{eq-eqb, ne-eqb}
 use Rattle.rules.specs.Notation.{if_then_else_, _is_, count}
 use Rattle.rules.specs.Tables.{Tables, seatWord, seatCount, phaseAt, phase}
-use Rattle.rules.specs.Board.{rowOf, rowsBelow, holders, coveredBy}
-use Rattle.rules.specs.declared.Row.{Row}
+use Rattle.rules.specs.Board.{rowOf, rowsBelow, holders}
 use Rattle.holders.specs.Holding.{holding, heldBy}
 
 -- ---- a seat's part of the board
@@ -91,19 +90,3 @@ holding-same t s p n h q d = rw (add-one s, ne-eqb (seatWord t s phaseAt) 5 (λ 
 
 pub holding-done : (t : List ℕ) (s k n : ℕ) → n ≡ holding t s → k ≤ s → s ≤ k → n ≡ holding t k
 holding-done t s k n h a b = let e : s ≡ k = omega arith in rw (← e) h
-
--- ---- `covered`, seat by seat
-covered-append : (rows more : List Row) → coveredBy (rows ++ more) ≡ coveredBy rows + coveredBy more
-unfolding coveredBy
-covered-append [] more = omega arith
-covered-append (x ∷ rows) more = let e = covered-append rows more in omega arith
-
-pub covered-start : (t : Tables) → 0 ≡ coveredBy (rowsBelow 0 t)
-unfolding rowsBelow coveredBy
-covered-start t = refl
-
-pub covered-again : (t : Tables) (s sum more : ℕ) → sum ≡ coveredBy (rowsBelow s t) → more ≡ coveredBy (heldBy t s) → sum + more ≡ coveredBy (rowsBelow (s + 1) t)
-covered-again t s sum more e f = rw (rows-again t s, covered-append, ← e, ← f)
-
-pub covered-done : (t : Tables) (sum s n : ℕ) → sum ≡ coveredBy (rowsBelow s t) → n ≡ seatCount t → s ≤ n → n ≤ s → sum ≡ coveredBy (holders t)
-covered-done t sum s n f e h i = rw (← rows-all t s n e h i) f

@@ -1,10 +1,11 @@
 -- The holders among the first seats. The board's own definitions, rows and covered frames, are those of the rules.
-use Prim.Native.Nat.{ℕ}
+use Prim.Native.Nat.{ℕ, _+_}
 use mathlib.Core.List.{List, [], _∷_}
 use Rattle.rules.specs.Notation.{if_then_else_, _is_, count}
 use Rattle.rules.specs.Tables.{Tables, seatWord, phaseAt, phase}
 use Rattle.rules.specs.Board.{rowOf}
 use Rattle.rules.specs.declared.Row.{Row}
+use Rattle.runs.specs.Runs.{Ordered, CoversOneMore}
 
 -- how many of the first n seats hold
 unfoldable pub holding : List ℕ → ℕ → ℕ
@@ -15,3 +16,8 @@ unfoldable pub heldBy : Tables → ℕ → List Row
 heldBy t s =
     if phase t s is 5 then rowOf t s ∷ []
     else []
+
+-- a holder's run has joined the runs in order, which now begin at start
+abbrev pub Joined : Tables → ℕ → List ℕ → ℕ → ℕ → List ℕ → ℕ → Type 0
+Joined t s before low held after start =
+    Ordered after start (held + 1) × CoversOneMore before low held (rowOf t s .first) (rowOf t s .end) after start

@@ -2,13 +2,14 @@
 // the program's closing lines walk over them. A holder of sound tables owns a node of the table, so no read is tested.
 ghost use mathlib.Core.Path.{_≡_};
 ghost use mathlib.Core.Bool.{true};
-ghost use Prim.Native.Nat.{_<_, _≤_};
+ghost use Prim.Native.Nat.{_≤_, _<_};
 ghost use Rattle.rules.specs.Tables.{tables, seatCountOf};
 ghost use Rattle.rules.specs.Shape.{sound};
 ghost use Rattle.rules.specs.Board.{rowOf, coveredBy};
 ghost use Rattle.rules.specs.Board as rule;
 ghost use Rattle.rules.specs.Apart.{Holds};
-ghost use Rattle.holders.specs.Holding.{holding, heldBy};
+ghost use Rattle.runs.specs.Runs.{Ordered};
+ghost use Rattle.holders.specs.Holding.{holding, Joined};
 use rules::Row;
 
 // how many of the first seats hold
@@ -47,31 +48,43 @@ pub fn row_of(nodes: &[u32], seats: &[u32], s: u32) -> Row
     }
 }
 
-// the frames that a seat covers: none if it does not hold
-fn frames(nodes: &[u32], seats: &[u32], s: u32) -> u32
+// A holder's run joins those in order. The answer says where they begin then.
+fn gather(
+    nodes: &[u32],
+    seats: &[u32],
+    s: u32,
+    places: &mut [u64; 128],
+    low: usize,
+    held: usize,
+) -> usize
     requires { ⌜ sound (tables (now nodes) (now seats)) ≡ true ⌝ }
-    requires { ⌜ s < seatCountOf (now seats) ⌝ }
-    ensures { λ r. ⌜ r ≡ coveredBy (heldBy (tables (now (nodes .entry)) (now (seats .entry))) s) ⌝ }
+    requires { ⌜ Holds (tables (now nodes) (now seats)) s ⌝ }
+    requires { ⌜ Ordered (now places) low held ⌝ }
+    requires { ⌜ held < 64 ⌝ }
+    ensures { λ r. ⌜ Joined (tables (now (nodes .entry)) (now (seats .entry))) s (now (places .entry)) low held (now (places .exit)) r ⌝ }
 {
-    if words::seat_word_within(seats, s, words::PHASE) == 5 {
-        let row = row_of(nodes, seats, s);
-        return row.end - row.first;
-    }
-    0
+    let row = row_of(nodes, seats, s);
+    runs::put(places, low, held, row.first, row.end)
 }
 
-// the frames that the holders cover
+// The frames that the holders cover, each counted once: their runs are put in order as they are met.
 pub fn covered(nodes: &[u32], seats: &[u32]) -> u64
     requires { ⌜ sound (tables (now nodes) (now seats)) ≡ true ⌝ }
     ensures { λ r. ⌜ r ≡ coveredBy (rule.holders (tables (now (nodes .entry)) (now (seats .entry)))) ⌝ }
 {
     let count = words::seat_count(seats) as u32;
-    let mut sum: u64 = 0;
+    let mut places: [u64; 128] = [0; 128];
+    let mut low: usize = 64;
+    let mut held: usize = 0;
     let mut s: u32 = 0;
     while s < count {
-        let more = frames(nodes, seats, s);
-        sum += more as u64;
-        s += 1;
+        if words::seat_word_within(seats, s, words::PHASE) == 5 {
+            low = gather(nodes, seats, s, &mut places, low, held);
+            held += 1;
+            s += 1;
+        } else {
+            s += 1;
+        }
     }
-    sum
+    runs::covered(&places, low, held)
 }

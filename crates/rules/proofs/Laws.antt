@@ -1,6 +1,6 @@
 -- What follows from one definition of specs/ by itself: the words after a store, sound shape clause by clause, what is met, what each number
--- of the comparison says, what an answer tells, that a run is its steps, that the board on numbers is the board on rows, that
--- two results of one promise are equal. They may use specs/ and the ground, and hold for any tables.
+-- of the comparison says, what an answer tells, that a run is its steps, that the board on numbers is the board on rows, that covered
+-- counts a frame once, that two results of one promise are equal. They may use specs/ and the ground, and hold for any tables.
 pub mod Opened
 pub mod Words
 pub mod Shape
@@ -11,5 +11,6 @@ pub mod Compared
 pub mod Answers
 pub mod RunSteps
 pub mod BoardNumbers
+pub mod Covered
 pub mod ScriptRefused
 pub mod OneAnswer

@@ -1,8 +1,9 @@
 -- The board: who holds what.
-use Prim.Native.Nat.{ℕ, zero, suc, _+_, _-_, _*_, _/_}
+use Prim.Native.Nat.{ℕ, zero, suc, _*_, _/_, max}
+use mathlib.Core.Bool.{Bool, false, _&&_, _||_}
 use mathlib.Core.List.{List, [], _∷_, _++_}
 use lib.ListN.{length, drop}
-use Rattle.rules.specs.Notation.{if_then_else_, _is_, _<?_}
+use Rattle.rules.specs.Notation.{if_then_else_, _is_, _≤?_, _<?_, count}
 use Rattle.rules.specs.Tables.{Tables, seatCount, start, end, kind, phase, own}
 use Rattle.rules.specs.Calls.{damaged}
 use Rattle.rules.specs.declared.Row.{Row}
@@ -21,10 +22,24 @@ rowsBelow (suc s) t =
 unfoldable pub holders : Tables → List Row
 holders t = rowsBelow (seatCount t) t
 
--- "covered frames, the sum of end − start over the rows"
+-- "A claim covers frames start up to but not including end"
+abbrev pub covers : Row → ℕ → Bool
+covers row frame = row .first ≤? frame && frame <? row .end
+
+-- at least one of the rows covers the frame
+unfoldable pub someCovers : List Row → ℕ → Bool
+someCovers [] frame = false
+someCovers (row ∷ rows) frame = covers row frame || someCovers rows frame
+
+-- from here on no row covers a frame
+unfoldable pub lastEnd : List Row → ℕ
+lastEnd [] = 0
+lastEnd (row ∷ rows) = max (row .end) (lastEnd rows)
+
+-- 02 (i): "the number of frames that at least one holder covers". Frames from the last end on are not looked at: proofs/Covered.antt says
+-- that every bound from there on gives the same number
 unfoldable pub coveredBy : List Row → ℕ
-coveredBy [] = 0
-coveredBy (row ∷ rows) = (row .end - row .first) + coveredBy rows
+coveredBy rows = count (lastEnd rows) (someCovers rows)
 
 -- "It returns the row count and covered frames"
 pub data Boarded : Type 0 where

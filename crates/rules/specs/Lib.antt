@@ -17,3 +17,4 @@ pub mod Means
 pub mod Refusing
 pub mod Apart
 pub mod Cause
+pub mod Covered

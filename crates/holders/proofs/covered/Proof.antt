@@ -1,21 +1,19 @@
--- `holders::covered` meets its promise. The loop's invariant: the sum is over the rows of the seats passed, so it stays small. The measure
--- is the number of seats left.
+-- `holders::covered` meets its promise. The loop's invariant: the runs of the holders passed are gathered. The measure is the number of
+-- seats left.
 use borrow.Author.Needs.{needs}
 use native.Mathlib.Omega.{arith}
-use Rattle.holders.proofs.Rows.{covered-start, covered-again, covered-done}
-use Rattle.rules.proofs.Laws.Shape.{seats-few}
-use Rattle.rules.specs.Board.{rowsBelow, coveredBy}
+use Prim.Native.Nat.{_-_, _≤_}
 use Rattle.rules.specs.Tables.{tables}
-use mathlib.Core.Path.{_≡_}
-use Prim.Native.Nat.{_*_, _-_, _≤_}
+use Rattle.rules.proofs.Laws.Shape.{seats-few}
+use Rattle.holders.proofs.Gathering.{Gathered, gathered-none, gathered-more, gathered-same, gathered-all}
 use Rattle.holders.proofs.covered.Statement.{statement}
 use Rattle.holders.proofs.covered.Tie as tie
 
 abbrev Inv-loop : tie.InvT-loop
-Inv-loop nodes seats count sum₀ s₀ sum s = (count ≤ 64) × (s ≤ count) × (sum ≤ 4294967295 * s) × (sum ≡ coveredBy (rowsBelow s (tables nodes seats)))
+Inv-loop nodes seats count places₀ low₀ held₀ s₀ places low held s = Gathered (tables nodes seats) count places low held s
 
 abbrev μ-loop : tie.MeasureT-loop
-μ-loop nodes seats count sum₀ s₀ sum s = count - s
+μ-loop nodes seats count places₀ low₀ held₀ s₀ places low held s = count - s
 
 seat-count-requires : tie.Need-seat-count-requires Inv-loop μ-loop
 seat-count-requires c κs = search needs
@@ -24,28 +22,40 @@ cast-count : tie.Need-cast-count Inv-loop μ-loop
 cast-count c = let few : c .seat-count .result ≤ 64 = search seats-few in omega arith
 
 loop-holds : tie.Need-loop-holds Inv-loop μ-loop
-loop-holds c = (search seats-few, omega arith, omega arith, covered-start _)
+loop-holds c = gathered-none _ _ _ (search seats-few) (search needs)
 
-frames-requires : tie.Need-frames-requires Inv-loop μ-loop
-frames-requires c κs = search needs
+seat-word-within-requires : tie.Need-seat-word-within-requires Inv-loop μ-loop
+seat-word-within-requires c κs = search needs
 
-cast-sum : tie.Need-cast-sum Inv-loop μ-loop
-cast-sum c = omega arith
+gather-requires : tie.Need-gather-requires Inv-loop μ-loop
+gather-requires c κs = (search needs, (search needs, (search needs, search needs)))
 
-add-sum : tie.Need-add-sum Inv-loop μ-loop
-add-sum c = omega arith
+add-held : tie.Need-add-held Inv-loop μ-loop
+add-held c = search needs
 
 add-s : tie.Need-add-s Inv-loop μ-loop
-add-s c = omega arith
+add-s c = search needs
 
 loop-less : tie.Need-loop-less Inv-loop μ-loop
-loop-less c = omega arith
+loop-less c = search needs
 
 loop-again : tie.Need-loop-again Inv-loop μ-loop
-loop-again c = (omega arith, omega arith, omega arith, search covered-again)
+loop-again c = gathered-more _ _ _ _ _ _ (search needs) (search needs) (search needs) _ _ (c .gather .ensures)
+
+add-s-2 : tie.Need-add-s-2 Inv-loop μ-loop
+add-s-2 c = search needs
+
+loop-less-2 : tie.Need-loop-less-2 Inv-loop μ-loop
+loop-less-2 c = search needs
+
+loop-again-2 : tie.Need-loop-again-2 Inv-loop μ-loop
+loop-again-2 c = search gathered-same
+
+covered-requires : tie.Need-covered-requires Inv-loop μ-loop
+covered-requires c κs = search needs
 
 returns : tie.Need-returns Inv-loop μ-loop
-returns c = search covered-done
+returns c = search gathered-all
 
 pub covered-spec : {M : Type 1} → statement M
 covered-spec =
@@ -56,10 +66,14 @@ covered-spec =
     seat-count-requires
     cast-count
     loop-holds
-    frames-requires
-    cast-sum
-    add-sum
+    seat-word-within-requires
+    gather-requires
+    add-held
     add-s
     loop-less
     loop-again
+    add-s-2
+    loop-less-2
+    loop-again-2
+    covered-requires
     returns)

@@ -1,13 +1,13 @@
 -- Laws of `count` and `lowest` over any test of numbers.
-use Prim.Native.Nat.{ℕ, zero, suc, _+_, _≤_, _<_}
+use Prim.Native.Nat.{ℕ, zero, suc, _+_, _-_, _≤_, _<_}
 use mathlib.Core.Path.{_≡_, refl, sym, ap, _∙_}
-use mathlib.Core.Bool.{Bool, true, false, _&&_}
+use mathlib.Core.Bool.{Bool, true, false, _&&_, _||_}
 use mathlib.Core.Logic.{_≢_, ⊎-elim}
 use native.Mathlib.Omega.{arith}
 use native.Mathlib.Nat.{eq-or-lt-of-le, add-zero, add-suc}
 use borrow.Author.Tests.{ne-eqb, lt-ltb, le-ltb}
 use Rattle.rules.specs.Notation.{if_then_else_, _is_, _<?_, count, lowest}
-use Rattle.rules.proofs.Ground.Logic.{either, branch}
+use Rattle.rules.proofs.Ground.Logic.{either, or-left, or-right, neither, not-of, branch}
 
 -- ---- count
 pub count-none : (p : ℕ → Bool) → count 0 p ≡ 0
@@ -92,6 +92,63 @@ count-full (suc n) p j f h =
     (λ e. let g = count-in n p e in
     ⊎-elim (λ z. ap p z ∙ e) (λ z. count-full n p j (omega arith) z) (eq-or-lt-of-le {n = j} {m = n} (omega arith)))
     (λ e. let g = count-out n p e in absurd (omega arith))
+    (either (p n))
+
+-- ---- over a run of numbers
+-- none of those from a to b has p
+pub count-gap : (a b : ℕ) (p : ℕ → Bool) → a ≤ b → ((j : ℕ) → a ≤ j → j < b → p j ≡ false) → count b p ≡ count a p
+count-gap a zero p h e = let z : a ≡ 0 = omega arith in ap (λ (n : ℕ). count n p) (sym z)
+count-gap a (suc b) p h e =
+    ⊎-elim
+    (λ z. ap (λ (n : ℕ). count n p) (sym z))
+    (λ z. count-out b p (e b (omega arith) (omega arith)) ∙ count-gap a b p (omega arith) (λ j g i. e j g (omega arith)))
+    (eq-or-lt-of-le {n = a} {m = suc b} h)
+
+-- all of them have
+pub count-run : (a b : ℕ) (p : ℕ → Bool) → a ≤ b → ((j : ℕ) → a ≤ j → j < b → p j ≡ true) → count b p ≡ count a p + (b - a)
+count-run a zero p h e = let z : a ≡ 0 = omega arith in rw z (omega arith)
+count-run a (suc b) p h e =
+    ⊎-elim
+    (λ z. let same : count a p ≡ count (suc b) p = ap (λ (n : ℕ). count n p) z in omega arith)
+    (λ z. let i = count-in b p (e b (omega arith) (omega arith)) in
+    let r = count-run a b p (omega arith) (λ j g i. e j g (omega arith)) in
+    omega arith)
+    (eq-or-lt-of-le {n = a} {m = suc b} h)
+
+-- where nothing has p from a on, nor from b on, both bounds give the same number
+pub count-bounds : (a b : ℕ) (p : ℕ → Bool) → ((j : ℕ) → a ≤ j → p j ≡ false) → ((j : ℕ) → b ≤ j → p j ≡ false) → count a p ≡ count b p
+count-bounds a b p e f =
+    sym (count-gap a (a + b) p (omega arith) (λ j g i. e j g)) ∙ count-gap b (a + b) p (omega arith) (λ j g i. f j g)
+
+-- ---- of either
+pub count-or : (n : ℕ) (p q : ℕ → Bool) → count n (λ j. p j || q j) ≤ count n p + count n q
+count-or zero p q = let z = count-none (λ j. p j || q j) in omega arith
+count-or (suc n) p q =
+    let h = count-or n p q in
+    let gp = count-grows n p in
+    let gq = count-grows n q in
+    ⊎-elim
+    (λ e. let i = count-in n (λ j. p j || q j) (or-left (p n) (q n) e) in let k = count-in n p e in omega arith)
+    (λ e. ⊎-elim
+    (λ f. let i = count-in n (λ j. p j || q j) (or-right (p n) (q n) f) in let k = count-in n q f in omega arith)
+    (λ f. let i = count-out n (λ j. p j || q j) (neither (p n) (q n) e f) in omega arith)
+    (either (q n)))
+    (either (p n))
+
+pub count-apart : (n : ℕ) (p q : ℕ → Bool) → ((j : ℕ) → p j ≡ true → q j ≡ true → ⊥) → count n (λ j. p j || q j) ≡ count n p + count n q
+count-apart zero p q d = let z = count-none (λ j. p j || q j) in let k = count-none p in let l = count-none q in omega arith
+count-apart (suc n) p q d =
+    let h = count-apart n p q d in
+    ⊎-elim
+    (λ e. let i = count-in n (λ j. p j || q j) (or-left (p n) (q n) e) in
+    let k = count-in n p e in
+    let l = count-out n q (not-of (q n) (d n e)) in
+    omega arith)
+    (λ e. let k = count-out n p e in
+    ⊎-elim
+    (λ f. let i = count-in n (λ j. p j || q j) (or-right (p n) (q n) f) in let l = count-in n q f in omega arith)
+    (λ f. let i = count-out n (λ j. p j || q j) (neither (p n) (q n) e f) in let l = count-out n q f in omega arith)
+    (either (q n)))
     (either (p n))
 
 -- ---- lowest

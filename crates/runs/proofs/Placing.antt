@@ -1,0 +1,215 @@
+-- A run that was put in its place: whichever side made room, those that are not higher stand before it and those that are not lower behind
+-- it, in the order that they had. So the runs are in order again, and cover what they covered and the run's own frames.
+use Prim.Native.Nat.{ℕ, zero, suc, _+_, _-_, _/_, _≤_, _<_}
+use mathlib.Core.Path.{_≡_, refl, sym, ap, _∙_}
+use mathlib.Core.Bool.{true, false, _||_}
+use mathlib.Core.List.{List}
+use mathlib.Core.Logic.{_≢_, inl, inr}
+use native.Mathlib.Omega.{arith}
+use native.Mathlib.Decide.{ℕ-discrete, decLt}
+use lib.ListN.{getD, set, length, length-set}
+use lib.Seq.{getD-set-same}
+use Rattle.rules.specs.Board.{covers, someCovers}
+use Rattle.rules.proofs.Ground.Logic.{same, clash, or-case, or-left, or-right}
+use Rattle.runs.specs.Runs.{runOf, firstOf, endOf, rowOfRun, rowsIn, Ordered, CoversOneMore}
+use Rattle.runs.specs.Moving.{upFrom, downFrom, NotLower, NotHigher, PutBelow, PutAbove}
+
+-- ---- some run of those in the places covers a frame
+pub rows-cover : (runs : List ℕ) (low n f : ℕ) → someCovers (rowsIn runs low n) f ≡ true
+    → (j : ℕ) × (j < n) × (covers (rowOfRun (getD runs (low + j) 0)) f ≡ true)
+unfolding rowsIn someCovers
+rows-cover runs low zero f e = absurd (clash false e refl)
+rows-cover runs low (suc n) f e = elim (or-case (covers (rowOfRun (getD runs (low + n) 0)) f) (someCovers (rowsIn runs low n) f) e) [
+  | inl p ↦ (n, omega arith, p)
+  | inr p ↦ let w = rows-cover runs low n f p in (w .0, (let i = w .1 in omega arith), w .2)
+]
+
+pub cover-rows : (runs : List ℕ) (low n f j : ℕ) → j < n → covers (rowOfRun (getD runs (low + j) 0)) f ≡ true → someCovers (rowsIn runs low n) f ≡ true
+unfolding rowsIn someCovers
+cover-rows runs low zero f j h e = absurd (omega arith)
+cover-rows runs low (suc n) f j h e = elim (ℕ-discrete j n) [
+  | yes z ↦ or-left (covers (rowOfRun (getD runs (low + n) 0)) f) (someCovers (rowsIn runs low n) f) (ap (λ (i : ℕ). covers (rowOfRun (getD runs (low + i) 0)) f) (sym z) ∙ e)
+  | no z ↦ or-right (covers (rowOfRun (getD runs (low + n) 0)) f) (someCovers (rowsIn runs low n) f) (cover-rows runs low n f j (omega arith) e)
+]
+
+-- ---- a run in its place: the `rank`-th of them
+record Placed (before : List ℕ) (low count run : ℕ) (after : List ℕ) (start : ℕ) : Type 0 where
+  rank : ℕ
+  is-rank : rank ≤ count
+  lower : (j : ℕ) → j < rank → getD after (start + j) 0 ≡ getD before (low + j) 0
+  here : getD after (start + rank) 0 ≡ run
+  higher : (j : ℕ) → rank ≤ j → j < count → getD after (start + suc j) 0 ≡ getD before (low + j) 0
+  not-above : (j : ℕ) → j < rank → getD before (low + j) 0 ≤ run
+  not-below : (j : ℕ) → rank ≤ j → j < count → run ≤ getD before (low + j) 0
+
+module _ (before : List ℕ) (low count run : ℕ) (after : List ℕ) (start : ℕ) (p : Placed before low count run after start) where
+  -- a place behind the run's
+  behind : (j : ℕ) → p .rank < j → j < count + 1 → getD after (start + j) 0 ≡ getD before (low + (j - 1)) 0
+  behind j h i =
+      let e : j ≡ suc (j - 1) = omega arith in
+      ap (λ (k : ℕ). getD after (start + k) 0) e ∙ p .higher (j - 1) (omega arith) (omega arith)
+
+  placed-rising : ((i j : ℕ) → i ≤ j → j < count → getD before (low + i) 0 ≤ getD before (low + j) 0)
+      → (i j : ℕ) → i ≤ j → j < count + 1 → getD after (start + i) 0 ≤ getD after (start + j) 0
+  placed-rising rising i j h k = elim (decLt i (p .rank)) [
+    | yes a ↦ elim (decLt j (p .rank)) [
+      | yes b ↦ rw (p .lower i a, p .lower j b) (rising i j h (let r = p .is-rank in omega arith))
+      | no b ↦ elim (ℕ-discrete j (p .rank)) [
+        | yes c ↦ rw (c, p .lower i a, p .here) (p .not-above i a)
+        | no c ↦ rw (p .lower i a, behind j (omega arith) k) (rising i (j - 1) (omega arith) (omega arith))
+      ]
+    ]
+    | no a ↦ elim (ℕ-discrete i (p .rank)) [
+      | yes c ↦ elim (ℕ-discrete j (p .rank)) [
+        | yes d ↦ rw (c, d) (omega arith)
+        | no d ↦ rw (c, p .here, behind j (omega arith) k) (p .not-below (j - 1) (omega arith) (omega arith))
+      ]
+      | no c ↦ rw (behind i (omega arith) (omega arith), behind j (omega arith) k) (rising (i - 1) (j - 1) (omega arith) (omega arith))
+    ]
+  ]
+
+  placed-covers : CoversOneMore before low count (firstOf run) (endOf run) after start
+  placed-covers f =
+      same (someCovers (rowsIn after start (count + 1)) f) (covers (rowOfRun run) f || someCovers (rowsIn before low count) f)
+      (λ e. let w = rows-cover after start (count + 1) f e in from (w .0) (w .1) (w .2))
+      (λ e. elim (or-case (covers (rowOfRun run) f) (someCovers (rowsIn before low count) f) e) [
+        | inl c ↦ let r = p .is-rank in cover-rows after start (count + 1) f (p .rank) (omega arith) (ap (λ (n : ℕ). covers (rowOfRun n) f) (p .here) ∙ c)
+        | inr c ↦ let w = rows-cover before low count f c in into (w .0) (w .1) (w .2)
+      ])
+    where
+      from : (j : ℕ) → j < count + 1 → covers (rowOfRun (getD after (start + j) 0)) f ≡ true → (covers (rowOfRun run) f || someCovers (rowsIn before low count) f) ≡ true
+      from j h c = elim (decLt j (p .rank)) [
+        | yes a ↦
+            let r = p .is-rank in
+            or-right (covers (rowOfRun run) f) (someCovers (rowsIn before low count) f)
+            (cover-rows before low count f j (omega arith) (ap (λ (n : ℕ). covers (rowOfRun n) f) (sym (p .lower j a)) ∙ c))
+        | no a ↦ elim (ℕ-discrete j (p .rank)) [
+          | yes z ↦
+              or-left (covers (rowOfRun run) f) (someCovers (rowsIn before low count) f)
+              (ap (λ (n : ℕ). covers (rowOfRun n) f) (sym (ap (λ (i : ℕ). getD after (start + i) 0) z ∙ p .here)) ∙ c)
+          | no z ↦
+              or-right (covers (rowOfRun run) f) (someCovers (rowsIn before low count) f)
+              (cover-rows before low count f (j - 1) (omega arith) (ap (λ (n : ℕ). covers (rowOfRun n) f) (sym (behind j (omega arith) h)) ∙ c))
+        ]
+      ]
+
+      into : (j : ℕ) → j < count → covers (rowOfRun (getD before (low + j) 0)) f ≡ true → someCovers (rowsIn after start (count + 1)) f ≡ true
+      into j h c = elim (decLt j (p .rank)) [
+        | yes a ↦ cover-rows after start (count + 1) f j (omega arith) (ap (λ (n : ℕ). covers (rowOfRun n) f) (p .lower j a) ∙ c)
+        | no a ↦ cover-rows after start (count + 1) f (suc j) (omega arith) (ap (λ (n : ℕ). covers (rowOfRun n) f) (p .higher j (omega arith) h) ∙ c)
+      ]
+
+  placed : (first end : ℕ) → end < 4294967296 → run ≡ runOf first end → Ordered before low count → count < 64 → length after ≡ length before
+      → start ≤ 64 → 64 ≤ start + (count + 1) → Ordered after start (count + 1) × CoversOneMore before low count first end after start
+  placed first end fits is o h l s u =
+      let above : first ≡ firstOf run = omega arith in
+      let below : end ≡ endOf run = omega arith in
+      (record { places = l ∙ o .places; from = s; upto = u; few = omega arith; rising = placed-rising (o .rising) }, rw (above, below) placed-covers)
+
+-- ---- the run in the middle ends the way, on either side
+module _ (runs : List ℕ) (low count run middle : ℕ) (isMiddle : middle ≡ getD runs (low + count / 2) 0) (o : Ordered runs low count) (h : count < 64) where
+  pub some-not-lower : run < middle → NotLower runs low run
+  some-not-lower b = let f = o .from in record { at = low + count / 2; from-low = omega arith; in-places = omega arith; is = rw (← isMiddle) (omega arith) }
+
+  pub some-not-higher : count ≢ 0 → middle ≤ run → NotHigher runs (low + count) run
+  some-not-higher z b = record { at = low + count / 2; before-high = omega arith; is = rw (← isMiddle) b }
+
+-- ---- the three ways there
+module _ (runs : List ℕ) (low count first end run : ℕ) (fits : end < 4294967296) (is : run ≡ runOf first end) (o : Ordered runs low count) (h : count < 64) where
+  pub put-first : count ≡ 0 → Ordered (set runs low run) low (count + 1) × CoversOneMore runs low count first end (set runs low run) low
+  put-first z = placed runs low count run (set runs low run) low alone first end fits is o h (length-set runs low run) (o .from) (let u = o .upto in omega arith)
+    where
+      alone : Placed runs low count run (set runs low run) low
+      alone = record {
+        rank = 0;
+        is-rank = omega arith;
+        lower = λ j k. absurd (omega arith);
+        here =
+            let e : low + 0 ≡ low = omega arith in
+            let l = o .places in
+            let f = o .from in
+            ap (λ (i : ℕ). getD (set runs low run) i 0) e ∙ getD-set-same runs low run 0 (omega arith);
+        higher = λ j k m. absurd (omega arith);
+        not-above = λ j k. absurd (omega arith);
+        not-below = λ j k m. absurd (omega arith);
+      }
+
+  module _ (middle : ℕ) (isMiddle : middle ≡ getD runs (low + count / 2) 0) where
+    module _ (after : List ℕ) (some : count ≢ 0) where
+      pub put-lower : run < middle → PutBelow runs low run after → Ordered after (low - 1) (count + 1) × CoversOneMore runs low count first end after (low - 1)
+      put-lower b p =
+          placed runs low count run after (low - 1) in-place first end fits is o h (p .same-length) (let f = o .from in omega arith) (let u = o .upto in omega arith)
+        where
+          -- the middle one is not lower, so the way ends there or before
+          few : p .moved < count
+          few =
+              let passed : count / 2 < p .moved → ⊥ = λ k. let l = p .lower (count / 2) k in let e = isMiddle in omega arith in
+              omega (arith, passed)
+
+          one-up : (j : ℕ) → upFrom low (suc j) ≡ low + j
+          one-up j = let u = o .upto in omega arith
+
+          in-place : Placed runs low count run after (low - 1)
+          in-place = record {
+            rank = p .moved;
+            is-rank = let m = few in omega arith;
+            lower = λ j k. p .way .back j k ∙ ap (λ (i : ℕ). getD runs i 0) (one-up j);
+            here = p .put;
+            higher = λ j k m. p .way .rest (upFrom low (suc j)) (λ i l e. omega arith) ∙ ap (λ (i : ℕ). getD runs i 0) (one-up j);
+            not-above = λ j k. let l = p .lower j k in omega arith;
+            not-below = λ j k m. let l = p .not-lower in let r = o .rising (p .moved) j k m in omega arith;
+          }
+
+      pub put-higher : middle ≤ run → PutAbove runs (low + count) run after → Ordered after low (count + 1) × CoversOneMore runs low count first end after low
+      put-higher b p =
+          placed runs low count run after low in-place first end fits is o h (p .same-length) (o .from) (let u = o .upto in omega arith)
+        where
+          -- the j-th run from above
+          from-above : (j : ℕ) → j < count → low + count - 1 - j ≡ low + (count - 1 - j)
+          from-above j k = omega arith
+
+          -- the middle one is not higher, so the way ends there or before
+          few : p .moved < count
+          few =
+              let e : low + count - 1 - (count - 1 - count / 2) ≡ low + count / 2 = omega arith in
+              let passed : count - 1 - count / 2 < p .moved → ⊥ = λ k.
+              let l = p .higher (count - 1 - count / 2) k in
+              let f = isMiddle ∙ ap (λ (i : ℕ). getD runs i 0) (sym e) in
+              omega arith in
+              omega (arith, passed)
+
+          lower-kept : (j : ℕ) → j < count - p .moved → (i : ℕ) → i ≤ p .moved → low + j ≢ downFrom (low + count) i
+          lower-kept j k i l e = omega arith
+
+          step-down : (j : ℕ) → j < count → low + suc j ≡ downFrom (low + count) (count - 1 - j)
+          step-down j k = omega arith
+
+          step-back : (j : ℕ) → j < count → downFrom (low + count) (suc (count - 1 - j)) ≡ low + j
+          step-back j k = omega arith
+
+          top : (j : ℕ) → j < count → low + count - 1 - (count - 1 - j) ≡ low + j
+          top j k = omega arith
+
+          in-place : Placed runs low count run after low
+          in-place = record {
+            rank = count - p .moved;
+            is-rank = omega arith;
+            lower = λ j k. p .way .rest (low + j) (lower-kept j k);
+            here =
+                let m = few in
+                let e : low + (count - p .moved) ≡ low + count - p .moved = omega arith in
+                ap (λ (i : ℕ). getD after i 0) e ∙ p .put;
+            higher = λ j k m.
+                ap (λ (i : ℕ). getD after i 0) (step-down j m) ∙ p .way .back (count - 1 - j) (omega arith)
+                ∙ ap (λ (i : ℕ). getD runs i 0) (step-back j m);
+            not-above = λ j k.
+                let m = few in
+                let l = p .not-higher in
+                let e = ap (λ (i : ℕ). getD runs i 0) (from-above (p .moved) m) in
+                let r = o .rising j (count - 1 - p .moved) (omega arith) (omega arith) in
+                omega arith;
+            not-below = λ j k m.
+                let l = p .higher (count - 1 - j) (omega arith) in
+                let e = ap (λ (i : ℕ). getD runs i 0) (top j m) in
+                omega arith;
+          }
