@@ -1,7 +1,8 @@
 -- The demands, of the library: what is proved of the rules, of the library's own promises. The words are those of Made and of the rules'
--- specs/Refusing.antt, Apart.antt and Cause.antt; each proof cites what stands at the door of the rules' proofs.
+-- specs/Refusing.antt, Apart.antt, Cause.antt and Covered.antt; each proof cites what stands at the door of the rules' proofs.
 use Prim.Native.Nat.{ℕ, _+_, _*_, _/_, _≤_}
 use mathlib.Core.Path.{_≡_, sym, ap, _∙_}
+use native.Mathlib.Omega.{arith}
 use mathlib.Core.Bool.{true}
 use mathlib.Core.List.{List}
 use mathlib.Core.Logic.{_≢_, _⊎_}
@@ -11,17 +12,19 @@ use Rattle.rules.specs.Shape.{sound}
 use Rattle.rules.specs.Reach.{listOf}
 use Rattle.rules.specs.Answers.{Answer, wait, refused, Done, done}
 use Rattle.rules.specs.FreeCount.{Counted}
-use Rattle.rules.specs.Board.{Boarded, Shown, rowWidth}
+use Rattle.rules.specs.Board.{Boarded, Shown, rowWidth, holders, coveredBy}
 use Rattle.rules.specs.Play.{Call, stepCall, call}
 use Rattle.rules.specs.Reached.{Request}
 use Rattle.rules.specs.Run.{ran}
 use Rattle.rules.specs.Refusing.{Refuses, ClearRefuses, DamageRefuses, BoardRefuses}
 use Rattle.rules.specs.Apart.{Covers, claimOfSeat, Holds, LinkedIn, Stands, OfOneSeat, Rising, IsItsSteps, Stops, GivenUp, callsMade, StillStands}
 use Rattle.rules.specs.Cause.{Cause, Settled, Told}
+use Rattle.rules.specs.Covered.{addedUp, In32Bits}
 use Rattle.rules.specs.declared.Ran.{Ran}
 use Rattle.rules.proofs.Refusing as refusing
 use Rattle.rules.proofs.Apart as apart
 use Rattle.rules.proofs.Cause as cause
+use Rattle.rules.proofs.Covered as covers
 use Rattle.demands.proofs.Made.{ClearMade, CallMade, RunMade, CountMade, BoardMade, RequestsMade, StepsMade, Lent}
 use Rattle.demands.proofs.MadeByRules.{made-clear, made-call, made-run, made-count, made-board, made-requests, made-steps, count-not-1, board-not-1, lent-reached}
 
@@ -66,6 +69,17 @@ run-is-steps {t} {schedule = schedule} {budget} m = rw (made-run m) (apart.run-i
 pub run-stops : {t u : Tables} {schedule : List ℕ} {budget : ℕ} {r : Ran} → sound t ≡ true → RunMade t schedule budget r u → Stops schedule budget (done r u)
 run-stops {t} {schedule = schedule} {budget} e m = rw (made-run m) (apart.run-stops t schedule budget e)
 
+-- ---- covered frames, of any tables: an accepted board gives the number of frames that at least one holder covers, each counted once; what
+-- stands at the rules' door in Covered holds of it
+pub board-covers : {t : Tables} {rows after : List ℕ} {n covered : ℕ} → BoardMade t rows (Boarded.filled n covered) after
+    → (n ≡ length (holders t)) × (covered ≡ coveredBy (holders t))
+board-covers {t} {rows} {n = n} {covered} m = covers.on-the-board-of-numbers t rows n covered (sym (ap (λ (x : Shown ℕ). x .answer) (made-board m)))
+
+-- so it fits 32 bits, as the tables' words do
+pub board-fits : {t : Tables} {rows after : List ℕ} {n covered : ℕ} → In32Bits (t .nodes) → BoardMade t rows (Boarded.filled n covered) after
+    → covered ≤ 4294967295
+board-fits {t} words m = let e = board-covers m .1 in let f = covers.fits t words in omega arith
+
 -- ---- demand 2, of tables that the library cleared and that only its calls have changed since
 module _ {N S : ℕ} {t : Tables} (l : Lent N S t) where
   -- two holders share a frame only if both read
@@ -107,6 +121,11 @@ module _ {N S : ℕ} {t : Tables} (l : Lent N S t) where
 
   pub board-never-damaged : {rows after : List ℕ} {a : Boarded} → BoardMade t rows a after → a ≢ Boarded.refused 1
   board-never-damaged = board-not-1 always-sound
+
+  -- where all holders write, covered is what 01 had: the sum over the rows
+  pub writers-covered : {rows after : List ℕ} {n covered : ℕ} → ((s : ℕ) → Holds t s → claimOfSeat t s .kind ≡ 2) → BoardMade t rows (Boarded.filled n covered) after
+      → covered ≡ addedUp (holders t)
+  writers-covered writers m = board-covers m .1 ∙ covers.the-sum-for-writers (lent-reached l) writers
 
   -- ---- demand 3: every `wait n` has its cause at node n
   pub every-wait-has-its-cause : (s n : ℕ) {u : Tables} → CallMade t (stepCall s) (wait n) u → Cause u s n

@@ -4,3 +4,4 @@ pub mod SeatFrames
 pub mod NodeFrames
 pub mod ClaimFrames
 pub mod AfterStep
+pub mod Uncovered

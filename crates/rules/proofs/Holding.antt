@@ -1,6 +1,7 @@
--- From the invariant to demand 2: why holders are apart, why the list is in order, why no standing claim is dropped. Stated in Apart; may use
+-- From the invariant to demand 2: why holders are apart, why the list is in order, why no standing claim is dropped; and what of covered frames hangs on it. Stated in Apart and Covered; may use
 -- all rooms before.
 pub mod Exclusion
 pub mod ListOrder
 pub mod NothingDropped
 pub mod Standing
+pub mod CoveredOnce

@@ -1,16 +1,18 @@
 -- What `coveredBy` counts, of any rows and then of the holders of any tables: the frames that some row covers, each once.
-use Prim.Native.Nat.{ℕ, zero, suc, _+_, _-_, _≤_, _<_, max}
+use Prim.Native.Nat.{ℕ, zero, suc, _+_, _-_, _*_, _/_, _≤_, _<_, max}
 use mathlib.Core.Path.{_≡_, refl, sym, ap, _∙_}
-use mathlib.Core.Bool.{Bool, true, false, _||_}
+use mathlib.Core.Bool.{Bool, true, false, _||_, true≢false}
 use mathlib.Core.List.{List, [], _∷_, _++_}
 use mathlib.Core.Logic.{_≢_, _⊎_, inl, inr}
 use native.Mathlib.Omega.{arith}
 use native.Mathlib.Decide.{decLe}
 use native.Mathlib.Nat.{eq-or-lt-of-le}
+use lib.ListN.{length, drop}
 use borrow.Author.Tests.{leb-true, ltb-true, le-leb, lt-ltb, lt-leb, le-ltb, eqb-true, eq-eqb}
 use Rattle.rules.specs.Notation.{if_then_else_, _is_, _≤?_, _<?_, count}
 use Rattle.rules.specs.Tables.{Tables, seatCount, phase, own}
-use Rattle.rules.specs.Board.{rowOf, rowsBelow, holders, covers, someCovers, lastEnd, coveredBy}
+use Rattle.rules.specs.Calls.{damaged}
+use Rattle.rules.specs.Board.{rowOf, rowsBelow, holders, covers, someCovers, lastEnd, coveredBy, Boarded, filled, refused, Shown, shown, board, rowWidth, numbersOf, boardNumbers}
 use Rattle.rules.specs.Apart.{Covers, claimOfSeat, Holds}
 use Rattle.rules.specs.Covered.{HolderCovers, addedUp}
 use Rattle.rules.specs.declared.Row.{Row}
@@ -221,3 +223,40 @@ module _ (t : Tables) where
     pub holders-apart : coveredBy (holders t) ≡ addedUp (holders t)
     unfolding holders
     holders-apart = below-apart (seatCount t) (omega arith)
+
+-- ---- what an accepted board gives
+abbrev rowsGiven : Boarded → ℕ
+rowsGiven (filled rows covered) = rows
+rowsGiven (refused number) = 0
+
+abbrev framesGiven : Boarded → ℕ
+framesGiven (filled rows covered) = covered
+framesGiven (refused number) = 0
+
+abbrev isFilled : Boarded → Bool
+isFilled (filled rows covered) = true
+isFilled (refused number) = false
+
+module _ {A : Type 0} (t : Tables) (lent after : List A) (short : Bool) (rows covered : ℕ) where
+  -- both boards have one shape
+  gives : (damaged : Bool)
+      → (if damaged then shown (refused 1) lent else if short then shown (refused 9) lent else shown (filled (length (holders t)) (coveredBy (holders t))) after) .answer
+      ≡ filled rows covered → (rows ≡ length (holders t)) × (covered ≡ coveredBy (holders t))
+  gives true e = absurd (true≢false (sym (ap isFilled e)))
+  gives false e =
+      branch (λ (x : Shown A). x .answer ≡ filled rows covered → (rows ≡ length (holders t)) × (covered ≡ coveredBy (holders t))) short
+      (λ s f. absurd (true≢false (sym (ap isFilled f))))
+      (λ s f. (sym (ap rowsGiven f), sym (ap framesGiven f)))
+      e
+
+pub board-gives : (t : Tables) (lent : List Row) (rows covered : ℕ) → board t lent .answer ≡ filled rows covered
+    → (rows ≡ length (holders t)) × (covered ≡ coveredBy (holders t))
+unfolding board
+board-gives t lent rows covered =
+    gives t lent (holders t ++ drop (length (holders t)) lent) (length lent <? length (holders t)) rows covered (damaged t)
+
+pub numbers-give : (t : Tables) (lent : List ℕ) (rows covered : ℕ) → boardNumbers t lent .answer ≡ filled rows covered
+    → (rows ≡ length (holders t)) × (covered ≡ coveredBy (holders t))
+unfolding boardNumbers
+numbers-give t lent rows covered =
+    gives t lent (numbersOf (holders t) ++ drop (rowWidth * length (holders t)) lent) (length lent / rowWidth <? length (holders t)) rows covered (damaged t)
