@@ -3,7 +3,7 @@
 
 use crate::machine::{begin, board, fresh, step, Answer};
 use crate::random::Random;
-use crate::tables::sound_words;
+use crate::tables::many_holders;
 use std::ops::Range;
 
 /// The covered frames of any sound tables.
@@ -131,7 +131,7 @@ fn covered_is_what_counting_frame_by_frame_gives() {
 fn covered_is_what_counting_from_bound_to_bound_gives() {
     let mut random = Random::new(7);
     for _ in 0..4_000 {
-        let (nodes, seats) = sound_words(&mut random);
+        let (nodes, seats) = many_holders(&mut random);
         let runs = held(&nodes, &seats);
         let mut bounds: Vec<u32> = runs.iter().flat_map(|run| [run.start, run.end]).collect();
         bounds.sort_unstable();
