@@ -164,8 +164,8 @@ uint64_t soodhiqune_release(uint32_t *nodes, size_t node_words, uint32_t *seats,
 uint64_t soodhiqune_run(uint32_t *nodes, size_t node_words, uint32_t *seats, size_t seat_words,
                         const uint32_t *schedule, size_t entries, uint32_t budget);
 
-/* A row for each holder, by rising seat; rows past the count stay. *covered becomes the frames that they cover. Refused: damaged, board
- * too short; *covered is then as found. */
+/* A row for each holder, by rising seat; rows past the count stay. *covered becomes the number of frames that at least one of them covers,
+ * at most 4,294,967,295. Refused: damaged, board too short; *covered is then as found. */
 uint64_t soodhiqune_board(const uint32_t *nodes, size_t node_words, const uint32_t *seats, size_t seat_words,
                           uint32_t *rows, size_t row_words, uint64_t *covered);
 

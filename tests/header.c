@@ -144,6 +144,21 @@ static void check_board(void)
     check("its row, and the next kept", memcmp(rows, wanted, sizeof rows) == 0 && covered == 10);
 }
 
+/* a frame that two readers hold is covered once: document 02's example */
+static void check_covered(void)
+{
+    const uint32_t first[] = {0, 0}, second[] = {1, 1, 1};
+    uint32_t table[SOODHIQUNE_NODE_WORDS(2)] = {0}, both[SOODHIQUNE_SEAT_WORDS(2)] = {0}, rows[SOODHIQUNE_ROW_WORDS(2)];
+    uint64_t covered = UNTOUCHED;
+#define BOTH table, SOODHIQUNE_NODE_WORDS(2), both, SOODHIQUNE_SEAT_WORDS(2)
+    soodhiqune_begin(BOTH, 0, 0, 100, SOODHIQUNE_READS);
+    soodhiqune_run(BOTH, ENTRIES(first), 9);
+    soodhiqune_begin(BOTH, 1, 50, 60, SOODHIQUNE_READS);
+    soodhiqune_run(BOTH, ENTRIES(second), 9);
+    check("two readers hold", counts(soodhiqune_board(BOTH, rows, SOODHIQUNE_ROW_WORDS(2), &covered), 2));
+    check("their shared frames are covered once", covered == 100);
+}
+
 static void check_scripts(void)
 {
     static uint32_t numbers[SOODHIQUNE_SCRIPT_NUMBERS];
@@ -195,6 +210,7 @@ int main(void)
     check_no_node();
     check_back();
     check_board();
+    check_covered();
     check_scripts();
     check_null();
     printf("%d passed, %d failed\n", passed, failed);

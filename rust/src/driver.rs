@@ -7,7 +7,7 @@ use crate::library::{Numbers, Printed};
 use crate::machine;
 use crate::random::Random;
 use crate::script::{read_script, BEGIN, STEP};
-use crate::tables::{any_words, damaged, sound_words, Tables, DAMAGES};
+use crate::tables::{any_words, damaged, many_holders, sound_words, Tables, DAMAGES};
 
 /// The functions of one machine.
 #[derive(Clone, Copy)]
@@ -200,6 +200,11 @@ impl Driver {
 
     pub fn sound_words(&mut self, random: &mut Random) -> Result<(), Difference> {
         let tables = sound_words(random);
+        self.every_call(random, tables)
+    }
+
+    pub fn many_holders(&mut self, random: &mut Random) -> Result<(), Difference> {
+        let tables = many_holders(random);
         self.every_call(random, tables)
     }
 

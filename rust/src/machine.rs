@@ -1,4 +1,4 @@
-//! A second machine for the claim tables, written from document 01 alone: every call, script reading and playing.
+//! A second machine for the claim tables, written from documents 01 and 02 alone: every call, script reading and playing.
 //! It assumes nothing of what it is lent: tables of any length and any words are answered, if need be by refusal 1.
 //! Behind the test of sound shape every name of a node is in bounds, and the functions that follow rely on that.
 
@@ -467,20 +467,35 @@ pub fn run(nodes: &mut [u32], seats: &mut [u32], entries: &[u32], budget: u32) -
 
 pub const ROW_WORDS: usize = 4;
 
+/// 02: "Covered shall be the number of frames that at least one holder covers." Taken by rising first frame, a row adds what
+/// lies behind the furthest end reached before it.
+fn covered_frames(rows: &[u32]) -> u64 {
+    let mut runs: Vec<(u32, u32)> = rows.chunks_exact(ROW_WORDS).map(|row| (row[1], row[2])).collect();
+    runs.sort_unstable_by_key(|&(start, _)| start);
+    let mut covered = 0;
+    let mut reached = 0;
+    for (start, end) in runs {
+        let first = start.max(reached);
+        if first < end {
+            covered += u64::from(end - first);
+            reached = end;
+        }
+    }
+    covered
+}
+
 /// "Rows, each with seat, first frame, end frame and kind: one for each seat in phase 5, by rising seat number. Later rows
-/// stay. It returns the row count and covered frames, the sum of end − start over the rows."
+/// stay. It returns the row count and covered frames."
 pub fn board(nodes: &[u32], seats: &[u32], rows: &mut [u32]) -> Result<(u32, u64), u32> {
     refuse(1, !sound(nodes, seats))?;
     let holders = || (0..).zip(seats.chunks_exact(SEAT_WORDS)).filter(|(_, seat)| seat[PHASE] == HOLDING);
     let count = holders().count();
     refuse(9, rows.len() / ROW_WORDS < count)?;
-    let mut covered = 0;
     for ((number, seat), row) in holders().zip(rows.chunks_exact_mut(ROW_WORDS)) {
         let Claim { start, end, kind } = claim_of(nodes, seat[OWN]);
         row.copy_from_slice(&[number, start, end, kind]);
-        covered += u64::from(end - start);
     }
-    Ok((count as u32, covered))
+    Ok((count as u32, covered_frames(&rows[..ROW_WORDS * count])))
 }
 
 /// "How many nodes are free, by the rule above with every seat counted and nothing taken out."

@@ -46,9 +46,22 @@ pub fn any_words(random: &mut Random) -> Tables {
     (nodes, seats)
 }
 
-fn put_claim(random: &mut Random, node: &mut [u32], named: &[u32]) {
-    let start = if random.percent(10) { random.edge().min(u32::MAX - 1) } else { random.below(9) };
-    let longest = random.pick(&[1, 4, u32::MAX - start]).min(u32::MAX - start);
+/// Where claims lie: most start below a bound, the others at an edge, and none is longer than this.
+#[derive(Clone, Copy)]
+struct Frames {
+    bound: u32,
+    longest: u32,
+}
+
+/// Few frames, so that claims meet, and some claims reach over all the others.
+const CLOSE: Frames = Frames { bound: 9, longest: u32::MAX };
+
+/// More frames and no long claim, so that there are gaps between claims.
+const APART: Frames = Frames { bound: 60, longest: 8 };
+
+fn put_claim(random: &mut Random, frames: Frames, node: &mut [u32], named: &[u32]) {
+    let start = if random.percent(10) { random.edge().min(u32::MAX - 1) } else { random.below(frames.bound) };
+    let longest = random.pick(&[1, 4, frames.longest]).min(u32::MAX - start);
     node[START] = start;
     node[END] = start + random.between(1, longest);
     node[KIND] = random.between(1, 2);
@@ -79,10 +92,17 @@ fn put_seat(random: &mut Random, phase: u32, seat: &mut [u32], nodes: &[u32], na
 }
 
 /// Sound words at random, with a claim in the named nodes, some of which are listed, and the seats in these phases.
-fn sound_with(random: &mut Random, node_count: u32, named: &[u32], list_length: usize, phases: &[u32]) -> Tables {
+fn sound_with(
+    random: &mut Random,
+    frames: Frames,
+    node_count: u32,
+    named: &[u32],
+    list_length: usize,
+    phases: &[u32],
+) -> Tables {
     let (mut nodes, mut seats) = fresh(node_count, phases.len() as u32);
     for &node in named {
-        put_claim(random, &mut nodes[place(node, START)..][..NODE_WORDS], named);
+        put_claim(random, frames, &mut nodes[place(node, START)..][..NODE_WORDS], named);
     }
     let mut unlisted = named.to_vec();
     let mut last = 0;
@@ -106,7 +126,20 @@ pub fn sound_words(random: &mut Random) -> Tables {
     let named: Vec<u32> = (1..=node_count).filter(|_| !random.percent(zeros)).collect();
     let list_length = if random.percent(20) { named.len() } else { random.between(0, named.len() as u32) as usize };
     let phases: Vec<u32> = (0..seat_count).map(|_| random.below(7)).collect();
-    sound_with(random, node_count, &named, list_length, &phases)
+    sound_with(random, CLOSE, node_count, &named, list_length, &phases)
+}
+
+/// Sound words at random in which most seats hold, so that a board has several rows: nodes on the list and off it, in no
+/// order of their first frames, and some that two seats hold.
+pub fn many_holders(random: &mut Random) -> Tables {
+    let (node_count, seat_count) =
+        if random.percent(5) { (256, 64) } else { (random.between(2, 12), random.between(2, 8)) };
+    let named: Vec<u32> = (1..=node_count).collect();
+    let list_length = random.between(0, node_count) as usize;
+    let phases: Vec<u32> =
+        (0..seat_count).map(|_| if random.percent(80) { HOLDING } else { random.below(7) }).collect();
+    let frames = random.pick(&[CLOSE, APART]);
+    sound_with(random, frames, node_count, &named, list_length, &phases)
 }
 
 /// Sound words that have everything a damage asks for: the last node is zeros and the others have claims, two are listed and
@@ -115,7 +148,7 @@ fn ample(random: &mut Random) -> Tables {
     let named = [1, 2, 3, 4];
     let mut phases = [0, 1, 2, 3, 4, 5, 6];
     phases.rotate_left(random.below(7) as usize);
-    sound_with(random, 5, &named, 2, &phases)
+    sound_with(random, CLOSE, 5, &named, 2, &phases)
 }
 
 fn seat_in(seats: &mut [u32], phase: u32) -> &mut [u32] {

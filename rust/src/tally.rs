@@ -1,10 +1,11 @@
 //! Counts of what scripts really reach: a mix that never meets a rule says nothing about it.
 //! What happened in a call is told from the tables before and after it, as the second machine leaves them.
 
-use crate::machine::{self, Answer, CUR, HOLDING, OWN, PHASE, PREV, SEAT_WORDS};
+use crate::machine::{self, Answer, CUR, HOLDING, MOST_SEATS, OWN, PHASE, PREV, ROW_WORDS, SEAT_WORDS};
 use crate::machine::{READER_WAITING, VALIDATING, WAITING_TO_ENTER, WALKING, WITHDRAWN};
 use crate::script::{call, read_script, BEGIN};
-use std::collections::BTreeMap;
+use std::collections::{BTreeMap, BTreeSet};
+use std::ops::Range;
 
 #[derive(Default)]
 pub struct Tally {
@@ -37,6 +38,29 @@ fn step_name(nodes: &[u32], before: &[u32], after: &[u32]) -> &'static str {
     }
 }
 
+type Run = Range<u32>;
+type Pair = (&'static str, fn(&Run, &Run) -> bool);
+
+/// How the runs of two holders can meet: what a count of covered frames can get wrong.
+const PAIRS: [Pair; 4] = [
+    ("board: holders that share a frame", |one, other| one.start < other.end && other.start < one.end),
+    ("board: holders of the same run", |one, other| one == other),
+    ("board: a holder inside another", |one, other| one != other && other.start <= one.start && one.end <= other.end),
+    ("board: ends that touch", |one, other| one.end == other.start),
+];
+
+fn some_two(runs: &[Run], meet: fn(&Run, &Run) -> bool) -> bool {
+    let rows = 0..runs.len();
+    rows.clone().any(|one| rows.clone().any(|other| one != other && meet(&runs[one], &runs[other])))
+}
+
+/// The gaps between runs: each starts where a run ends, at a frame that none covers, and a run follows.
+fn gap_count(runs: &[Run]) -> usize {
+    let last_start = runs.iter().map(|run| run.start).max();
+    let opens = |end: &u32| Some(*end) < last_start && !runs.iter().any(|run| run.contains(end));
+    runs.iter().map(|run| run.end).filter(opens).collect::<BTreeSet<u32>>().len()
+}
+
 impl Tally {
     fn count(&mut self, name: impl Into<String>) {
         *self.counts.entry(name.into()).or_insert(0) += 1;
@@ -63,6 +87,29 @@ impl Tally {
         self.longest_list = self.longest_list.max(machine::listed(nodes).count());
     }
 
+    /// Counts how the holders of sound tables meet.
+    pub fn count_board(&mut self, nodes: &[u32], seats: &[u32]) {
+        let mut rows = [0; ROW_WORDS * MOST_SEATS];
+        let (count, _) = machine::board(nodes, seats, &mut rows).expect("sound tables, and as many rows as seats");
+        let runs: Vec<Run> = rows.chunks_exact(ROW_WORDS).take(count as usize).map(|row| row[1]..row[2]).collect();
+        if count > 1 {
+            self.count("board: two holders or more");
+        }
+        if runs.windows(2).any(|rows| rows[1].start < rows[0].start) {
+            self.count("board: first frames not rising by seat");
+        }
+        for (name, meet) in PAIRS {
+            if some_two(&runs, meet) {
+                self.count(name);
+            }
+        }
+        match gap_count(&runs) {
+            0 => {}
+            1 => self.count("board: a gap between holders"),
+            _ => self.count("board: gaps between holders, two or more"),
+        }
+    }
+
     /// Plays a script and counts what it reaches; bad ones are counted by what is wrong and by the line that is named.
     pub fn count_script(&mut self, flaw: &str, bytes: &[u8]) {
         self.count(format!("script: {flaw}"));
@@ -76,6 +123,7 @@ impl Tally {
         for &row in &script.rows[..script.count as usize] {
             self.count_call(&mut nodes, &mut seats, row);
         }
+        self.count_board(&nodes, &seats);
         if self.longest_list > 30 {
             self.count("script with a list longer than 30");
         }

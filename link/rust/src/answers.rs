@@ -159,6 +159,7 @@ pub struct Row {
 #[derive(Clone, Copy, Debug, PartialEq, Eq, Hash)]
 pub struct Shown {
     pub rows: usize,
+    /// The number of frames that at least one of them covers; at most 4,294,967,295.
     pub covered: u64,
 }
 

@@ -15,6 +15,7 @@ pub struct Tables {
 #[derive(Clone, Debug, PartialEq, Eq)]
 pub struct Board {
     pub rows: Vec<Row>,
+    /// The number of frames that at least one of them covers; at most 4,294,967,295.
     pub covered: u64,
 }
 

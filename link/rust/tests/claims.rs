@@ -51,6 +51,17 @@ fn the_rows_past_the_holders_stay() {
 }
 
 #[test]
+fn a_frame_that_two_readers_hold_is_covered_once() {
+    let mut tables = Tables::new(4, 4).unwrap();
+    for (seat, frames) in [(0, 0..100), (1, 50..60)] {
+        tables.begin(seat, frames, Kind::Reads).unwrap();
+        while tables.step(seat).unwrap() != Answer::Held {}
+    }
+    let board = tables.board().unwrap();
+    assert_eq!((board.rows.len(), board.covered), (2, 100));
+}
+
+#[test]
 fn run_stops_at_its_end_its_budget_and_a_refused_entry() {
     let mut tables = h1();
     let before = tables.clone();

@@ -26,10 +26,11 @@ fn other_machine() -> Library {
 type Family = (&'static str, u32, fn(&mut Driver, &mut Random) -> Result<(), Difference>);
 
 /// What one round compares, and how often.
-const FAMILIES: [Family; 5] = [
+const FAMILIES: [Family; 6] = [
     ("histories from fresh tables", 2, Driver::history),
     ("any words", 200, Driver::any_words),
     ("sound words", 400, Driver::sound_words),
+    ("many holders", 100, Driver::many_holders),
     ("each clause of sound shape broken", 2, Driver::damages),
     ("scripts read and played", 1, Driver::scripts),
 ];

@@ -26,14 +26,42 @@ struct Bench {
     beside: u32,
 }
 
-fn holders(node_count: u32, seat_count: u32, kind: u32) -> Bench {
+/// Each seat in turn holds at the place that the list gives it; the places lie apart, and two seats more are idle.
+fn holders_at(node_count: u32, places: Vec<u32>, kind: u32) -> Bench {
+    let seat_count = places.len() as u32 + 2;
     let (nodes, seats) = machine::fresh(node_count, seat_count);
     let mut bench = Bench { nodes, seats, last: seat_count - 1, beside: seat_count - 2 };
-    for seat in 0..bench.beside {
-        bench.begin(seat, 10 * (seat + 1), 10 * (seat + 1) + 5, kind);
+    for (seat, place) in (0..).zip(places) {
+        bench.begin(seat, 10 * (place + 1), 10 * (place + 1) + 5, kind);
         bench.step_until_held(seat);
     }
     bench
+}
+
+fn holders(node_count: u32, seat_count: u32, kind: u32) -> Bench {
+    holders_at(node_count, (0..seat_count - 2).collect(), kind)
+}
+
+// The board puts the holders in the order of their first frames, so it matters in which order they lie by seat.
+
+fn falling(count: u32) -> Vec<u32> {
+    (0..count).rev().collect()
+}
+
+/// In no order, the same one each time.
+fn mixed(count: u32) -> Vec<u32> {
+    let mut random = Random::new(1);
+    let mut left: Vec<u32> = (0..count).collect();
+    (0..count).map(|_| left.swap_remove(random.below(left.len() as u32) as usize)).collect()
+}
+
+/// The lowest, the highest, the second lowest and so on.
+fn inward(count: u32) -> Vec<u32> {
+    (0..count).map(|seat| if seat % 2 == 0 { seat / 2 } else { count - 1 - seat / 2 }).collect()
+}
+
+fn outward(count: u32) -> Vec<u32> {
+    inward(count).into_iter().rev().collect()
 }
 
 impl Bench {
@@ -175,6 +203,17 @@ const OPERATIONS: &[Operation] = &[
     ("run of 1,000 entries", long_run),
     ("board", |nodes, seats| holders(nodes, seats, WRITES).board(seats)),
     ("board, no row to spare", |nodes, seats| holders(nodes, seats, WRITES).board(seats - 2)),
+    ("board, first frames falling", |nodes, seats| holders_at(nodes, falling(seats - 2), WRITES).board(seats)),
+    ("board, first frames mixed", |nodes, seats| holders_at(nodes, mixed(seats - 2), WRITES).board(seats)),
+    ("board, first frames from both ends inward", |nodes, seats| {
+        holders_at(nodes, inward(seats - 2), WRITES).board(seats)
+    }),
+    ("board, first frames from the middle outward", |nodes, seats| {
+        holders_at(nodes, outward(seats - 2), WRITES).board(seats)
+    }),
+    ("board, readers of the same frames", |nodes, seats| {
+        holders_at(nodes, vec![0; seats as usize - 2], READS).board(seats)
+    }),
     ("free count", |nodes, seats| holders(nodes, seats, WRITES).call(Call::FreeCount)),
 ];
 

@@ -4,6 +4,7 @@ use crate::generate::{any_text, good, put_change, script, FLAWS};
 use crate::random::Random;
 use crate::script::read_script;
 use crate::tally::Tally;
+use crate::tests::BOARDS;
 
 #[test]
 fn bad_scripts_name_the_first_wrong_line() {
@@ -76,7 +77,7 @@ fn the_generated_scripts_reach_every_rule() {
     ];
     let refusals =
         ["2 of begin", "3 of begin", "4 of begin", "5 of begin", "8 of begin", "2 of step", "6 of step", "8 of step"];
-    for name in steps {
+    for name in steps.iter().chain(&BOARDS) {
         assert!(tally.of(name) >= 10, "{name}");
     }
     for refusal in refusals.iter().chain(&["2 of release", "7 of release"]) {

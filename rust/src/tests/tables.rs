@@ -4,7 +4,9 @@ use crate::driver::{outcome, Call, Case};
 use crate::library_of;
 use crate::machine::{begin, free_count, listed, run, step, Answer};
 use crate::random::Random;
-use crate::tables::{any_words, damaged, sound_words, DAMAGES};
+use crate::tables::{any_words, damaged, many_holders, sound_words, DAMAGES};
+use crate::tally::Tally;
+use crate::tests::BOARDS;
 
 // Where each word stands, as the document says it: not the machine's constants, so that a wrong one is seen.
 const HEAD: usize = 0;
@@ -139,8 +141,22 @@ fn sound_shape_is_what_its_clauses_say() {
     }
     assert!(sound_ones > 400, "{sound_ones}");
     for _ in 0..2_000 {
-        let (nodes, seats) = sound_words(&mut random);
-        assert!(is_sound(&nodes, &seats) && free_count(&nodes, &seats).is_ok(), "{nodes:?} {seats:?}");
+        for (nodes, seats) in [sound_words(&mut random), many_holders(&mut random)] {
+            assert!(is_sound(&nodes, &seats) && free_count(&nodes, &seats).is_ok(), "{nodes:?} {seats:?}");
+        }
+    }
+}
+
+#[test]
+fn many_holders_meet_in_every_way() {
+    let mut random = Random::new(5);
+    let mut tally = Tally::default();
+    for _ in 0..1_000 {
+        let (nodes, seats) = many_holders(&mut random);
+        tally.count_board(&nodes, &seats);
+    }
+    for name in BOARDS {
+        assert!(tally.of(name) >= 100, "{name}");
     }
 }
 
