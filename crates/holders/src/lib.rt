@@ -76,14 +76,14 @@ pub fn covered(nodes: &[u32], seats: &[u32]) -> u64
     let mut places: [u64; 128] = [0; 128];
     let mut low: usize = 64;
     let mut held: usize = 0;
-    let mut s: u32 = 0;
-    while s < count {
-        if words::seat_word_within(seats, s, words::PHASE) == 5 {
-            low = gather(nodes, seats, s, &mut places, low, held);
+    let mut seat: u32 = 0;
+    while seat < count {
+        if words::seat_word_within(seats, seat, words::PHASE) == 5 {
+            low = gather(nodes, seats, seat, &mut places, low, held);
             held += 1;
-            s += 1;
+            seat += 1;
         } else {
-            s += 1;
+            seat += 1;
         }
     }
     runs::covered(&places, low, held)

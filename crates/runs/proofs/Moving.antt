@@ -1,8 +1,7 @@
 -- A place is made for a run: one law of the way along which numbers move back, and what `put_below` and `put_above` know on theirs.
-use Prim.Native.Nat.{ℕ, zero, suc, _+_, _-_, _≤_, _<_}
-use mathlib.Core.Path.{_≡_, refl, sym, ap, _∙_}
+use Prim.Native.Nat.{ℕ, suc, _+_, _-_, _≤_, _<_}
+use mathlib.Core.Path.{_≡_, refl, ap, _∙_}
 use mathlib.Core.List.{List}
-use mathlib.Core.Logic.{_≢_}
 use native.Mathlib.Omega.{arith}
 use native.Mathlib.Decide.{ℕ-discrete}
 use lib.ListN.{getD, set, length, length-set}
@@ -92,14 +91,6 @@ module _ (before : List ℕ) (low run : ℕ) (runs : List ℕ) (at : ℕ) (l : L
           | no z ↦ l .lower j (omega arith)
         ];
       }
-
-  pub lowering-on : (next : ℕ) → next ≡ getD runs at 0 → next < run → at + 1 < 128
-  lowering-on next e d =
-      let a = lowering-short in
-      let b = stop .in-places in
-      let c = stop .is in
-      let not-there : at ≡ stop .at → ⊥ = λ z. let f = e ∙ here ∙ ap (λ (i : ℕ). getD before i 0) z in omega arith in
-      omega (arith, not-there)
 
   pub lowering-done : (next : ℕ) → next ≡ getD runs at 0 → run ≤ next → PutBelow before low run (set runs (at - 1) run)
   lowering-done next e h =

@@ -1,6 +1,6 @@
 -- One pass over runs in order: behind so many of them, each frame before `reached` that some run covers has been counted.
-use Prim.Native.Nat.{ℕ, zero, suc, _+_, _-_, _≤_, _<_, max}
-use mathlib.Core.Path.{_≡_, refl, sym, ap, _∙_}
+use Prim.Native.Nat.{ℕ, _+_, _-_, _≤_, _<_, max}
+use mathlib.Core.Path.{_≡_, sym, ap, _∙_}
 use mathlib.Core.Bool.{Bool, true, false}
 use mathlib.Core.List.{List}
 use native.Mathlib.Omega.{arith}
@@ -92,15 +92,15 @@ module _ (runs : List ℕ) (low count : ℕ) where
           p : ℕ → Bool
           p = someCovers (rowsIn runs low count)
 
-      pub swept-more : (first end from upto later : ℕ) → later ≡ max reached end → upto ≡ max from end → from ≡ max reached first → first ≡ firstOf run → end ≡ endOf run
-          → Swept runs low count (covered + (upto - from)) later (i + 1)
-      swept-more first end from upto later el eu ef es ee = record {
+      pub swept-more : (first end from upto more later : ℕ) → later ≡ max reached end → more ≡ upto - from → upto ≡ max from end → from ≡ max reached first → first ≡ firstOf run → end ≡ endOf run
+          → Swept runs low count (covered + more) later (i + 1)
+      swept-more first end from upto more later el em eu ef es ee = record {
         within = omega arith;
         passed = λ j k. elim (ℕ-discrete j i) [
           | yes y ↦ let q : getD runs (low + j) 0 ≡ run = ap (λ (n : ℕ). getD runs (low + n) 0) y ∙ sym is in rw q (omega arith)
           | no y ↦ let q = s .passed j (omega arith) in omega arith
         ];
-        counted = rw (el, eu, ef, es, ee) (sym grows);
-        no-more = let g = grows in let k = count-small (max reached (endOf run)) (someCovers (rowsIn runs low count)) in rw (el, eu, ef, es, ee) (omega arith);
+        counted = rw (el, em, eu, ef, es, ee) (sym grows);
+        no-more = let g = grows in let k = count-small (max reached (endOf run)) (someCovers (rowsIn runs low count)) in rw (el, em, eu, ef, es, ee) (omega arith);
         small = let r = s .small in omega arith;
       }

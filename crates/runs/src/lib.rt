@@ -2,7 +2,7 @@
 // They stand side by side in 128 places around place 64. The side with fewer runs makes room for the next one, so that runs which come
 // in rising or in falling order move none.
 ghost use mathlib.Core.Path.{_≡_};
-ghost use Prim.Native.Nat.{_+_, _≤_, _<_, max};
+ghost use Prim.Native.Nat.{_+_, _-_, _≤_, _<_, max};
 ghost use lib.ListN.{length};
 ghost use Rattle.rules.specs.Board.{coveredBy};
 ghost use Rattle.runs.specs.Runs.{firstOf, endOf, rowsIn, Ordered, CoversOneMore};
@@ -91,6 +91,14 @@ fn later(a: u32, b: u32) -> u32
     a
 }
 
+// how many frames there are from one up to another
+fn between(from: u32, upto: u32) -> u64
+    requires { ⌜ from ≤ upto ⌝ }
+    ensures { λ r. ⌜ r ≡ upto - from ⌝ }
+{
+    (upto - from) as u64
+}
+
 // The frames that runs in order cover. Each run adds those of its frames that lie past what the runs before it reached.
 pub fn covered(runs: &[u64; 128], low: usize, count: usize) -> u64
     requires { ⌜ Ordered (now runs) low count ⌝ }
@@ -104,7 +112,7 @@ pub fn covered(runs: &[u64; 128], low: usize, count: usize) -> u64
         let end = end_of(run);
         let from = later(reached, first_of(run));
         let upto = later(from, end);
-        covered += (upto - from) as u64;
+        covered += between(from, upto);
         reached = later(reached, end);
         i += 1;
     }

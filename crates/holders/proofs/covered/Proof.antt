@@ -10,10 +10,10 @@ use Rattle.holders.proofs.covered.Statement.{statement}
 use Rattle.holders.proofs.covered.Tie as tie
 
 abbrev Inv-loop : tie.InvT-loop
-Inv-loop nodes seats count places₀ low₀ held₀ s₀ places low held s = Gathered (tables nodes seats) count places low held s
+Inv-loop nodes seats count places₀ low₀ held₀ seat₀ places low held seat = Gathered (tables nodes seats) count places low held seat
 
 abbrev μ-loop : tie.MeasureT-loop
-μ-loop nodes seats count places₀ low₀ held₀ s₀ places low held s = count - s
+μ-loop nodes seats count places₀ low₀ held₀ seat₀ places low held seat = count - seat
 
 seat-count-requires : tie.Need-seat-count-requires Inv-loop μ-loop
 seat-count-requires c κs = search needs
@@ -33,8 +33,8 @@ gather-requires c κs = (search needs, (search needs, (search needs, search need
 add-held : tie.Need-add-held Inv-loop μ-loop
 add-held c = search needs
 
-add-s : tie.Need-add-s Inv-loop μ-loop
-add-s c = search needs
+add-seat : tie.Need-add-seat Inv-loop μ-loop
+add-seat c = search needs
 
 loop-less : tie.Need-loop-less Inv-loop μ-loop
 loop-less c = search needs
@@ -42,8 +42,8 @@ loop-less c = search needs
 loop-again : tie.Need-loop-again Inv-loop μ-loop
 loop-again c = gathered-more _ _ _ _ _ _ (search needs) (search needs) (search needs) _ _ (c .gather .ensures)
 
-add-s-2 : tie.Need-add-s-2 Inv-loop μ-loop
-add-s-2 c = search needs
+add-seat-2 : tie.Need-add-seat-2 Inv-loop μ-loop
+add-seat-2 c = search needs
 
 loop-less-2 : tie.Need-loop-less-2 Inv-loop μ-loop
 loop-less-2 c = search needs
@@ -69,10 +69,10 @@ covered-spec =
     seat-word-within-requires
     gather-requires
     add-held
-    add-s
+    add-seat
     loop-less
     loop-again
-    add-s-2
+    add-seat-2
     loop-less-2
     loop-again-2
     covered-requires

@@ -8,7 +8,7 @@ use Rattle.rules.specs.Comparison.{Claim, claimOf}
 use Rattle.rules.specs.Answers.{Answer, Done}
 use Rattle.rules.specs.Calls.{release}
 use Rattle.rules.specs.Play.{releaseCall, call}
-use Rattle.rules.specs.Apart.{Covers, claimOfSeat, Holds}
+use Rattle.rules.specs.Apart.{Covers, Holds}
 use Rattle.rules.specs.Covered.{HolderCovers}
 use Rattle.rules.proofs.Ground.Deciding.{if-same}
 use Rattle.rules.proofs.Laws.Words.{same-seat-count}

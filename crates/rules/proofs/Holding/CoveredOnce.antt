@@ -1,10 +1,10 @@
 -- Why covered frames fit 32 bits where the tables' words do, and why no two holders share a frame where all of them write.
 use Prim.Native.Nat.{ℕ, zero, suc, _≤_, _<_}
-use mathlib.Core.Path.{_≡_, sym, _∙_}
+use mathlib.Core.Path.{_≡_}
 use mathlib.Core.List.{List}
 use mathlib.Core.Logic.{_≢_}
 use native.Mathlib.Omega.{arith}
-use Rattle.rules.specs.Tables.{Tables, nodeWord, own, end, endAt}
+use Rattle.rules.specs.Tables.{Tables, nodeWord, own, endAt}
 use Rattle.rules.specs.Reached.{Reached}
 use Rattle.rules.specs.Apart.{claimOfSeat, Holds}
 use Rattle.rules.specs.Covered.{HolderCovers, In32Bits}

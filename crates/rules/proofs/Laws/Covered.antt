@@ -1,23 +1,23 @@
 -- What `coveredBy` counts, of any rows and then of the holders of any tables: the frames that some row covers, each once.
-use Prim.Native.Nat.{ℕ, zero, suc, _+_, _-_, _*_, _/_, _≤_, _<_, max}
+use Prim.Native.Nat.{ℕ, zero, suc, _+_, _-_, _*_, _/_, _≤_, _<_}
 use mathlib.Core.Path.{_≡_, refl, sym, ap, _∙_}
 use mathlib.Core.Bool.{Bool, true, false, _||_, true≢false}
 use mathlib.Core.List.{List, [], _∷_, _++_}
-use mathlib.Core.Logic.{_≢_, _⊎_, inl, inr}
+use mathlib.Core.Logic.{_≢_, inl, inr}
 use native.Mathlib.Omega.{arith}
 use native.Mathlib.Decide.{decLe}
 use native.Mathlib.Nat.{eq-or-lt-of-le}
 use lib.ListN.{length, drop}
-use borrow.Author.Tests.{leb-true, ltb-true, le-leb, lt-ltb, lt-leb, le-ltb, eqb-true, eq-eqb}
+use borrow.Author.Tests.{leb-true, ltb-true, le-leb, lt-ltb, eqb-true, eq-eqb}
 use Rattle.rules.specs.Notation.{if_then_else_, _is_, _≤?_, _<?_, count}
-use Rattle.rules.specs.Tables.{Tables, seatCount, phase, own}
+use Rattle.rules.specs.Tables.{Tables, seatCount, phase}
 use Rattle.rules.specs.Calls.{damaged}
 use Rattle.rules.specs.Board.{rowOf, rowsBelow, holders, covers, someCovers, lastEnd, coveredBy, Boarded, filled, refused, Shown, shown, board, rowWidth, numbersOf, boardNumbers}
 use Rattle.rules.specs.Apart.{Covers, claimOfSeat, Holds}
 use Rattle.rules.specs.Covered.{HolderCovers, addedUp}
 use Rattle.rules.specs.declared.Row.{Row}
-use Rattle.rules.proofs.Ground.Logic.{either, same, or-left, or-right, or-case, both, and-both, and-left, and-right, not-of, clash, branch}
-use Rattle.rules.proofs.Ground.Counting.{count-none, count-small, count-wider, count-alike, count-gap, count-run, count-bounds, count-or, count-apart}
+use Rattle.rules.proofs.Ground.Logic.{or-left, or-right, or-case, both, and-both, not-of, clash, branch}
+use Rattle.rules.proofs.Ground.Counting.{count-none, count-small, count-wider, count-gap, count-run, count-bounds, count-or, count-apart}
 
 -- ---- one row
 pub covers-yes : (row : Row) (f : ℕ) → row .first ≤ f → f < row .end → covers row f ≡ true

@@ -1,6 +1,5 @@
 -- `runs::covered` meets its promise. The measure is the number of runs left.
 use borrow.Author.Needs.{needs}
-use native.Mathlib.Omega.{arith}
 use Rattle.runs.proofs.Sweeping.{Swept, swept-none, swept-more, swept-all}
 use Prim.Native.Nat.{_-_}
 use Rattle.runs.proofs.covered.Statement.{statement}
@@ -36,11 +35,8 @@ later-requires c κs = search needs
 later-requires-2 : tie.Need-later-requires-2 Inv-loop μ-loop
 later-requires-2 c κs = search needs
 
-sub-covered : tie.Need-sub-covered Inv-loop μ-loop
-sub-covered c = search needs
-
-cast-covered : tie.Need-cast-covered Inv-loop μ-loop
-cast-covered c = search needs
+between-requires : tie.Need-between-requires Inv-loop μ-loop
+between-requires c κs = search needs
 
 add-covered : tie.Need-add-covered Inv-loop μ-loop
 add-covered c = search needs
@@ -74,8 +70,7 @@ covered-spec =
     first-of-requires
     later-requires
     later-requires-2
-    sub-covered
-    cast-covered
+    between-requires
     add-covered
     later-requires-3
     add-i

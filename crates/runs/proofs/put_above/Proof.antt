@@ -1,7 +1,6 @@
 -- `runs::put_above` meets its promise. The measure is the place that is open.
 use borrow.Author.Needs.{needs}
-use native.Mathlib.Omega.{arith}
-use Rattle.runs.proofs.Moving.{Raising, raising-none, raising-within, raising-some, raising-more, raising-done}
+use Rattle.runs.proofs.Moving.{Raising, raising-none, raising-some, raising-more, raising-done}
 use Prim.Native.Nat.{_≤_}
 use Rattle.runs.proofs.put_above.Statement.{statement}
 use Rattle.runs.proofs.put_above.Tie as tie

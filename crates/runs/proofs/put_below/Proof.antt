@@ -1,7 +1,6 @@
 -- `runs::put_below` meets its promise. The measure is the number of places left.
 use borrow.Author.Needs.{needs}
-use native.Mathlib.Omega.{arith}
-use Rattle.runs.proofs.Moving.{Lowering, lowering-none, lowering-within, lowering-more, lowering-on, lowering-done}
+use Rattle.runs.proofs.Moving.{Lowering, lowering-none, lowering-within, lowering-more, lowering-done}
 use Prim.Native.Nat.{_-_, _<_}
 use Rattle.runs.proofs.put_below.Statement.{statement}
 use Rattle.runs.proofs.put_below.Tie as tie
