@@ -1,4 +1,5 @@
--- A place is made for a run: one law of the way along which numbers move back, and what `put_below` and `put_above` know on theirs.
+-- A place is made for a run: the law of the way along which runs move back, once for both sides; and where `put_below` and `put_above` are
+-- on theirs.
 use Prim.Native.Nat.{ℕ, suc, _+_, _-_, _≤_, _<_}
 use mathlib.Core.Path.{_≡_, refl, ap, _∙_}
 use mathlib.Core.List.{List}
@@ -6,185 +7,145 @@ use native.Mathlib.Omega.{arith}
 use native.Mathlib.Decide.{ℕ-discrete}
 use lib.ListN.{getD, set, length, length-set}
 use lib.Seq.{getD-set-same, getD-set-other}
-use Rattle.runs.specs.Moving.{Moved, upFrom, downFrom, NotLower, NotHigher, PutBelow, PutAbove}
+use Rattle.runs.specs.Moving.{upFrom, downFrom, Lower, Higher, Ends, Moved, Put}
 
--- ---- any way that comes to no place twice
-module _ (place : ℕ → ℕ) (before : List ℕ) where
-  moved-none : Moved place before 0 before
-  moved-none = record { back = λ j h. absurd (omega arith); rest = λ i d. refl }
+moved-none : (place : ℕ → ℕ) (InWay : ℕ → Type 0) (runs : List ℕ) → Moved place InWay runs 0 runs
+moved-none place InWay runs = record {
+  same-length = refl;
+  in-way = λ j h. absurd (omega arith);
+  back = λ j h. absurd (omega arith);
+  rest = λ i d. refl;
+}
 
-  module _ (moved : ℕ) (after : List ℕ) (m : Moved place before moved after) (once : (i j : ℕ) → i ≤ suc moved → j ≤ suc moved → place i ≡ place j → i ≡ j) where
-    -- a store at the open place touches nothing that has moved, and nothing else
-    moved-put : (v : ℕ) → Moved place before moved (set after (place moved) v)
-    moved-put v = record {
-      back = λ j h. getD-set-other after (place moved) (place j) v 0 (λ e. let z = once j moved (omega arith) (omega arith) e in omega arith) ∙ m .back j h;
-      rest = λ i d. getD-set-other after (place moved) i v 0 (λ e. d moved (omega arith) e) ∙ m .rest i d;
-    }
+module _ (place : ℕ → ℕ) (InWay : ℕ → Type 0) (before : List ℕ) (long : length before ≡ 128) (ends : Ends place InWay before)
+    (moved : ℕ) (runs : List ℕ) (m : Moved place InWay before moved runs) where
+  -- the one that is not in the way has not been passed
+  moved-few : moved ≤ ends .at
+  moved-few =
+      let passed : ends .at < moved → ⊥ = λ h. ends .not-in-way (m .in-way (ends .at) h) in
+      omega (arith, passed)
 
-    -- the next number moves there, and leaves its own place open
-    moved-more : (v : ℕ) → v ≡ getD after (place (suc moved)) 0 → place moved < length after → Moved place before (suc moved) (set after (place moved) v)
-    moved-more v e h = record {
-      back = λ j k. elim (ℕ-discrete j moved) [
-        | yes z ↦
-            rw z
-            (getD-set-same after (place moved) v 0 h ∙ e
-            ∙ m .rest (place (suc moved)) (λ i l f. let w = once (suc moved) i (omega arith) (omega arith) f in omega arith))
-        | no z ↦ moved-put v .back j (omega arith)
+  open-there : place moved < length runs
+  open-there = let h = moved-few in let l = m .same-length in let w = ends .there moved (omega arith) in omega arith
+
+  -- the next one stands where it stood
+  next-stays : getD runs (place (suc moved)) 0 ≡ getD before (place (suc moved)) 0
+  next-stays =
+      let h = moved-few in
+      m .rest (place (suc moved)) (λ j k e. let z = ends .differ (suc moved) j (omega arith) (omega arith) e in omega arith)
+
+  -- a store in the open place touches none that has moved, and none of the others
+  stored : (v : ℕ) → Moved place InWay before moved (set runs (place moved) v)
+  stored v =
+      let h = moved-few in
+      record {
+        same-length = length-set runs (place moved) v ∙ m .same-length;
+        in-way = m .in-way;
+        back = λ j k.
+            getD-set-other runs (place moved) (place j) v 0 (λ e. let z = ends .differ j moved (omega arith) (omega arith) e in omega arith)
+            ∙ m .back j k;
+        rest = λ i d. getD-set-other runs (place moved) i v 0 (λ e. d moved (omega arith) e) ∙ m .rest i d;
+      }
+
+  module _ (next : ℕ) (isNext : next ≡ getD runs (place (suc moved)) 0) where
+    -- it moves back, and leaves its own place open
+    moved-more : InWay next → Moved place InWay before (suc moved) (set runs (place moved) next)
+    moved-more w = record {
+      same-length = stored next .same-length;
+      in-way = λ j h. elim (ℕ-discrete j moved) [
+        | yes z ↦ rw (z, ← next-stays, ← isNext) w
+        | no z ↦ m .in-way j (omega arith)
       ];
-      rest = λ i d. moved-put v .rest i (λ j k. d j (omega arith));
+      back = λ j h. elim (ℕ-discrete j moved) [
+        | yes z ↦ rw z (getD-set-same runs (place moved) next 0 open-there ∙ isNext ∙ next-stays)
+        | no z ↦ stored next .back j (omega arith)
+      ];
+      rest = λ i d. stored next .rest i (λ j k. d j (omega arith));
     }
 
--- ---- upwards from low
+    -- or it is not in the way, and the run is put before it
+    moved-done : (run : ℕ) → (InWay next → ⊥) → Put place InWay before run (set runs (place moved) run)
+    moved-done run w = record {
+      moved = moved;
+      way = stored run;
+      put = getD-set-same runs (place moved) run 0 open-there;
+      next-to = λ h. w (rw (isNext, next-stays) h);
+    }
+
+-- ---- upwards: the place before `at` is open
 pub record Lowering (before : List ℕ) (low run : ℕ) (runs : List ℕ) (at : ℕ) : Type 0 where
-  pub is-long : length runs ≡ 128
-  pub same-length : length runs ≡ length before
   pub from-low : low ≤ at
-  pub way : Moved (upFrom low) before (at - low) runs
-  pub lower : (j : ℕ) → j < at - low → getD before (low + j) 0 < run
+  pub there : at < 128
+  pub way : Moved (upFrom low) (Lower run) before (at - low) runs
 
-pub lowering-none : (runs : List ℕ) (low run : ℕ) → length runs ≡ 128 → Lowering runs low run runs low
-lowering-none runs low run h =
-    let z : low - low ≡ 0 = omega arith in
-    record { is-long = h; same-length = refl; from-low = omega arith; way = rw z (moved-none (upFrom low) runs); lower = λ j k. absurd (omega arith) }
+module _ (before : List ℕ) (low run : ℕ) (first : 1 ≤ low) (long : length before ≡ 128) (ends : Ends (upFrom low) (Lower run) before) where
+  lowering : (runs : List ℕ) (at : ℕ) → low ≤ at → Moved (upFrom low) (Lower run) before (at - low) runs → Lowering before low run runs at
+  lowering runs at a m =
+      let few = moved-few (upFrom low) (Lower run) before long ends (at - low) runs m in
+      let w = ends .there (suc (at - low)) (omega arith) in
+      record { from-low = a; there = omega arith; way = m }
 
-module _ (before : List ℕ) (low run : ℕ) (runs : List ℕ) (at : ℕ) (l : Lowering before low run runs at) (first : 1 ≤ low) (stop : NotLower before low run) where
-  -- the way has not passed the run that is not lower
-  lowering-short : at ≤ stop .at
-  lowering-short =
-      let a = l .from-low in
-      let b = stop .from-low in
-      let c = stop .is in
-      let passed : stop .at < at → ⊥ = λ h.
-      let k = l .lower (stop .at - low) (omega arith) in
-      let e : low + (stop .at - low) ≡ stop .at = omega arith in
-      let f = ap (λ (i : ℕ). getD before i 0) e in
-      omega arith in
-      omega (arith, passed)
+  pub lowering-none : Lowering before low run before low
+  lowering-none =
+      let z : low - low ≡ 0 = omega arith in
+      lowering before low (omega arith) (rw z (moved-none (upFrom low) (Lower run) before))
 
-  pub lowering-within : at < 128
-  lowering-within = let a = lowering-short in let b = stop .in-places in omega arith
+  module _ (runs : List ℕ) (at : ℕ) (l : Lowering before low run runs at) (next : ℕ) (isNext : next ≡ getD runs at 0) where
+    open-below : at - 1 ≡ upFrom low (at - low)
+    open-below = let a = l .from-low in omega arith
 
-  -- what stands here is what stood here
-  here : getD runs at 0 ≡ getD before at 0
-  here = let a = l .from-low in l .way .rest at (λ j h e. omega arith)
+    is-next : next ≡ getD runs (upFrom low (suc (at - low))) 0
+    is-next = let a = l .from-low in let e : at ≡ upFrom low (suc (at - low)) = omega arith in isNext ∙ ap (λ (i : ℕ). getD runs i 0) e
 
-  one-more : at + 1 - low ≡ suc (at - low)
-  one-more = let a = l .from-low in omega arith
+    pub lowering-more : next < run → Lowering before low run (set runs (at - 1) next) (at + 1)
+    lowering-more h =
+        let a = l .from-low in
+        let e : at + 1 - low ≡ suc (at - low) = omega arith in
+        lowering (set runs (at - 1) next) (at + 1) (omega arith)
+        (rw (e, open-below) (moved-more (upFrom low) (Lower run) before long ends (at - low) runs (l .way) next is-next h))
 
-  open-place : at - 1 ≡ upFrom low (at - low)
-  open-place = let a = l .from-low in omega arith
+    pub lowering-done : run ≤ next → Put (upFrom low) (Lower run) before run (set runs (at - 1) run)
+    lowering-done h = rw open-below (moved-done (upFrom low) (Lower run) before long ends (at - low) runs (l .way) next is-next run (λ k. omega arith))
 
-  pub lowering-more : (next : ℕ) → next ≡ getD runs at 0 → next < run → Lowering before low run (set runs (at - 1) next) (at + 1)
-  lowering-more next e d =
-      let a = l .from-low in
-      let k = l .is-long in
-      let w = lowering-within in
-      let is : next ≡ getD before at 0 = e ∙ here in
-      record {
-        is-long = length-set runs (at - 1) next ∙ k;
-        same-length = length-set runs (at - 1) next ∙ l .same-length;
-        from-low = omega arith;
-        way = rw (one-more, open-place) (moved-more (upFrom low) before (at - low) runs (l .way) (λ i j p q f. omega arith) next
-            (e ∙ ap (λ (i : ℕ). getD runs i 0) (let z : at ≡ upFrom low (suc (at - low)) = omega arith in z)) (omega arith));
-        lower = λ j h. elim (ℕ-discrete j (at - low)) [
-          | yes z ↦ let f : low + j ≡ at = omega arith in rw f (omega arith)
-          | no z ↦ l .lower j (omega arith)
-        ];
-      }
-
-  pub lowering-done : (next : ℕ) → next ≡ getD runs at 0 → run ≤ next → PutBelow before low run (set runs (at - 1) run)
-  lowering-done next e h =
-      let a = l .from-low in
-      let k = l .is-long in
-      let w = lowering-within in
-      let f : low + (at - low) ≡ at = omega arith in
-      let is : next ≡ getD before at 0 = e ∙ here in
-      record {
-        same-length = length-set runs (at - 1) run ∙ l .same-length;
-        moved = at - low;
-        way = rw open-place (moved-put (upFrom low) before (at - low) runs (l .way) (λ i j p q g. omega arith) run);
-        lower = l .lower;
-        not-lower = rw f (omega arith);
-        put = rw (← open-place) (getD-set-same runs (at - 1) run 0 (omega arith));
-      }
-
--- ---- downwards from high
-down-once : (high moved : ℕ) → moved < high → (i j : ℕ) → i ≤ suc moved → j ≤ suc moved → downFrom high i ≡ downFrom high j → i ≡ j
-down-once high moved h i j p q e = omega arith
-
+-- ---- downwards: `at` is open
 pub record Raising (before : List ℕ) (high run : ℕ) (runs : List ℕ) (at : ℕ) : Type 0 where
-  pub is-long : length runs ≡ 128
-  pub same-length : length runs ≡ length before
   pub from-high : at ≤ high
-  pub way : Moved (downFrom high) before (high - at) runs
-  pub higher : (j : ℕ) → j < high - at → run < getD before (high - 1 - j) 0
+  pub some : 1 ≤ at
+  pub way : Moved (downFrom high) (Higher run) before (high - at) runs
 
-pub raising-none : (runs : List ℕ) (high run : ℕ) → length runs ≡ 128 → Raising runs high run runs high
-raising-none runs high run h =
-    let z : high - high ≡ 0 = omega arith in
-    record { is-long = h; same-length = refl; from-high = omega arith; way = rw z (moved-none (downFrom high) runs); higher = λ j k. absurd (omega arith) }
+module _ (before : List ℕ) (high run : ℕ) (last : high < 128) (long : length before ≡ 128) (ends : Ends (downFrom high) (Higher run) before) where
+  -- below the lowest place there would be no next one to differ from it
+  raising : (runs : List ℕ) (at : ℕ) → at ≤ high → Moved (downFrom high) (Higher run) before (high - at) runs → Raising before high run runs at
+  raising runs at a m =
+      let few = moved-few (downFrom high) (Higher run) before long ends (high - at) runs m in
+      let lowest : at ≡ 0 → ⊥ = λ z. let d = ends .differ (suc (high - at)) (high - at) (omega arith) (omega arith) (omega arith) in omega arith in
+      record { from-high = a; some = omega (arith, lowest); way = m }
 
-module _ (before : List ℕ) (high run : ℕ) (runs : List ℕ) (at : ℕ) (l : Raising before high run runs at) (last : high < 128) (stop : NotHigher before high run) where
-  pub raising-within : stop .at < at
-  raising-within =
-      let a = l .from-high in
-      let b = stop .before-high in
-      let c = stop .is in
-      let passed : at ≤ stop .at → ⊥ = λ h.
-      let k = l .higher (high - 1 - stop .at) (omega arith) in
-      let e : high - 1 - (high - 1 - stop .at) ≡ stop .at = omega arith in
-      let f = ap (λ (i : ℕ). getD before i 0) e in
-      omega arith in
-      omega (arith, passed)
+  pub raising-none : Raising before high run before high
+  raising-none =
+      let z : high - high ≡ 0 = omega arith in
+      raising before high (omega arith) (rw z (moved-none (downFrom high) (Higher run) before))
 
-  pub raising-some : 1 ≤ at
-  raising-some = let w = raising-within in omega arith
+  module _ (runs : List ℕ) (at : ℕ) (l : Raising before high run runs at) (next : ℕ) (isNext : next ≡ getD runs (at - 1) 0) where
+    open-here : at ≡ downFrom high (high - at)
+    open-here = let a = l .from-high in omega arith
 
-  below : getD runs (at - 1) 0 ≡ getD before (at - 1) 0
-  below = let a = l .from-high in let w = raising-within in l .way .rest (at - 1) (λ j h e. omega arith)
+    is-below : next ≡ getD runs (downFrom high (suc (high - at))) 0
+    is-below =
+        let a = l .from-high in
+        let s = l .some in
+        let e : at - 1 ≡ downFrom high (suc (high - at)) = omega arith in
+        isNext ∙ ap (λ (i : ℕ). getD runs i 0) e
 
-  one-less : high - (at - 1) ≡ suc (high - at)
-  one-less = let a = l .from-high in let w = raising-within in omega arith
+    pub raising-more : run < next → Raising before high run (set runs at next) (at - 1)
+    raising-more h =
+        let a = l .from-high in
+        let s = l .some in
+        let e : high - (at - 1) ≡ suc (high - at) = omega arith in
+        raising (set runs at next) (at - 1) (omega arith)
+        (rw (e, ap (λ (i : ℕ). set runs i next) open-here) (moved-more (downFrom high) (Higher run) before long ends (high - at) runs (l .way) next is-below h))
 
-  open-here : at ≡ downFrom high (high - at)
-  open-here = let a = l .from-high in omega arith
-
-  no-place-twice : (i j : ℕ) → i ≤ suc (high - at) → j ≤ suc (high - at) → downFrom high i ≡ downFrom high j → i ≡ j
-  no-place-twice = let a = l .from-high in let w = raising-within in down-once high (high - at) (omega arith)
-
-  pub raising-more : (next : ℕ) → next ≡ getD runs (at - 1) 0 → run < next → Raising before high run (set runs at next) (at - 1)
-  raising-more next e d =
-      let a = l .from-high in
-      let k = l .is-long in
-      let w = raising-within in
-      let is : next ≡ getD before (at - 1) 0 = e ∙ below in
-      let z : at - 1 ≡ downFrom high (suc (high - at)) = omega arith in
-      record {
-        is-long = length-set runs at next ∙ k;
-        same-length = length-set runs at next ∙ l .same-length;
-        from-high = omega arith;
-        way = rw one-less (rw (ap (λ (i : ℕ). set runs i next) open-here) (moved-more (downFrom high) before (high - at) runs (l .way) no-place-twice next
-            (e ∙ ap (λ (i : ℕ). getD runs i 0) z) (omega arith)));
-        higher = λ j h. elim (ℕ-discrete j (high - at)) [
-          | yes y ↦ let f : high - 1 - j ≡ at - 1 = omega arith in rw f (omega arith)
-          | no y ↦ l .higher j (omega arith)
-        ];
-      }
-
-  pub raising-done : (next : ℕ) → next ≡ getD runs (at - 1) 0 → next ≤ run → PutAbove before high run (set runs at run)
-  raising-done next e h =
-      let a = l .from-high in
-      let k = l .is-long in
-      let w = raising-within in
-      let is : next ≡ getD before (at - 1) 0 = e ∙ below in
-      let f : high - 1 - (high - at) ≡ at - 1 = omega arith in
-      let g : high - (high - at) ≡ at = omega arith in
-      record {
-        same-length = length-set runs at run ∙ l .same-length;
-        moved = high - at;
-        within = omega arith;
-        way = rw (ap (λ (i : ℕ). set runs i run) open-here) (moved-put (downFrom high) before (high - at) runs (l .way) no-place-twice run);
-        higher = l .higher;
-        not-higher = rw f (omega arith);
-        put = rw g (getD-set-same runs at run 0 (omega arith));
-      }
+    pub raising-done : next ≤ run → Put (downFrom high) (Higher run) before run (set runs at run)
+    raising-done h =
+        rw (ap (λ (i : ℕ). set runs i run) open-here)
+        (moved-done (downFrom high) (Higher run) before long ends (high - at) runs (l .way) next is-below run (λ k. omega arith))

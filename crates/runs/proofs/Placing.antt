@@ -12,7 +12,7 @@ use lib.Seq.{getD-set-same}
 use Rattle.rules.specs.Board.{covers, someCovers}
 use Rattle.rules.proofs.Ground.Logic.{same, clash, or-case, or-left, or-right}
 use Rattle.runs.specs.Runs.{runOf, firstOf, endOf, rowOfRun, rowsIn, Ordered, CoversOneMore}
-use Rattle.runs.specs.Moving.{upFrom, downFrom, NotLower, NotHigher, PutBelow, PutAbove}
+use Rattle.runs.specs.Moving.{upFrom, downFrom, Lower, Higher, Ends, Put}
 
 -- ---- some run of those in the places covers a frame
 pub rows-cover : (runs : List ℕ) (low n f : ℕ) → someCovers (rowsIn runs low n) f ≡ true
@@ -106,15 +106,7 @@ module _ (before : List ℕ) (low count run : ℕ) (after : List ℕ) (start : �
       let below : end ≡ endOf run = omega arith in
       (record { places = l ∙ o .places; from = s; upto = u; few = omega arith; rising = placed-rising (o .rising) }, rw (above, below) placed-covers)
 
--- ---- the run in the middle ends the way, on either side
-module _ (runs : List ℕ) (low count run middle : ℕ) (isMiddle : middle ≡ getD runs (low + count / 2) 0) (o : Ordered runs low count) (h : count < 64) where
-  pub some-not-lower : run < middle → NotLower runs low run
-  some-not-lower b = let f = o .from in record { at = low + count / 2; from-low = omega arith; in-places = omega arith; is = rw (← isMiddle) (omega arith) }
-
-  pub some-not-higher : count ≢ 0 → middle ≤ run → NotHigher runs (low + count) run
-  some-not-higher z b = record { at = low + count / 2; before-high = omega arith; is = rw (← isMiddle) b }
-
--- ---- the three ways there
+-- ---- the first run
 module _ (runs : List ℕ) (low count first end run : ℕ) (fits : end < 4294967296) (is : run ≡ runOf first end) (o : Ordered runs low count) (h : count < 64) where
   pub put-first : count ≡ 0 → Ordered (set runs low run) low (count + 1) × CoversOneMore runs low count first end (set runs low run) low
   put-first z = placed runs low count run (set runs low run) low alone first end fits is o h (length-set runs low run) (o .from) (let u = o .upto in omega arith)
@@ -134,82 +126,107 @@ module _ (runs : List ℕ) (low count first end run : ℕ) (fits : end < 4294967
         not-below = λ j k m. absurd (omega arith);
       }
 
-  module _ (middle : ℕ) (isMiddle : middle ≡ getD runs (low + count / 2) 0) where
-    module _ (after : List ℕ) (some : count ≢ 0) where
-      pub put-lower : run < middle → PutBelow runs low run after → Ordered after (low - 1) (count + 1) × CoversOneMore runs low count first end after (low - 1)
-      put-lower b p =
-          placed runs low count run after (low - 1) in-place first end fits is o h (p .same-length) (let f = o .from in omega arith) (let u = o .upto in omega arith)
-        where
-          -- the middle one is not lower, so the way ends there or before
-          few : p .moved < count
-          few =
-              let passed : count / 2 < p .moved → ⊥ = λ k. let l = p .lower (count / 2) k in let e = isMiddle in omega arith in
-              omega (arith, passed)
+-- ---- a run lower than the middle one comes from below: the j-th on its way is the j-th of all
+module _ (runs : List ℕ) (low count middle : ℕ) (isMiddle : middle ≡ getD runs (low + count / 2) 0) (o : Ordered runs low count) (h : count < 64) (run : ℕ) where
+  upwards : (j : ℕ) → getD runs (upFrom low (suc j)) 0 ≡ getD runs (low + j) 0
+  upwards j = let u = o .upto in let e : upFrom low (suc j) ≡ low + j = omega arith in ap (λ (i : ℕ). getD runs i 0) e
 
-          one-up : (j : ℕ) → upFrom low (suc j) ≡ low + j
-          one-up j = let u = o .upto in omega arith
+  middle-stays : run < middle → Lower run (getD runs (upFrom low (suc (count / 2))) 0) → ⊥
+  middle-stays b w = let e = upwards (count / 2) in let m = isMiddle in omega arith
 
-          in-place : Placed runs low count run after (low - 1)
-          in-place = record {
-            rank = p .moved;
-            is-rank = let m = few in omega arith;
-            lower = λ j k. p .way .back j k ∙ ap (λ (i : ℕ). getD runs i 0) (one-up j);
-            here = p .put;
-            higher = λ j k m. p .way .rest (upFrom low (suc j)) (λ i l e. omega arith) ∙ ap (λ (i : ℕ). getD runs i 0) (one-up j);
-            not-above = λ j k. let l = p .lower j k in omega arith;
-            not-below = λ j k m. let l = p .not-lower in let r = o .rising (p .moved) j k m in omega arith;
-          }
+  pub ends-below : run < middle → Ends (upFrom low) (Lower run) runs
+  ends-below b = record {
+    at = count / 2;
+    not-in-way = middle-stays b;
+    differ = λ i j k l e. omega arith;
+    there = λ j k. let f = o .from in omega arith;
+  }
 
-      pub put-higher : middle ≤ run → PutAbove runs (low + count) run after → Ordered after low (count + 1) × CoversOneMore runs low count first end after low
-      put-higher b p =
-          placed runs low count run after low in-place first end fits is o h (p .same-length) (o .from) (let u = o .upto in omega arith)
-        where
-          -- the j-th run from above
-          from-above : (j : ℕ) → j < count → low + count - 1 - j ≡ low + (count - 1 - j)
-          from-above j k = omega arith
+  module _ (after : List ℕ) (some : count ≢ 0) (first end : ℕ) (fits : end < 4294967296) (is : run ≡ runOf first end) where
+    pub put-lower : run < middle → Put (upFrom low) (Lower run) runs run after → Ordered after (low - 1) (count + 1) × CoversOneMore runs low count first end after (low - 1)
+    put-lower b p =
+        placed runs low count run after (low - 1) in-place first end fits is o h (p .way .same-length) (let f = o .from in omega arith) (let u = o .upto in omega arith)
+      where
+        few : p .moved < count
+        few =
+            let passed : count / 2 < p .moved → ⊥ = λ k. middle-stays b (p .way .in-way (count / 2) k) in
+            omega (arith, passed)
 
-          -- the middle one is not higher, so the way ends there or before
-          few : p .moved < count
-          few =
-              let e : low + count - 1 - (count - 1 - count / 2) ≡ low + count / 2 = omega arith in
-              let passed : count - 1 - count / 2 < p .moved → ⊥ = λ k.
-              let l = p .higher (count - 1 - count / 2) k in
-              let f = isMiddle ∙ ap (λ (i : ℕ). getD runs i 0) (sym e) in
-              omega arith in
-              omega (arith, passed)
+        in-place : Placed runs low count run after (low - 1)
+        in-place = record {
+          rank = p .moved;
+          is-rank = let m = few in omega arith;
+          lower = λ j k. p .way .back j k ∙ upwards j;
+          here = p .put;
+          higher = λ j k m. p .way .rest (upFrom low (suc j)) (λ i l e. omega arith) ∙ upwards j;
+          not-above = λ j k. let l = p .way .in-way j k in let e = upwards j in omega arith;
+          not-below = λ j k m.
+              let beyond : getD runs (upFrom low (suc (p .moved))) 0 < run → ⊥ = p .next-to in
+              let e = upwards (p .moved) in
+              let r = o .rising (p .moved) j k m in
+              omega (arith, beyond);
+        }
 
-          lower-kept : (j : ℕ) → j < count - p .moved → (i : ℕ) → i ≤ p .moved → low + j ≢ downFrom (low + count) i
-          lower-kept j k i l e = omega arith
+-- ---- and any other from above: the j-th on its way is the j-th from the end
+module _ (runs : List ℕ) (low count middle : ℕ) (isMiddle : middle ≡ getD runs (low + count / 2) 0) (o : Ordered runs low count) (h : count < 64) (run : ℕ) (some : count ≢ 0) where
+  place-of : (j : ℕ) → j < count → downFrom (low + count) (suc (count - 1 - j)) ≡ low + j
+  place-of j k = omega arith
 
-          step-down : (j : ℕ) → j < count → low + suc j ≡ downFrom (low + count) (count - 1 - j)
-          step-down j k = omega arith
+  downwards : (j : ℕ) → j < count → getD runs (downFrom (low + count) (suc (count - 1 - j))) 0 ≡ getD runs (low + j) 0
+  downwards j k = ap (λ (i : ℕ). getD runs i 0) (place-of j k)
 
-          step-back : (j : ℕ) → j < count → downFrom (low + count) (suc (count - 1 - j)) ≡ low + j
-          step-back j k = omega arith
+  middle-rests : middle ≤ run → Higher run (getD runs (downFrom (low + count) (suc (count - 1 - count / 2))) 0) → ⊥
+  middle-rests b w = let e = downwards (count / 2) (omega arith) in let m = isMiddle in omega arith
 
-          top : (j : ℕ) → j < count → low + count - 1 - (count - 1 - j) ≡ low + j
-          top j k = omega arith
+  pub ends-above : middle ≤ run → Ends (downFrom (low + count)) (Higher run) runs
+  ends-above b = record {
+    at = count - 1 - count / 2;
+    not-in-way = middle-rests b;
+    differ = λ i j k l e. omega arith;
+    there = λ j k. let f = o .from in omega arith;
+  }
 
-          in-place : Placed runs low count run after low
-          in-place = record {
-            rank = count - p .moved;
-            is-rank = omega arith;
-            lower = λ j k. p .way .rest (low + j) (lower-kept j k);
-            here =
-                let m = few in
-                let e : low + (count - p .moved) ≡ low + count - p .moved = omega arith in
-                ap (λ (i : ℕ). getD after i 0) e ∙ p .put;
-            higher = λ j k m.
-                ap (λ (i : ℕ). getD after i 0) (step-down j m) ∙ p .way .back (count - 1 - j) (omega arith)
-                ∙ ap (λ (i : ℕ). getD runs i 0) (step-back j m);
-            not-above = λ j k.
-                let m = few in
-                let l = p .not-higher in
-                let e = ap (λ (i : ℕ). getD runs i 0) (from-above (p .moved) m) in
-                let r = o .rising j (count - 1 - p .moved) (omega arith) (omega arith) in
-                omega arith;
-            not-below = λ j k m.
-                let l = p .higher (count - 1 - j) (omega arith) in
-                let e = ap (λ (i : ℕ). getD runs i 0) (top j m) in
-                omega arith;
-          }
+  module _ (after : List ℕ) (first end : ℕ) (fits : end < 4294967296) (is : run ≡ runOf first end) where
+    pub put-higher : middle ≤ run → Put (downFrom (low + count)) (Higher run) runs run after → Ordered after low (count + 1) × CoversOneMore runs low count first end after low
+    put-higher b p = placed runs low count run after low in-place first end fits is o h (p .way .same-length) (o .from) (let u = o .upto in omega arith)
+      where
+        few : p .moved < count
+        few =
+            let passed : count - 1 - count / 2 < p .moved → ⊥ = λ k. middle-rests b (p .way .in-way (count - 1 - count / 2) k) in
+            omega (arith, passed)
+
+        off-the-way : (j : ℕ) → j < count - p .moved → (i : ℕ) → i ≤ p .moved → low + j ≢ downFrom (low + count) i
+        off-the-way j k i l e = omega arith
+
+        place-above : (j : ℕ) → j < count → low + suc j ≡ downFrom (low + count) (count - 1 - j)
+        place-above j k = omega arith
+
+        last-moved : count - 1 - (count - 1 - p .moved) ≡ p .moved
+        last-moved = let m = few in omega arith
+
+        -- the one next to the run is not higher
+        next-lower : getD runs (low + (count - 1 - p .moved)) 0 ≤ run
+        next-lower =
+            let m = few in
+            let beyond : run < getD runs (downFrom (low + count) (suc (p .moved))) 0 → ⊥ = p .next-to in
+            let e = downwards (count - 1 - p .moved) (omega arith) in
+            let f = ap (λ (i : ℕ). getD runs (downFrom (low + count) (suc i)) 0) last-moved in
+            omega (arith, beyond)
+
+        in-place : Placed runs low count run after low
+        in-place = record {
+          rank = count - p .moved;
+          is-rank = omega arith;
+          lower = λ j k. p .way .rest (low + j) (off-the-way j k);
+          here =
+              let m = few in
+              let e : low + (count - p .moved) ≡ low + count - p .moved = omega arith in
+              ap (λ (i : ℕ). getD after i 0) e ∙ p .put;
+          higher = λ j k m. ap (λ (i : ℕ). getD after i 0) (place-above j m) ∙ p .way .back (count - 1 - j) (omega arith) ∙ downwards j m;
+          not-above = λ j k.
+              let m = few in
+              let l = next-lower in
+              let r = o .rising j (count - 1 - p .moved) (omega arith) (omega arith) in
+              omega arith;
+          not-below = λ j k m. let l = p .way .in-way (count - 1 - j) (omega arith) in let e = downwards j m in omega arith;
+        }

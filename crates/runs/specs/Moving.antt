@@ -1,49 +1,42 @@
--- How a place is made for a run: those in its way move by one place each, on one side or the other.
+-- How a place is made for a run: the runs in its way move by one place each, on one side or on the other.
 use Prim.Native.Nat.{ℕ, suc, _+_, _-_, _≤_, _<_}
 use mathlib.Core.Path.{_≡_}
 use mathlib.Core.List.{List}
 use mathlib.Core.Logic.{_≢_}
 use lib.ListN.{length, getD}
 
--- A way through the places, `place 0` first. Along it so many numbers have moved back by one place, into the one before, which leaves
--- `place moved` open; every other place is as it was.
-pub record Moved (place : ℕ → ℕ) (before : List ℕ) (moved : ℕ) (after : List ℕ) : Type 0 where
-  pub back : (j : ℕ) → j < moved → getD after (place j) 0 ≡ getD before (place (suc j)) 0
-  pub rest : (i : ℕ) → ((j : ℕ) → j ≤ moved → i ≢ place j) → getD after i 0 ≡ getD before i 0
-
--- upwards from the place before low, and downwards from high
+-- A way through the places: upwards from the one before low, which is open, or downwards from high, which is.
 abbrev pub upFrom : ℕ → ℕ → ℕ
 upFrom low j = low - 1 + j
 
 abbrev pub downFrom : ℕ → ℕ → ℕ
 downFrom high j = high - j
 
--- ---- where the way ends: some run from low on is not lower, some run before high not higher
-pub record NotLower (runs : List ℕ) (low run : ℕ) : Type 0 where
+-- In the way of a run are those that are lower where it comes from below, and those that are higher where it comes from above.
+abbrev pub Lower : ℕ → ℕ → Type 0
+Lower run other = other < run
+
+abbrev pub Higher : ℕ → ℕ → Type 0
+Higher run other = run < other
+
+-- The way ends: it comes to one that is not in the way, through places that differ and are there.
+pub record Ends (place : ℕ → ℕ) (InWay : ℕ → Type 0) (runs : List ℕ) : Type 0 where
   pub at : ℕ
-  pub from-low : low ≤ at
-  pub in-places : at < 128
-  pub is : run ≤ getD runs at 0
+  pub not-in-way : InWay (getD runs (place (suc at)) 0) → ⊥
+  pub differ : (i j : ℕ) → i ≤ suc at → j ≤ suc at → place i ≡ place j → i ≡ j
+  pub there : (j : ℕ) → j ≤ suc at → place j < 128
 
-pub record NotHigher (runs : List ℕ) (high run : ℕ) : Type 0 where
-  pub at : ℕ
-  pub before-high : at < high
-  pub is : getD runs at 0 ≤ run
-
--- ---- the run stands in the place that those in its way left open
-pub record PutBelow (before : List ℕ) (low run : ℕ) (after : List ℕ) : Type 0 where
+-- So many along the way, all of them in it, have moved back to the place before. That leaves `place moved` open, and every place off this
+-- part of the way as it was.
+pub record Moved (place : ℕ → ℕ) (InWay : ℕ → Type 0) (before : List ℕ) (moved : ℕ) (after : List ℕ) : Type 0 where
   pub same-length : length after ≡ length before
-  pub moved : ℕ
-  pub way : Moved (upFrom low) before moved after
-  pub lower : (j : ℕ) → j < moved → getD before (low + j) 0 < run
-  pub not-lower : run ≤ getD before (low + moved) 0
-  pub put : getD after (low - 1 + moved) 0 ≡ run
+  pub in-way : (j : ℕ) → j < moved → InWay (getD before (place (suc j)) 0)
+  pub back : (j : ℕ) → j < moved → getD after (place j) 0 ≡ getD before (place (suc j)) 0
+  pub rest : (i : ℕ) → ((j : ℕ) → j ≤ moved → i ≢ place j) → getD after i 0 ≡ getD before i 0
 
-pub record PutAbove (before : List ℕ) (high run : ℕ) (after : List ℕ) : Type 0 where
-  pub same-length : length after ≡ length before
+-- The run stands in the open place, next to one that is not in its way.
+pub record Put (place : ℕ → ℕ) (InWay : ℕ → Type 0) (before : List ℕ) (run : ℕ) (after : List ℕ) : Type 0 where
   pub moved : ℕ
-  pub within : moved < high
-  pub way : Moved (downFrom high) before moved after
-  pub higher : (j : ℕ) → j < moved → run < getD before (high - 1 - j) 0
-  pub not-higher : getD before (high - 1 - moved) 0 ≤ run
-  pub put : getD after (high - moved) 0 ≡ run
+  pub way : Moved place InWay before moved after
+  pub put : getD after (place moved) 0 ≡ run
+  pub next-to : InWay (getD before (place (suc moved)) 0) → ⊥

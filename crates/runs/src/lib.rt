@@ -6,7 +6,7 @@ ghost use Prim.Native.Nat.{_+_, _-_, _≤_, _<_, max};
 ghost use lib.ListN.{length};
 ghost use Rattle.rules.specs.Board.{coveredBy};
 ghost use Rattle.runs.specs.Runs.{firstOf, endOf, rowsIn, Ordered, CoversOneMore};
-ghost use Rattle.runs.specs.Moving.{NotLower, NotHigher, PutBelow, PutAbove};
+ghost use Rattle.runs.specs.Moving.{upFrom, downFrom, Lower, Higher, Ends, Put};
 
 // ---- a run is put in its place
 
@@ -14,8 +14,8 @@ ghost use Rattle.runs.specs.Moving.{NotLower, NotHigher, PutBelow, PutAb
 fn put_below(runs: &mut [u64; 128], low: usize, run: u64)
     requires { ⌜ length (now runs) ≡ 128 ⌝ }
     requires { ⌜ 1 ≤ low ⌝ }
-    requires { ⌜ NotLower (now runs) low run ⌝ }
-    ensures { λ r. ⌜ PutBelow (now (runs .entry)) low run (now (runs .exit)) ⌝ }
+    requires { ⌜ Ends (upFrom low) (Lower run) (now runs) ⌝ }
+    ensures { λ r. ⌜ Put (upFrom low) (Lower run) (now (runs .entry)) run (now (runs .exit)) ⌝ }
 {
     let mut at = low;
     loop {
@@ -33,8 +33,8 @@ fn put_below(runs: &mut [u64; 128], low: usize, run: u64)
 fn put_above(runs: &mut [u64; 128], high: usize, run: u64)
     requires { ⌜ length (now runs) ≡ 128 ⌝ }
     requires { ⌜ high < 128 ⌝ }
-    requires { ⌜ NotHigher (now runs) high run ⌝ }
-    ensures { λ r. ⌜ PutAbove (now (runs .entry)) high run (now (runs .exit)) ⌝ }
+    requires { ⌜ Ends (downFrom high) (Higher run) (now runs) ⌝ }
+    ensures { λ r. ⌜ Put (downFrom high) (Higher run) (now (runs .entry)) run (now (runs .exit)) ⌝ }
 {
     let mut at = high;
     loop {

@@ -1,5 +1,5 @@
 -- `runs::put` meets its promise.
-use Rattle.runs.proofs.Placing.{put-first, some-not-lower, some-not-higher, put-lower, put-higher}
+use Rattle.runs.proofs.Placing.{put-first, ends-below, put-lower, ends-above, put-higher}
 use mathlib.Core.Path.{refl}
 use borrow.Author.Needs.{needs}
 use Rattle.runs.proofs.put.Statement.{statement}
@@ -30,22 +30,22 @@ element-copy-out-middle : tie.Need-element-copy-out-middle
 element-copy-out-middle c = search needs
 
 put-below-requires : tie.Need-put-below-requires
-put-below-requires c κs = (search needs, (search needs, search some-not-lower))
+put-below-requires c κs = (search needs, (search needs, search ends-below))
 
 sub-result : tie.Need-sub-result
 sub-result c = search needs
 
 returns-2 : tie.Need-returns-2
-returns-2 c = put-lower _ _ _ _ _ _ (search needs) refl (search needs) (search needs) _ refl _ (search needs) (search needs) (c .put-below .ensures)
+returns-2 c = put-lower _ _ _ _ refl (search needs) (search needs) _ _ (search needs) _ _ (search needs) refl (search needs) (c .put-below .ensures)
 
 add-put-above : tie.Need-add-put-above
 add-put-above c = search needs
 
 put-above-requires : tie.Need-put-above-requires
-put-above-requires c κs = (search needs, (search needs, some-not-higher _ _ _ _ _ refl (search needs) (search needs) (search needs) (search needs)))
+put-above-requires c κs = (search needs, (search needs, ends-above _ _ _ _ refl (search needs) (search needs) _ (search needs) (search needs)))
 
 returns-3 : tie.Need-returns-3
-returns-3 c = put-higher _ _ _ _ _ _ (search needs) refl (search needs) (search needs) _ refl _ (search needs) (search needs) (c .put-above .ensures)
+returns-3 c = put-higher _ _ _ _ refl (search needs) (search needs) _ (search needs) _ _ _ (search needs) refl (search needs) (c .put-above .ensures)
 
 pub put-spec : {M : Type 1} → statement M
 put-spec =

@@ -1,7 +1,6 @@
 -- `runs::put_above` meets its promise. The measure is the place that is open.
 use borrow.Author.Needs.{needs}
-use Rattle.runs.proofs.Moving.{Raising, raising-none, raising-some, raising-more, raising-done}
-use Prim.Native.Nat.{_≤_}
+use Rattle.runs.proofs.Moving.{Raising, raising-none, raising-more, raising-done}
 use Rattle.runs.proofs.put_above.Statement.{statement}
 use Rattle.runs.proofs.put_above.Tie as tie
 
@@ -15,13 +14,13 @@ loop-holds : tie.Need-loop-holds Inv-loop μ-loop
 loop-holds c = search (raising-none, needs)
 
 sub-next : tie.Need-sub-next Inv-loop μ-loop
-sub-next c = let w : 1 ≤ c .loop .at = search raising-some in search needs
+sub-next c = search needs
 
 mul-next : tie.Need-mul-next Inv-loop μ-loop
-mul-next c = let w : 1 ≤ c .loop .at = search raising-some in search needs
+mul-next c = search needs
 
 element-copy-out-next : tie.Need-element-copy-out-next Inv-loop μ-loop
-element-copy-out-next c = let w : 1 ≤ c .loop .at = search raising-some in search needs
+element-copy-out-next c = search needs
 
 mul-runs : tie.Need-mul-runs Inv-loop μ-loop
 mul-runs c = search needs
@@ -39,10 +38,10 @@ element-write-runs-2 : tie.Need-element-write-runs-2 Inv-loop μ-loop
 element-write-runs-2 c = search needs
 
 sub-at : tie.Need-sub-at Inv-loop μ-loop
-sub-at c = let w : 1 ≤ c .before .before .loop .at = search raising-some in search needs
+sub-at c = search needs
 
 loop-less : tie.Need-loop-less Inv-loop μ-loop
-loop-less c = let w : 1 ≤ c .before .before .loop .at = search raising-some in search needs
+loop-less c = search needs
 
 loop-again : tie.Need-loop-again Inv-loop μ-loop
 loop-again c = search raising-more

@@ -1,7 +1,7 @@
 -- `runs::put_below` meets its promise. The measure is the number of places left.
 use borrow.Author.Needs.{needs}
-use Rattle.runs.proofs.Moving.{Lowering, lowering-none, lowering-within, lowering-more, lowering-done}
-use Prim.Native.Nat.{_-_, _<_}
+use Rattle.runs.proofs.Moving.{Lowering, lowering-none, lowering-more, lowering-done}
+use Prim.Native.Nat.{_-_}
 use Rattle.runs.proofs.put_below.Statement.{statement}
 use Rattle.runs.proofs.put_below.Tie as tie
 
@@ -15,19 +15,19 @@ loop-holds : tie.Need-loop-holds Inv-loop μ-loop
 loop-holds c = search (lowering-none, needs)
 
 mul-next : tie.Need-mul-next Inv-loop μ-loop
-mul-next c = let w : c .loop .at < 128 = search lowering-within in search needs
+mul-next c = search needs
 
 element-copy-out-next : tie.Need-element-copy-out-next Inv-loop μ-loop
-element-copy-out-next c = let w : c .loop .at < 128 = search lowering-within in search needs
+element-copy-out-next c = search needs
 
 sub-runs : tie.Need-sub-runs Inv-loop μ-loop
 sub-runs c = search needs
 
 mul-runs : tie.Need-mul-runs Inv-loop μ-loop
-mul-runs c = let w : c .before .before .loop .at < 128 = search lowering-within in search needs
+mul-runs c = search needs
 
 element-write-runs : tie.Need-element-write-runs Inv-loop μ-loop
-element-write-runs c = let w : c .before .before .loop .at < 128 = search lowering-within in search needs
+element-write-runs c = search needs
 
 returns : tie.Need-returns Inv-loop μ-loop
 returns c = search lowering-done
@@ -36,16 +36,16 @@ sub-runs-2 : tie.Need-sub-runs-2 Inv-loop μ-loop
 sub-runs-2 c = search needs
 
 mul-runs-2 : tie.Need-mul-runs-2 Inv-loop μ-loop
-mul-runs-2 c = let w : c .before .before .loop .at < 128 = search lowering-within in search needs
+mul-runs-2 c = search needs
 
 element-write-runs-2 : tie.Need-element-write-runs-2 Inv-loop μ-loop
-element-write-runs-2 c = let w : c .before .before .loop .at < 128 = search lowering-within in search needs
+element-write-runs-2 c = search needs
 
 add-at : tie.Need-add-at Inv-loop μ-loop
-add-at c = let w : c .before .before .loop .at < 128 = search lowering-within in search needs
+add-at c = search needs
 
 loop-less : tie.Need-loop-less Inv-loop μ-loop
-loop-less c = let w : c .before .before .loop .at < 128 = search lowering-within in search needs
+loop-less c = search needs
 
 loop-again : tie.Need-loop-again Inv-loop μ-loop
 loop-again c = search lowering-more
