@@ -7,7 +7,7 @@ use Rattle.rules.specs.Tables.{Tables, fresh, head, own}
 use Rattle.rules.specs.Comparison.{claim}
 use Rattle.rules.specs.Reach.{listOf}
 use Rattle.rules.specs.Answers.{Answer, node, out, on, wait, held, back, refused}
-use Rattle.rules.specs.Board.{holders, filled, shown, board}
+use Rattle.rules.specs.Board.{holders, coveredBy, filled, shown, board}
 use Rattle.rules.specs.Play.{Call, beginCall, stepCall, releaseCall, Turn, trace, afterAll, ascii, play}
 use Rattle.rules.specs.declared.Row.{Row}
 use Rattle.rules.proofs.Laws.Opened.{rules}
@@ -120,17 +120,20 @@ pub histories : H1 × H2 × H3 × H4 × H5 × H6 × H7 × H8 × H9 × H10 × H11
 unfolding rules
 histories = (refl, (refl, refl), refl, (refl, refl), (refl, refl), refl, refl, (refl, refl), (refl, refl, refl, refl), (refl, refl), refl)
 
--- ---- 02 (i): "Readers 0..100 and 50..60 give 100, not 110", on the program's last line and on the board
+-- ---- 02 (i): "Readers 0..100 and 50..60 give 100, not 110", on the program's last line and on the board. H9's holders, 1..10 and 12..14, leave
+-- a gap; with 5..20 they leave none
 abbrev pub CoveredOnce : Type 0
 CoveredOnce =
     (play (ascii "4 2 7\nb 0 0 100 1\ns 0\ns 0\nb 1 50 60 1\ns 1\ns 1\ns 1\n")
     ≡ ascii "1 node 1\n2 on\n3 held\n4 node 2\n5 on\n6 on\n7 held\nlist 1 2\nhold 0 0 100 1\nhold 1 50 60 1\ncovered 100\n")
     × (board (afterAll (fresh 4 4) H4calls) (row 9 9 9 9 ∷ row 9 9 9 9 ∷ row 9 9 9 9 ∷ [])
     ≡ shown (filled 2 100) (row 0 0 100 1 ∷ row 1 50 60 1 ∷ row 9 9 9 9 ∷ []))
+    × (coveredBy (holders H9start) ≡ 11)
+    × (coveredBy (holders H9end) ≡ 19)
 
 pub covered-once : CoveredOnce
 unfolding rules
-covered-once = (refl, refl)
+covered-once = (refl, refl, refl, refl)
 
 -- ---- ours: seat 2 waits at node 1, and nodes 1 and 2 are released. Taken out, node 2 is at no seat's own, prev or cur; but
 -- seat 2 still reaches it through node 1, so it is not free
