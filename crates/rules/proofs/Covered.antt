@@ -1,5 +1,5 @@
--- Request (i) of document 02: covered frames count a frame once. What that number is, of any tables unless reached ones are named. Nothing else stands here: the words are those of specs/Board.antt and
--- specs/Covered.antt, and each proof is a citation.
+-- Request (i) of document 02: covered frames count a frame once. What that number is, of any tables unless reached ones are named. Nothing
+-- else stands here: the words are those of specs/Board.antt and specs/Covered.antt, and each proof is a citation.
 use Prim.Native.Nat.{ℕ, _≤_, _<_}
 use mathlib.Core.Path.{_≡_}
 use mathlib.Core.Bool.{true}
@@ -71,7 +71,7 @@ pub the-sum-for-writers : {N S : ℕ} {t : Tables} → Reached N S t → ((s : �
 the-sum-for-writers {t = t} r writers = the-sum-if-apart t (writers-apart r writers)
 
 -- ---- with fewer holders
--- never more, if what they cover was covered before
+-- never more, if whoever still covers a frame covered it before
 pub fewer-holders : (t u : Tables) → ((s frame : ℕ) → HolderCovers u s frame → HolderCovers t s frame)
     → coveredBy (holders u) ≤ coveredBy (holders t)
 fewer-holders t u h =
