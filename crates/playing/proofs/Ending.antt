@@ -11,9 +11,9 @@ use Rattle.text.specs.Page.{Page, puts}
 use Rattle.text.proofs.Pages.{joined}
 use Rattle.playing.proofs.Listing.{list-of-nodes}
 
-pub end-is : (nodes seats : List ℕ) (p q r s : Page) (sum : ℕ) → s ≡ puts r (ascii "covered " ++ decimal sum ++ ascii "\n") → sum ≡ coveredBy (holders (tables nodes seats)) → r ≡ puts q (rowsText (holders (tables nodes seats))) → q ≡ puts p (listText (tables nodes [])) → s ≡ puts p (endText (tables nodes seats))
+pub end-is : (nodes seats : List ℕ) (p q r s : Page) (covered : ℕ) → s ≡ puts r (ascii "covered " ++ decimal covered ++ ascii "\n") → covered ≡ coveredBy (holders (tables nodes seats)) → r ≡ puts q (rowsText (holders (tables nodes seats))) → q ≡ puts p (listText (tables nodes [])) → s ≡ puts p (endText (tables nodes seats))
 unfolding endText coveredText
-end-is nodes seats p q r s sum d e f g =
+end-is nodes seats p q r s covered d e f g =
     joined p r s _ _ (joined p q r _ _ (rw (list-of-nodes nodes [] seats) at g) f) (rw e at d)
 
 pub end-reach : (at list rows r n s : ℕ) → r ≤ rows + length (ascii "covered ") + 21 → rows ≤ list + 49 * s → list ≤ at + 11 * n + 5 → r ≤ at + 11 * n + 49 * s + 34

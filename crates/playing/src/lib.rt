@@ -141,8 +141,8 @@ fn put_end(nodes: &[u32], seats: &[u32], out: &mut [u8], at: usize) -> usize
 {
     let list = put_list(nodes, out, at);
     let rows = put_rows(nodes, seats, out, list);
-    let sum = holders::covered(nodes, seats);
-    text::put_line(out, rows, b"covered ", sum)
+    let covered = holders::covered(nodes, seats);
+    text::put_line(out, rows, b"covered ", covered)
 }
 
 // The calls, and what follows them, on the tables given. They are reached, so that those after the calls are sound.

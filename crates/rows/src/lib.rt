@@ -1,5 +1,6 @@
-// The board on a lent list of rows: a thin function over `holders`, which counts, sums and reads each row. Refusals are known before the
-// first row is stored. Rows are written from the last holder's to the first, so that a cursor over the seats looks at each seat once.
+// The board on a lent list of rows: a thin function over `holders`, which counts, reads each row and knows what they cover. Refusals are
+// known before the first row is stored. Rows are written from the last holder's to the first, so that a cursor over the seats looks at each
+// seat once.
 ghost use mathlib.Core.Path.{_≡_};
 ghost use mathlib.Core.Bool.{true};
 ghost use Rattle.rules.specs.Tables.{tables};
