@@ -1,22 +1,16 @@
--- What sound tables say of their holders: there are few, and each owns a node of the table.
+-- What sound tables say of a holder: it owns a node of the table.
 use Prim.Native.Nat.{ℕ, _≤_, _<_}
 use native.Mathlib.Omega.{arith}
 use mathlib.Core.Bool.{true}
 use mathlib.Core.List.{List}
 use mathlib.Core.Logic.{_≢_}
 use mathlib.Core.Path.{_≡_, sym, _∙_}
-use lib.ListN.{length}
-use Rattle.rules.specs.Tables.{Tables, tables, seatCount, nodeWord, seatWord, nodeCountOf, seatCountOf, own, startAt, endAt, kindAt, phaseAt, ownAt}
+use Rattle.rules.specs.Tables.{tables, nodeWord, seatWord, nodeCountOf, seatCountOf, own, startAt, endAt, kindAt, phaseAt, ownAt}
 use Rattle.rules.specs.Shape.{sound}
-use Rattle.rules.specs.Board.{rowOf, holders}
+use Rattle.rules.specs.Board.{rowOf}
 use Rattle.rules.specs.Apart.{Holds}
 use Rattle.rules.proofs.Laws.Shape.{is-sound, name-small}
 use Rattle.rules.proofs.Laws.Words.{seat-past}
-use Rattle.holders.proofs.Rows.{rows-at-most}
-
-pub few-holders : (t : Tables) → sound t ≡ true → length (holders t) ≤ 64
-unfolding holders
-few-holders t s = let f = is-sound t s .few-seats in let k = rows-at-most t (seatCount t) in omega arith
 
 module _ (n t : List ℕ) (s : ℕ) (isSound : sound (tables n t) ≡ true) (holds : Holds (tables n t) s) where
   pub held-seat : s < seatCountOf t

@@ -42,61 +42,67 @@ record Placed (before : List ℕ) (low count run : ℕ) (after : List ℕ) (star
   not-above : (j : ℕ) → j < rank → getD before (low + j) 0 ≤ run
   not-below : (j : ℕ) → rank ≤ j → j < count → run ≤ getD before (low + j) 0
 
+-- whence the one that now stands j-th
+data Whence (before : List ℕ) (low count run : ℕ) (after : List ℕ) (start rank j : ℕ) : Type 0 where
+  one-before : j < rank → getD after (start + j) 0 ≡ getD before (low + j) 0 → Whence before low count run after start rank j
+  itself : j ≡ rank → getD after (start + j) 0 ≡ run → Whence before low count run after start rank j
+  one-behind : (i : ℕ) → j ≡ suc i → rank ≤ i → i < count → getD after (start + j) 0 ≡ getD before (low + i) 0 → Whence before low count run after start rank j
+
 module _ (before : List ℕ) (low count run : ℕ) (after : List ℕ) (start : ℕ) (p : Placed before low count run after start) where
-  -- a place behind the run's
-  behind : (j : ℕ) → p .rank < j → j < count + 1 → getD after (start + j) 0 ≡ getD before (low + (j - 1)) 0
-  behind j h i =
-      let e : j ≡ suc (j - 1) = omega arith in
-      ap (λ (k : ℕ). getD after (start + k) 0) e ∙ p .higher (j - 1) (omega arith) (omega arith)
+  whence : (j : ℕ) → j < count + 1 → Whence before low count run after start (p .rank) j
+  whence j h = elim (decLt j (p .rank)) [
+    | yes a ↦ one-before a (p .lower j a)
+    | no a ↦ elim (ℕ-discrete j (p .rank)) [
+      | yes e ↦ itself e (rw e (p .here))
+      | no d ↦
+          let e : j ≡ suc (j - 1) = omega arith in
+          one-behind (j - 1) e (omega arith) (omega arith) (ap (λ (k : ℕ). getD after (start + k) 0) e ∙ p .higher (j - 1) (omega arith) (omega arith))
+    ]
+  ]
 
   placed-rising : ((i j : ℕ) → i ≤ j → j < count → getD before (low + i) 0 ≤ getD before (low + j) 0)
       → (i j : ℕ) → i ≤ j → j < count + 1 → getD after (start + i) 0 ≤ getD after (start + j) 0
-  placed-rising rising i j h k = elim (decLt i (p .rank)) [
-    | yes a ↦ elim (decLt j (p .rank)) [
-      | yes b ↦ rw (p .lower i a, p .lower j b) (rising i j h (let r = p .is-rank in omega arith))
-      | no b ↦ elim (ℕ-discrete j (p .rank)) [
-        | yes c ↦ rw (c, p .lower i a, p .here) (p .not-above i a)
-        | no c ↦ rw (p .lower i a, behind j (omega arith) k) (rising i (j - 1) (omega arith) (omega arith))
-      ]
-    ]
-    | no a ↦ elim (ℕ-discrete i (p .rank)) [
-      | yes c ↦ elim (ℕ-discrete j (p .rank)) [
-        | yes d ↦ rw (c, d) (omega arith)
-        | no d ↦ rw (c, p .here, behind j (omega arith) k) (p .not-below (j - 1) (omega arith) (omega arith))
-      ]
-      | no c ↦ rw (behind i (omega arith) (omega arith), behind j (omega arith) k) (rising (i - 1) (j - 1) (omega arith) (omega arith))
-    ]
-  ]
+  placed-rising rising i j h k = go (whence i (omega arith)) (whence j k)
+    where
+      From : ℕ → Type 0
+      From = Whence before low count run after start (p .rank)
+
+      go : From i → From j → getD after (start + i) 0 ≤ getD after (start + j) 0
+      go (one-before a e) (one-before b f) = let r = p .is-rank in rw (e, f) (rising i j h (omega arith))
+      go (one-before a e) (itself b f) = rw (e, f) (p .not-above i a)
+      go (one-before a e) (one-behind n z b c f) = rw (e, f) (rising i n (omega arith) c)
+      go (itself a e) (one-before b f) = absurd (omega arith)
+      go (itself a e) (itself b f) = rw (e, f) (omega arith)
+      go (itself a e) (one-behind n z b c f) = rw (e, f) (p .not-below n b c)
+      go (one-behind m y a c e) (one-before b f) = absurd (omega arith)
+      go (one-behind m y a c e) (itself b f) = absurd (omega arith)
+      go (one-behind m y a c e) (one-behind n z b d f) = rw (e, f) (rising m n (omega arith) d)
 
   placed-covers : CoversOneMore before low count (firstOf run) (endOf run) after start
   placed-covers f =
       same (someCovers (rowsIn after start (count + 1)) f) (covers (rowOfRun run) f || someCovers (rowsIn before low count) f)
-      (λ e. let w = rows-cover after start (count + 1) f e in from (w .0) (w .1) (w .2))
+      (λ e. let w = rows-cover after start (count + 1) f e in from (w .0) (w .2) (whence (w .0) (w .1)))
       (λ e. elim (or-case (covers (rowOfRun run) f) (someCovers (rowsIn before low count) f) e) [
-        | inl c ↦ let r = p .is-rank in cover-rows after start (count + 1) f (p .rank) (omega arith) (ap (λ (n : ℕ). covers (rowOfRun n) f) (p .here) ∙ c)
+        | inl c ↦ let r = p .is-rank in cover-rows after start (count + 1) f (p .rank) (omega arith) (alike (p .here) ∙ c)
         | inr c ↦ let w = rows-cover before low count f c in into (w .0) (w .1) (w .2)
       ])
     where
-      from : (j : ℕ) → j < count + 1 → covers (rowOfRun (getD after (start + j) 0)) f ≡ true → (covers (rowOfRun run) f || someCovers (rowsIn before low count) f) ≡ true
-      from j h c = elim (decLt j (p .rank)) [
-        | yes a ↦
-            let r = p .is-rank in
-            or-right (covers (rowOfRun run) f) (someCovers (rowsIn before low count) f)
-            (cover-rows before low count f j (omega arith) (ap (λ (n : ℕ). covers (rowOfRun n) f) (sym (p .lower j a)) ∙ c))
-        | no a ↦ elim (ℕ-discrete j (p .rank)) [
-          | yes z ↦
-              or-left (covers (rowOfRun run) f) (someCovers (rowsIn before low count) f)
-              (ap (λ (n : ℕ). covers (rowOfRun n) f) (sym (ap (λ (i : ℕ). getD after (start + i) 0) z ∙ p .here)) ∙ c)
-          | no z ↦
-              or-right (covers (rowOfRun run) f) (someCovers (rowsIn before low count) f)
-              (cover-rows before low count f (j - 1) (omega arith) (ap (λ (n : ℕ). covers (rowOfRun n) f) (sym (behind j (omega arith) h)) ∙ c))
-        ]
-      ]
+      alike : {m n : ℕ} → m ≡ n → covers (rowOfRun m) f ≡ covers (rowOfRun n) f
+      alike e = ap (λ (n : ℕ). covers (rowOfRun n) f) e
+
+      by-another : (i : ℕ) → i < count → covers (rowOfRun (getD before (low + i) 0)) f ≡ true → (covers (rowOfRun run) f || someCovers (rowsIn before low count) f) ≡ true
+      by-another i h c = or-right (covers (rowOfRun run) f) (someCovers (rowsIn before low count) f) (cover-rows before low count f i h c)
+
+      from : (j : ℕ) → covers (rowOfRun (getD after (start + j) 0)) f ≡ true → Whence before low count run after start (p .rank) j
+          → (covers (rowOfRun run) f || someCovers (rowsIn before low count) f) ≡ true
+      from j c (one-before a e) = let r = p .is-rank in by-another j (omega arith) (sym (alike e) ∙ c)
+      from j c (itself a e) = or-left (covers (rowOfRun run) f) (someCovers (rowsIn before low count) f) (sym (alike e) ∙ c)
+      from j c (one-behind i z a b e) = by-another i b (sym (alike e) ∙ c)
 
       into : (j : ℕ) → j < count → covers (rowOfRun (getD before (low + j) 0)) f ≡ true → someCovers (rowsIn after start (count + 1)) f ≡ true
       into j h c = elim (decLt j (p .rank)) [
-        | yes a ↦ cover-rows after start (count + 1) f j (omega arith) (ap (λ (n : ℕ). covers (rowOfRun n) f) (p .lower j a) ∙ c)
-        | no a ↦ cover-rows after start (count + 1) f (suc j) (omega arith) (ap (λ (n : ℕ). covers (rowOfRun n) f) (p .higher j (omega arith) h) ∙ c)
+        | yes a ↦ cover-rows after start (count + 1) f j (omega arith) (alike (p .lower j a) ∙ c)
+        | no a ↦ cover-rows after start (count + 1) f (suc j) (omega arith) (alike (p .higher j (omega arith) h) ∙ c)
       ]
 
   placed : (first end : ℕ) → end < 4294967296 → run ≡ runOf first end → Ordered before low count → count < 64 → length after ≡ length before

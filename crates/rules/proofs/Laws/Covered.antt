@@ -26,7 +26,7 @@ covers-yes row f h i = and-both (row .first ≤? f) (f <? row .end) (le-leb (row
 pub covers-within : (row : Row) (f : ℕ) → covers row f ≡ true → (row .first ≤ f) × (f < row .end)
 covers-within row f e = let w = both (row .first ≤? f) (f <? row .end) e in (leb-true (row .first) f (w .0), ltb-true f (row .end) (w .1))
 
-pub covers-not : (row : Row) (f : ℕ) → (row .first ≤ f → f < row .end → ⊥) → covers row f ≡ false
+covers-not : (row : Row) (f : ℕ) → (row .first ≤ f → f < row .end → ⊥) → covers row f ≡ false
 covers-not row f d = not-of (covers row f) (λ e. let w = covers-within row f e in d (w .0) (w .1))
 
 -- it covers as many frames as lie from its first to its end
@@ -45,11 +45,7 @@ row-alone row b h =
     ])
 
 -- ---- rows
-pub some-nowhere : (f : ℕ) → someCovers [] f ≡ false
-unfolding someCovers
-some-nowhere f = refl
-
-pub some-append : (rows more : List Row) (f : ℕ) → someCovers (rows ++ more) f ≡ (someCovers rows f || someCovers more f)
+some-append : (rows more : List Row) (f : ℕ) → someCovers (rows ++ more) f ≡ (someCovers rows f || someCovers more f)
 unfolding someCovers
 some-append [] more f = refl
 some-append (row ∷ rows) more f = go (covers row f) (some-append rows more f)
@@ -112,33 +108,32 @@ covered-just rows b c h =
     let n = count-none (someCovers rows) in
     omega arith
 
--- ---- one row more
+-- ---- one row more: each counted up to a bound behind all of them
 module _ (row : Row) (rows : List Row) where
-  more-behind : (f : ℕ) → row .end + lastEnd rows ≤ f → someCovers (row ∷ rows) f ≡ false
-  unfolding lastEnd
-  more-behind f i = none-behind (row ∷ rows) f (omega arith)
+  bound : ℕ
+  bound = row .end + lastEnd rows
 
-  pub covered-more : coveredBy (row ∷ rows) ≤ (row .end - row .first) + coveredBy rows
+  all-of-them : count bound (someCovers (row ∷ rows)) ≡ coveredBy (row ∷ rows)
+  unfolding bound lastEnd
+  all-of-them = bounded (row ∷ rows) bound (λ f h. none-behind (row ∷ rows) f (omega arith))
+
+  the-row : count bound (covers row) ≡ row .end - row .first
+  unfolding bound
+  the-row = row-alone row bound (omega arith)
+
+  the-others : count bound (someCovers rows) ≡ coveredBy rows
+  unfolding bound
+  the-others = bounded rows bound (λ f h. none-behind rows f (omega arith))
+
+  covered-more : coveredBy (row ∷ rows) ≤ (row .end - row .first) + coveredBy rows
   unfolding someCovers
-  covered-more =
-      let b = row .end + lastEnd rows in
-      let a = bounded (row ∷ rows) b more-behind in
-      let o = row-alone row b (omega arith) in
-      let r = bounded rows b (λ f i. none-behind rows f (omega arith)) in
-      let c = count-or b (covers row) (someCovers rows) in
-      omega arith
+  covered-more = let a = all-of-them in let r = the-row in let o = the-others in let c = count-or bound (covers row) (someCovers rows) in omega arith
 
-  pub covered-apart : ((f : ℕ) → covers row f ≡ true → someCovers rows f ≡ true → ⊥) → coveredBy (row ∷ rows) ≡ (row .end - row .first) + coveredBy rows
+  covered-apart : ((f : ℕ) → covers row f ≡ true → someCovers rows f ≡ true → ⊥) → coveredBy (row ∷ rows) ≡ (row .end - row .first) + coveredBy rows
   unfolding someCovers
-  covered-apart d =
-      let b = row .end + lastEnd rows in
-      let a = bounded (row ∷ rows) b more-behind in
-      let o = row-alone row b (omega arith) in
-      let r = bounded rows b (λ f i. none-behind rows f (omega arith)) in
-      let c = count-apart b (covers row) (someCovers rows) d in
-      omega arith
+  covered-apart d = let a = all-of-them in let r = the-row in let o = the-others in let c = count-apart bound (covers row) (someCovers rows) d in omega arith
 
-pub covered-none : coveredBy [] ≡ 0
+covered-none : coveredBy [] ≡ 0
 unfolding coveredBy lastEnd
 covered-none = count-none (someCovers [])
 
@@ -162,7 +157,7 @@ module _ (t : Tables) where
   row-covers : (s f : ℕ) → covers (rowOf t s) f ≡ true → Covers (claimOfSeat t s) f
   row-covers s f e = covers-within (rowOf t s) f e
 
-  pub below-covers : (n f : ℕ) → someCovers (rowsBelow n t) f ≡ true → (s : ℕ) × (s < n) × Holds t s × Covers (claimOfSeat t s) f
+  below-covers : (n f : ℕ) → someCovers (rowsBelow n t) f ≡ true → (s : ℕ) × (s < n) × Holds t s × Covers (claimOfSeat t s) f
   unfolding rowsBelow someCovers
   below-covers zero f e = absurd (clash false e refl)
   below-covers (suc n) f e =
@@ -175,7 +170,7 @@ module _ (t : Tables) where
       (λ rests g. let w = below-covers n f g in (w .0, (let i = w .1 in omega arith), w .2, w .3))
       e
 
-  pub covers-below : (n s f : ℕ) → s < n → Holds t s → Covers (claimOfSeat t s) f → someCovers (rowsBelow n t) f ≡ true
+  covers-below : (n s f : ℕ) → s < n → Holds t s → Covers (claimOfSeat t s) f → someCovers (rowsBelow n t) f ≡ true
   unfolding rowsBelow
   covers-below zero s f h holds c = absurd (omega arith)
   covers-below (suc n) s f h holds c = elim (eq-or-lt-of-le {n = s} {m = n} (omega arith)) [
