@@ -20,11 +20,11 @@ use Rattle.rules.proofs.Ground.Logic.{or-left, or-right, or-case, both,
 use Rattle.rules.proofs.Ground.Counting.{count-none, count-small, count-wider, count-gap, count-run, count-bounds, count-or, count-apart}
 
 -- ---- one row
-pub covers-yes : (row : Row) (f : ℕ) → row .first ≤ f → f < row .end → covers row f ≡ true
-covers-yes row f h i = and-both (row .first ≤? f) (f <? row .end) (le-leb (row .first) f h) (lt-ltb f (row .end) i)
-
 pub covers-within : (row : Row) (f : ℕ) → covers row f ≡ true → (row .first ≤ f) × (f < row .end)
 covers-within row f e = let w = both (row .first ≤? f) (f <? row .end) e in (leb-true (row .first) f (w .0), ltb-true f (row .end) (w .1))
+
+pub covers-yes : (row : Row) (f : ℕ) → row .first ≤ f → f < row .end → covers row f ≡ true
+covers-yes row f h i = and-both (row .first ≤? f) (f <? row .end) (le-leb (row .first) f h) (lt-ltb f (row .end) i)
 
 covers-not : (row : Row) (f : ℕ) → (row .first ≤ f → f < row .end → ⊥) → covers row f ≡ false
 covers-not row f d = not-of (covers row f) (λ e. let w = covers-within row f e in d (w .0) (w .1))
