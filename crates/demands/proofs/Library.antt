@@ -2,7 +2,6 @@
 -- specs/Refusing.antt, Apart.antt, Cause.antt and Covered.antt; each proof cites what stands at the door of the rules' proofs.
 use Prim.Native.Nat.{ℕ, _+_, _*_, _/_, _≤_}
 use mathlib.Core.Path.{_≡_, sym, ap, _∙_}
-use native.Mathlib.Omega.{arith}
 use mathlib.Core.Bool.{true}
 use mathlib.Core.List.{List}
 use mathlib.Core.Logic.{_≢_, _⊎_}
@@ -78,7 +77,7 @@ board-covers {t} {rows} {n = n} {covered} m = covers.on-the-board-of-numbers t r
 -- so it fits 32 bits, as the tables' words do
 pub board-fits : {t : Tables} {rows after : List ℕ} {n covered : ℕ} → In32Bits (t .nodes) → BoardMade t rows (Boarded.filled n covered) after
     → covered ≤ 4294967295
-board-fits {t} words m = let e = board-covers m .1 in let f = covers.fits t words in omega arith
+board-fits {t} words m = rw (board-covers m .1) (covers.fits t words)
 
 -- ---- demand 2, of tables that the library cleared and that only its calls have changed since
 module _ {N S : ℕ} {t : Tables} (l : Lent N S t) where

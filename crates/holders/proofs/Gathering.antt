@@ -10,7 +10,7 @@ use Rattle.rules.specs.Board.{rowOf, rowsBelow, holders, someCovers, coveredBy}
 use Rattle.rules.specs.Apart.{Holds}
 use Rattle.rules.specs.declared.Row.{Row}
 use Rattle.rules.proofs.Laws.Covered.{some-last, covered-alike}
-use Rattle.runs.specs.Runs.{rowsIn, Ordered, CoversOneMore}
+use Rattle.covering.specs.Runs.{rowsIn, Ordered, CoversOneMore}
 use Rattle.holders.specs.Holding.{Joined}
 use Rattle.holders.proofs.Rows.{rows-more, rows-same, rows-all}
 
@@ -21,7 +21,7 @@ pub record Gathered (t : Tables) (count : ℕ) (places : List ℕ) (low held s :
   pub ordered : Ordered places low held
   pub alike : (frame : ℕ) → someCovers (rowsIn places low held) frame ≡ someCovers (rowsBelow s t) frame
 
--- the promise of `runs::put`, of a holder's row
+-- the promise of `covering::put`, of a holder's row
 pub row-joined : (t : Tables) (s : ℕ) (before : List ℕ) (low held : ℕ) (after : List ℕ) (start : ℕ) (row : Row) → row ≡ rowOf t s
     → Ordered after start (held + 1) × CoversOneMore before low held (row .first) (row .end) after start → Joined t s before low held after start
 row-joined t s before low held after start row isRow put =

@@ -5,7 +5,7 @@ use Rattle.rules.specs.Notation.{if_then_else_, _is_, count}
 use Rattle.rules.specs.Tables.{Tables, seatWord, phaseAt, phase}
 use Rattle.rules.specs.Board.{rowOf}
 use Rattle.rules.specs.declared.Row.{Row}
-use Rattle.runs.specs.Runs.{Ordered, CoversOneMore}
+use Rattle.covering.specs.Runs.{Ordered, CoversOneMore}
 
 -- how many of the first n seats hold
 unfoldable pub holding : List ℕ → ℕ → ℕ

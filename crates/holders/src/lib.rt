@@ -8,7 +8,7 @@ ghost use Rattle.rules.specs.Shape.{sound};
 ghost use Rattle.rules.specs.Board.{rowOf, coveredBy};
 ghost use Rattle.rules.specs.Board as rule;
 ghost use Rattle.rules.specs.Apart.{Holds};
-ghost use Rattle.runs.specs.Runs.{Ordered};
+ghost use Rattle.covering.specs.Runs.{Ordered};
 ghost use Rattle.holders.specs.Holding.{holding, Joined};
 use rules::Row;
 
@@ -64,7 +64,7 @@ fn gather(
     ensures { λ r. ⌜ Joined (tables (now (nodes .entry)) (now (seats .entry))) s (now (places .entry)) low held (now (places .exit)) r ⌝ }
 {
     let row = row_of(nodes, seats, s);
-    runs::put(places, low, held, row.first, row.end)
+    covering::put(places, low, held, row.first, row.end)
 }
 
 // The frames that the holders cover, each counted once: their runs are put in order as they are met.
@@ -86,5 +86,5 @@ pub fn covered(nodes: &[u32], seats: &[u32]) -> u64
             seat += 1;
         }
     }
-    runs::covered(&places, low, held)
+    covering::covered(&places, low, held)
 }

@@ -1,14 +1,15 @@
 //! Covered frames as 02 has them, "the number of frames that at least one holder covers": small boards, and counts frame by
 //! frame.
 
-use crate::machine::{begin, board, fresh, step, Answer};
+use crate::machine::{begin, board, fresh, link, place, step, Answer};
+use crate::machine::{END, HOLDING, KIND, MARK, MOST_SEATS, OWN, PHASE, ROW_WORDS, SEAT_WORDS, START};
 use crate::random::Random;
 use crate::tables::many_holders;
 use std::ops::Range;
 
 /// The covered frames of any sound tables.
 fn covered(nodes: &[u32], seats: &[u32]) -> u64 {
-    board(nodes, seats, &mut [0; 4 * 64]).expect("sound tables, and rows enough").1
+    board(nodes, seats, &mut [0; ROW_WORDS * MOST_SEATS]).expect("sound tables, and rows enough").1
 }
 
 /// The frames covered once each seat in turn has claimed its run for reading and holds it: readers keep nobody out.
@@ -90,29 +91,33 @@ fn no_holder_covers_nothing() {
 
 /// The runs of the seats that hold, in sound tables.
 fn held(nodes: &[u32], seats: &[u32]) -> Vec<Range<u32>> {
-    let own_run = |seat: &[u32]| {
-        let own = 1 + 5 * (seat[1] as usize - 1);
-        nodes[own]..nodes[own + 1]
-    };
-    seats.chunks(4).filter(|seat| seat[0] == 5).map(own_run).collect()
+    let own_run = |seat: &[u32]| nodes[place(seat[OWN], START)]..nodes[place(seat[OWN], END)];
+    seats.chunks(SEAT_WORDS).filter(|seat| seat[PHASE] == HOLDING).map(own_run).collect()
 }
 
 /// Sound tables within thirty frames that nobody need have reached: nodes on the list and off it, in no order of their first
 /// frames, some marked; of the seats most hold, some of them the same node.
 fn small_tables(random: &mut Random) -> (Vec<u32>, Vec<u32>) {
     let node_count = random.between(1, 9);
-    let listed = random.between(0, node_count);
-    let mut nodes = vec![u32::from(listed > 0)];
+    let (mut nodes, mut seats) = fresh(node_count, random.between(1, 9));
     for node in 1..=node_count {
         let length = random.pick(&[1, 2, 3, 8, 15]);
         let start = random.between(0, 30 - length);
-        let next = if node < listed { node + 1 } else { 0 };
-        nodes.extend([start, start + length, random.between(1, 2), next, random.below(2)]);
+        nodes[place(node, START)] = start;
+        nodes[place(node, END)] = start + length;
+        nodes[place(node, KIND)] = random.between(1, 2);
+        nodes[place(node, MARK)] = random.below(2);
     }
-    let seat_count = random.between(1, 9);
-    let seat = |_| if random.percent(80) { [5, random.between(1, node_count), 0, 0] } else { [0; 4] };
-    let seats: Vec<[u32; 4]> = (0..seat_count).map(seat).collect();
-    (nodes, seats.concat())
+    for node in 1..=random.between(0, node_count) {
+        nodes[link(node - 1)] = node;
+    }
+    for seat in seats.chunks_mut(SEAT_WORDS) {
+        if random.percent(80) {
+            seat[PHASE] = HOLDING;
+            seat[OWN] = random.between(1, node_count);
+        }
+    }
+    (nodes, seats)
 }
 
 #[test]

@@ -11,8 +11,8 @@ use lib.ListN.{getD, set, length, length-set}
 use lib.Seq.{getD-set-same}
 use Rattle.rules.specs.Board.{covers, someCovers}
 use Rattle.rules.proofs.Ground.Logic.{same, clash, or-case, or-left, or-right}
-use Rattle.runs.specs.Runs.{runOf, firstOf, endOf, rowOfRun, rowsIn, Ordered, CoversOneMore}
-use Rattle.runs.specs.Moving.{upFrom, downFrom, Lower, Higher, Ends, Put}
+use Rattle.covering.specs.Runs.{runOf, firstOf, endOf, rowOfRun, rowsIn, Ordered, CoversOneMore}
+use Rattle.covering.specs.Moving.{upFrom, downFrom, Lower, Higher, Ends, Put}
 
 -- ---- some run of those in the places covers a frame
 pub rows-cover : (runs : List ℕ) (low n f : ℕ) → someCovers (rowsIn runs low n) f ≡ true

@@ -1,9 +1,9 @@
--- `runs::covered` meets its promise. The measure is the number of runs left.
+-- `covering::covered` meets its promise. The measure is the number of runs left.
 use borrow.Author.Needs.{needs}
-use Rattle.runs.proofs.Sweeping.{Swept, swept-none, swept-more, swept-all}
+use Rattle.covering.proofs.Sweeping.{Swept, swept-none, swept-more, swept-all}
 use Prim.Native.Nat.{_-_}
-use Rattle.runs.proofs.covered.Statement.{statement}
-use Rattle.runs.proofs.covered.Tie as tie
+use Rattle.covering.proofs.covered.Statement.{statement}
+use Rattle.covering.proofs.covered.Tie as tie
 
 abbrev Inv-loop : tie.InvT-loop
 Inv-loop runs low count covered₀ reached₀ i₀ covered reached i = Swept runs low count covered reached i

@@ -7,7 +7,7 @@ use native.Mathlib.Omega.{arith}
 use native.Mathlib.Decide.{ℕ-discrete}
 use lib.ListN.{getD, set, length, length-set}
 use lib.Seq.{getD-set-same, getD-set-other}
-use Rattle.runs.specs.Moving.{upFrom, downFrom, Lower, Higher, Ends, Moved, Put}
+use Rattle.covering.specs.Moving.{upFrom, downFrom, Lower, Higher, Ends, Moved, Put}
 
 moved-none : (place : ℕ → ℕ) (InWay : ℕ → Type 0) (runs : List ℕ) → Moved place InWay runs 0 runs
 moved-none place InWay runs = record {

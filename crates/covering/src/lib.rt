@@ -5,8 +5,8 @@ ghost use mathlib.Core.Path.{_≡_};
 ghost use Prim.Native.Nat.{_+_, _-_, _≤_, _<_, max};
 ghost use lib.ListN.{length};
 ghost use Rattle.rules.specs.Board.{coveredBy};
-ghost use Rattle.runs.specs.Runs.{firstOf, endOf, rowsIn, Ordered, CoversOneMore};
-ghost use Rattle.runs.specs.Moving.{upFrom, downFrom, Lower, Higher, Ends, Put};
+ghost use Rattle.covering.specs.Runs.{firstOf, endOf, rowsIn, Ordered, CoversOneMore};
+ghost use Rattle.covering.specs.Moving.{upFrom, downFrom, Lower, Higher, Ends, Put};
 
 // ---- a run is put in its place
 

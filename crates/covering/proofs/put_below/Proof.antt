@@ -1,26 +1,27 @@
--- `runs::put_above` meets its promise. The measure is the place that is open.
+-- `covering::put_below` meets its promise. The measure is the number of places left.
 use borrow.Author.Needs.{needs}
-use Rattle.runs.proofs.Moving.{Raising, raising-none, raising-more, raising-done}
-use Rattle.runs.proofs.put_above.Statement.{statement}
-use Rattle.runs.proofs.put_above.Tie as tie
+use Rattle.covering.proofs.Moving.{Lowering, lowering-none, lowering-more, lowering-done}
+use Prim.Native.Nat.{_-_}
+use Rattle.covering.proofs.put_below.Statement.{statement}
+use Rattle.covering.proofs.put_below.Tie as tie
 
 abbrev Inv-loop : tie.InvT-loop
-Inv-loop runs₀ high run at₀ runs at = Raising runs₀ high run runs at
+Inv-loop runs₀ low run at₀ runs at = Lowering runs₀ low run runs at
 
 abbrev μ-loop : tie.MeasureT-loop
-μ-loop runs₀ high run at₀ runs at = at
+μ-loop runs₀ low run at₀ runs at = 128 - at
 
 loop-holds : tie.Need-loop-holds Inv-loop μ-loop
-loop-holds c = search (raising-none, needs)
-
-sub-next : tie.Need-sub-next Inv-loop μ-loop
-sub-next c = search needs
+loop-holds c = search (lowering-none, needs)
 
 mul-next : tie.Need-mul-next Inv-loop μ-loop
 mul-next c = search needs
 
 element-copy-out-next : tie.Need-element-copy-out-next Inv-loop μ-loop
 element-copy-out-next c = search needs
+
+sub-runs : tie.Need-sub-runs Inv-loop μ-loop
+sub-runs c = search needs
 
 mul-runs : tie.Need-mul-runs Inv-loop μ-loop
 mul-runs c = search needs
@@ -29,7 +30,10 @@ element-write-runs : tie.Need-element-write-runs Inv-loop μ-loop
 element-write-runs c = search needs
 
 returns : tie.Need-returns Inv-loop μ-loop
-returns c = search raising-done
+returns c = search lowering-done
+
+sub-runs-2 : tie.Need-sub-runs-2 Inv-loop μ-loop
+sub-runs-2 c = search needs
 
 mul-runs-2 : tie.Need-mul-runs-2 Inv-loop μ-loop
 mul-runs-2 c = search needs
@@ -37,30 +41,31 @@ mul-runs-2 c = search needs
 element-write-runs-2 : tie.Need-element-write-runs-2 Inv-loop μ-loop
 element-write-runs-2 c = search needs
 
-sub-at : tie.Need-sub-at Inv-loop μ-loop
-sub-at c = search needs
+add-at : tie.Need-add-at Inv-loop μ-loop
+add-at c = search needs
 
 loop-less : tie.Need-loop-less Inv-loop μ-loop
 loop-less c = search needs
 
 loop-again : tie.Need-loop-again Inv-loop μ-loop
-loop-again c = search raising-more
+loop-again c = search lowering-more
 
-pub put-above-spec : {M : Type 1} → statement M
-put-above-spec =
+pub put-below-spec : {M : Type 1} → statement M
+put-below-spec =
     tie.close
     (tie.spec
     Inv-loop
     μ-loop
     loop-holds
-    sub-next
     mul-next
     element-copy-out-next
+    sub-runs
     mul-runs
     element-write-runs
     returns
+    sub-runs-2
     mul-runs-2
     element-write-runs-2
-    sub-at
+    add-at
     loop-less
     loop-again)

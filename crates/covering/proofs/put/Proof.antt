@@ -1,9 +1,9 @@
--- `runs::put` meets its promise.
-use Rattle.runs.proofs.Placing.{put-first, ends-below, put-lower, ends-above, put-higher}
+-- `covering::put` meets its promise.
+use Rattle.covering.proofs.Placing.{put-first, ends-below, put-lower, ends-above, put-higher}
 use mathlib.Core.Path.{refl}
 use borrow.Author.Needs.{needs}
-use Rattle.runs.proofs.put.Statement.{statement}
-use Rattle.runs.proofs.put.Tie as tie
+use Rattle.covering.proofs.put.Statement.{statement}
+use Rattle.covering.proofs.put.Tie as tie
 
 mul-run : tie.Need-mul-run
 mul-run c = search needs

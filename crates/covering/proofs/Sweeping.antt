@@ -11,8 +11,8 @@ use Rattle.rules.specs.Board.{someCovers, coveredBy}
 use Rattle.rules.proofs.Ground.Logic.{not-of}
 use Rattle.rules.proofs.Ground.Counting.{count-none, count-small, count-gap, count-run}
 use Rattle.rules.proofs.Laws.Covered.{covers-yes, covers-within, bounded}
-use Rattle.runs.specs.Runs.{firstOf, endOf, rowOfRun, rowsIn, Ordered}
-use Rattle.runs.proofs.Placing.{rows-cover, cover-rows}
+use Rattle.covering.specs.Runs.{firstOf, endOf, rowOfRun, rowsIn, Ordered}
+use Rattle.covering.proofs.Placing.{rows-cover, cover-rows}
 
 pub record Swept (runs : List ℕ) (low count covered reached i : ℕ) : Type 0 where
   pub within : i ≤ count
