@@ -2,8 +2,8 @@
 use Prim.Native.Nat.{ℕ, zero, suc, _+_, _*_}
 use mathlib.Core.Bool.{Bool, not, _&&_, _||_}
 use lib.ListN.{length}
-use Rattle.rules.specs.Notation.{if_then_else_, _is_, _≤?_, _<?_, all}
-use Rattle.rules.specs.Tables.{Tables, nodeCount, seatCount, beforeNodes, nodeWidth, seatWidth, seatWord, start, end, kind, mark, next, head, phase, own, prev, cur}
+use Rattle.rules.specs.Notation.{if_then_else_, _is_, _≤?_, _<?_, all, count}
+use Rattle.rules.specs.Tables.{Tables, nodeCount, seatCount, beforeNodes, nodeWidth, seatWidth, seatWord, readers, writers, start, end, kind, mark, next, head, phase, own, prev, cur}
 
 -- "lengths fit", where "N is 1 to 256" and "S is 1 to 64"
 unfoldable pub nodesFit : Tables → Bool
@@ -57,6 +57,14 @@ seatSound t s =
     isPhase t s && idleOrOwning t s && restingAtZero t s && waitingAtCur t s
     && names t (own t s) && names t (prev t s) && names t (cur t s)
 
+-- "the count over the seats": how many hold with a claim of this kind
+unfoldable pub holdersOfKind : Tables → ℕ → ℕ
+holdersOfKind t k = count (seatCount t) (λ s. phase t s is 5 && kind t (own t s) is k)
+
+-- "a table whose two words differ from the count is damaged"
+unfoldable pub countsFit : Tables → Bool
+countsFit t = readers t is holdersOfKind t 1 && writers t is holdersOfKind t 2
+
 -- "from the head, 0 is met after at most N nodes"
 unfoldable pub endsWithin : ℕ → Tables → ℕ → Bool
 endsWithin zero t a = a is 0
@@ -69,4 +77,5 @@ unfoldable pub seatsSound : Tables → Bool
 seatsSound t = all (seatCount t) (seatSound t)
 
 unfoldable pub sound : Tables → Bool
-sound t = lengthsFit t && nodesSound t && names t (head t) && seatsSound t && endsWithin (nodeCount t) t (head t)
+sound t =
+    lengthsFit t && nodesSound t && names t (head t) && seatsSound t && countsFit t && endsWithin (nodeCount t) t (head t)

@@ -1,8 +1,8 @@
 -- The step rules: "The phase decides the step, by the first clause that fits".
-use Prim.Native.Nat.{ℕ}
+use Prim.Native.Nat.{ℕ, _+_, _-_}
 use mathlib.Core.Bool.{Bool, not, _&&_, _||_}
 use Rattle.rules.specs.Notation.{if_then_else_, _is_, _≤?_}
-use Rattle.rules.specs.Tables.{Tables, start, end, marked, link, next, head, phase, own, prev, cur, setLink, setMark, setPhase, setPrev, setCur, clearSeat}
+use Rattle.rules.specs.Tables.{Tables, countWord, setCount, start, end, kind, marked, link, next, head, phase, own, prev, cur, setLink, setMark, setPhase, setPrev, setCur, clearSeat}
 use Rattle.rules.specs.Comparison.{claimOf, reads, compare, byComparison}
 use Rattle.rules.specs.Fetch.{Fetched, fetch}
 use Rattle.rules.specs.Answers.{Answer, refused, Done, done, answered}
@@ -48,17 +48,21 @@ insert t s =
     if joined t s then startValidating (linkIn t s) s
     else lookAgain t s
 
--- "Hold: phase 5, prev and cur 0."
+-- the kind of a seat's claim, whose holders' count it moves
+abbrev pub kindOf : Tables → ℕ → ℕ
+kindOf t s = kind t (own t s)
+
+-- "Hold: phase 5, prev and cur 0", and the claim counts from now on
 unfoldable pub hold : Tables → ℕ → Tables
-hold t s = moveTo t s 5 0 0
+hold t s = setCount (moveTo t s 5 0 0) (kindOf t s) (countWord t (kindOf t s) + 1)
 
 -- "Withdraw: own is marked, phase 6, prev and cur 0, own kept."
 unfoldable pub withdraw : Tables → ℕ → Tables
 withdraw t s = moveTo (setMark t (own t s) 1) s 6 0 0
 
--- "Release: own is marked and the seat idle."
+-- "Release: own is marked and the seat idle", and the claim counts no more
 unfoldable pub leave : Tables → ℕ → Tables
-leave t s = clearSeat (setMark t (own t s) 1) s
+leave t s = setCount (clearSeat (setMark t (own t s) 1) s) (kindOf t s) (countWord t (kindOf t s) - 1)
 
 -- | 1 walking | cur 0: insert. cur marked: unlink. Else compare cur with own: +1: prev becomes cur, cur its next; 0: phase 2;
 -- −1: insert |

@@ -5,7 +5,7 @@ use Prim.Native.Nat.{ℕ, zero, suc, _+_, _-_, _*_, _/_}
 use mathlib.Core.Bool.{Bool}
 use mathlib.Core.List.{List}
 use lib.ListN.{length, getD, set, replicate}
-use Rattle.rules.specs.Notation.{_is_}
+use Rattle.rules.specs.Notation.{if_then_else_, _is_}
 
 -- "Both are lent slices of 32-bit unsigned words."
 pub record Tables : Type 0 where
@@ -15,12 +15,23 @@ pub record Tables : Type 0 where
 abbrev pub tables : List ℕ → List ℕ → Tables
 tables nodes seats = record { nodes = nodes; seats = seats }
 
--- ---- "Nodes: one head word, then N nodes of five words: start, end, kind, next, mark."
+-- ---- "Nodes: one head word, then N nodes of five words: start, end, kind, next, mark", and from 02 "the two counts, readers first, in two
+-- words after the head word, so the length becomes 3 + 5·N"
 abbrev pub headAt : ℕ
 headAt = 0
 
+abbrev pub readersAt : ℕ
+readersAt = 1
+
+abbrev pub writersAt : ℕ
+writersAt = 2
+
+-- of the holders with a claim of this kind: "Kind 1 reads, 2 writes."
+abbrev pub countAt : ℕ → ℕ
+countAt k = if k is 1 then readersAt else writersAt
+
 abbrev pub beforeNodes : ℕ
-beforeNodes = 1
+beforeNodes = 3
 
 abbrev pub startAt : ℕ
 startAt = 0
@@ -44,6 +55,9 @@ nodeWidth = 5
 abbrev pub topWord : List ℕ → ℕ → ℕ
 topWord nodes place = getD nodes place 0
 
+abbrev pub putTop : List ℕ → ℕ → ℕ → List ℕ
+putTop nodes place value = set nodes place value
+
 -- "Nodes are numbered 1 to N."
 unfoldable pub nodeWord : List ℕ → ℕ → ℕ → ℕ
 nodeWord nodes zero field = 0
@@ -59,7 +73,7 @@ linkWord nodes zero = topWord nodes headAt
 linkWord nodes (suc m) = nodeWord nodes (suc m) nextAt
 
 unfoldable pub putLink : List ℕ → ℕ → ℕ → List ℕ
-putLink nodes zero value = set nodes headAt value
+putLink nodes zero value = putTop nodes headAt value
 putLink nodes (suc m) value = putNode nodes (suc m) nextAt value
 
 -- ---- "Seats: S seats of four words: phase, own, prev, cur. S is 1 to 64, numbered from 0."
@@ -103,6 +117,16 @@ abbrev pub seatCount : Tables → ℕ
 seatCount t = seatCountOf (t .seats)
 
 -- ---- reading by name
+-- "the numbers of holding readers and holding writers"
+abbrev pub readers : Tables → ℕ
+readers t = topWord (t .nodes) readersAt
+
+abbrev pub writers : Tables → ℕ
+writers t = topWord (t .nodes) writersAt
+
+abbrev pub countWord : Tables → ℕ → ℕ
+countWord t k = topWord (t .nodes) (countAt k)
+
 abbrev pub start : Tables → ℕ → ℕ
 start t a = nodeWord (t .nodes) a startAt
 
@@ -142,6 +166,9 @@ abbrev pub cur : Tables → ℕ → ℕ
 cur t s = seatWord (t .seats) s curAt
 
 -- ---- storing by name
+abbrev pub setCount : Tables → ℕ → ℕ → Tables
+setCount t k value = tables (putTop (t .nodes) (countAt k) value) (t .seats)
+
 abbrev pub setNode : ℕ → Tables → ℕ → ℕ → Tables
 setNode field t a value = tables (putNode (t .nodes) a field value) (t .seats)
 

@@ -29,7 +29,7 @@ pub const CUR: u32 = 3;
 
 const HEAD: usize = 0;
 
-const BEFORE_NODES: usize = 1;
+const BEFORE_NODES: usize = 3;
 
 const NODE_WIDTH: usize = 5;
 
@@ -197,10 +197,10 @@ pub fn seat_words(s: u32) -> usize
 }
 
 // The longest tables there are, fresh.
-pub fn fresh_nodes() -> [u32; 1281]
+pub fn fresh_nodes() -> [u32; 1283]
     ensures { λ r. ⌜ r ≡ zeros (beforeNodes + nodeWidth * 256) ⌝ }
 {
-    [0; 1281]
+    [0; 1283]
 }
 
 pub fn fresh_seats() -> [u32; 256]

@@ -9,8 +9,8 @@ use native.Mathlib.Numerals.{add-one}
 use lib.ListN.{length}
 use borrow.Author.Tests.{eqb-true, eqb-false, leb-true, leb-false, ltb-true, ltb-false, eq-eqb, ne-eqb, le-leb, lt-ltb}
 use Rattle.rules.specs.Notation.{_is_, _≤?_, _<?_}
-use Rattle.rules.specs.Tables.{Tables, tables, seatCountOf, nodeCount, seatCount, beforeNodes, nodeWidth, seatWidth, phaseAt, ownAt, prevAt, curAt, seatWord, start, end, kind, mark, link, next, head, phase, own, prev, cur}
-use Rattle.rules.specs.Shape.{nodesFit, seatsFit, lengthsFit, isKind, zeroNode, claimNode, names, nodeSound, isPhase, zeroSeat, idleOrOwning, restingAtZero, waitingAtCur, seatSound, endsWithin, nodesSound, seatsSound, sound}
+use Rattle.rules.specs.Tables.{Tables, tables, seatCountOf, nodeCount, seatCount, beforeNodes, nodeWidth, seatWidth, phaseAt, ownAt, prevAt, curAt, seatWord, readers, writers, countWord, start, end, kind, mark, link, next, head, phase, own, prev, cur}
+use Rattle.rules.specs.Shape.{nodesFit, seatsFit, lengthsFit, isKind, zeroNode, claimNode, names, nodeSound, isPhase, zeroSeat, idleOrOwning, restingAtZero, waitingAtCur, seatSound, holdersOfKind, countsFit, endsWithin, nodesSound, seatsSound, sound}
 use Rattle.rules.proofs.Ground.Logic.{either, or-left, or-right, or-case, and-left, and-right, and-both, both, all3, all4, all5, all6, not-true, of-not, branch, all-at, all-of}
 use Rattle.rules.proofs.Laws.Words.{link-past, seat-past}
 
@@ -205,6 +205,21 @@ lengths-fit t e =
       few-seats = leb-true (seatCount t) 64 (g .2);
     }
 
+-- ---- the two counts: of each kind the word says how many hold
+abbrev pub Counts : Tables → Type 0
+Counts t = (k : ℕ) → IsKind k → countWord t k ≡ holdersOfKind t k
+
+counts-fit : (t : Tables) → countsFit t ≡ true → Counts t
+unfolding countsFit
+counts-fit t e k (inl p) = rw p (eqb-true (readers t) (holdersOfKind t 1) (and-left (readers t is holdersOfKind t 1) (writers t is holdersOfKind t 2) e))
+counts-fit t e k (inr p) = rw p (eqb-true (writers t) (holdersOfKind t 2) (and-right (readers t is holdersOfKind t 1) (writers t is holdersOfKind t 2) e))
+
+counts-fit-is : (t : Tables) → Counts t → countsFit t ≡ true
+unfolding countsFit
+counts-fit-is t c =
+    and-both (readers t is holdersOfKind t 1) (writers t is holdersOfKind t 2)
+    (eq-eqb (readers t) (holdersOfKind t 1) (c 1 (inl refl))) (eq-eqb (writers t) (holdersOfKind t 2) (c 2 (inr refl)))
+
 -- ---- the whole
 pub record Sound (t : Tables) : Type 0 where
   pub nodes-length : length (t .nodes) ≡ beforeNodes + nodeWidth * nodeCount t
@@ -216,6 +231,7 @@ pub record Sound (t : Tables) : Type 0 where
   pub node : (a : ℕ) → a ≢ 0 → a ≤ nodeCount t → ZeroNode t a ⊎ ClaimNode t a
   pub link-names : (a : ℕ) → Names t (link t a)
   pub seat : (s : ℕ) → SeatSound t s
+  pub counts : Counts t
   pub ends : endsWithin (nodeCount t) t (head t) ≡ true
 
 -- a seat past the last one reads as idle
@@ -273,7 +289,7 @@ module _ (t : Tables) where
   pub is-sound : sound t ≡ true → Sound t
   unfolding sound
   is-sound e =
-      let w = all5 (lengthsFit t) (nodesSound t) (names t (head t)) (seatsSound t) (endsWithin (nodeCount t) t (head t)) e in
+      let w = all6 (lengthsFit t) (nodesSound t) (names t (head t)) (seatsSound t) (countsFit t) (endsWithin (nodeCount t) t (head t)) e in
       let fit = lengths-fit t (w .0) in
       record {
         nodes-length = fit .nodes-length;
@@ -285,7 +301,8 @@ module _ (t : Tables) where
         node = λ a z h. node-case a (node-of (w .1) a z h);
         link-names = links-name (fit .nodes-length) (w .1) (named t (head t) (w .2));
         seat = seats-all (fit .seats-length) (w .3);
-        ends = w .4;
+        counts = counts-fit t (w .4);
+        ends = w .5;
       }
 
   -- the other way
@@ -319,7 +336,7 @@ module _ (t : Tables) where
 
   pub sound-is : Sound t → sound t ≡ true
   unfolding sound
-  sound-is w = rw (lengths-fit-is w, nodes-sound-is w, name-of t (head t) (w .link-names 0), seats-sound-is w, w .ends)
+  sound-is w = rw (lengths-fit-is w, nodes-sound-is w, name-of t (head t) (w .link-names 0), seats-sound-is w, counts-fit-is t (w .counts), w .ends)
 
 -- S of sound tables, as the code counts it
 pub seats-few : (n t : List ℕ) (c : ℕ) → c ≡ seatCountOf t → sound (tables n t) ≡ true → c ≤ 64

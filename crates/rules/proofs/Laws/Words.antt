@@ -1,7 +1,7 @@
 -- What a store leaves in each word of the tables, N and S by the lengths, the words of fresh tables, and stores that come to nothing new: the
 -- one place beside specs/Tables.antt that knows where a word stands. Stated over the node, the seat, the field and the value; all above
 -- cites these.
-use Prim.Native.Nat.{ℕ, zero, suc, _+_, _-_, _*_, _<_, _≤_}
+use Prim.Native.Nat.{ℕ, zero, suc, _+_, _-_, _*_, _/_, _<_, _≤_}
 use mathlib.Core.Path.{_≡_, refl, sym, _∙_}
 use mathlib.Core.List.{List}
 use mathlib.Core.Logic.{_≢_}
@@ -9,7 +9,7 @@ use native.Mathlib.Omega.{arith}
 use native.Mathlib.Decide.{decLt}
 use lib.ListN.{getD, set, length, length-set, length-replicate, getD-replicate, List·getD-eq-default}
 use lib.Seq.{ext-getD, set-getD, getD-set-same, getD-set-other}
-use Rattle.rules.specs.Tables.{Tables, headAt, beforeNodes, nodeWidth, seatWidth, nextAt, topWord, nodeWord, putNode, linkWord, putLink, seatWord, putSeat, nodeCountOf, seatCountOf, nodeCount, seatCount, zeros, fresh}
+use Rattle.rules.specs.Tables.{Tables, headAt, beforeNodes, nodeWidth, seatWidth, nextAt, topWord, putTop, nodeWord, putNode, linkWord, putLink, seatWord, putSeat, nodeCountOf, seatCountOf, nodeCount, seatCount, zeros, fresh}
 use Rattle.rules.proofs.Ground.Deciding.{if-same}
 
 -- ---- lengths
@@ -22,6 +22,9 @@ pub put-link-length : (l : List ℕ) (a v : ℕ) → length (putLink l a v) ≡ 
 unfolding putLink
 put-link-length l zero v = simp length-set
 put-link-length l (suc m) v = put-node-length l (suc m) nextAt v
+
+pub put-top-length : (l : List ℕ) (i v : ℕ) → length (putTop l i v) ≡ length l
+put-top-length l i v = simp length-set
 
 pub put-seat-length : (l : List ℕ) (s f v : ℕ) → length (putSeat l s f v) ≡ length l
 unfolding putSeat
@@ -109,6 +112,39 @@ unfolding putLink
 top-put-link l i zero v h d = getD-set-other l headAt i v 0 (λ e. d (omega arith))
 top-put-link l i (suc m) v h d = top-put-node l i (suc m) nextAt v h
 
+-- a store to one of them leaves the others and, if it is not the head's, every node and every link
+pub top-put-same : (l : List ℕ) (i v : ℕ) → i < length l → topWord (putTop l i v) i ≡ v
+top-put-same l i v h = getD-set-same l i v 0 h
+
+pub top-put-other : (l : List ℕ) (i j v : ℕ) → i ≢ j → topWord (putTop l i v) j ≡ topWord l j
+top-put-other l i j v d = getD-set-other l i j v 0 (λ e. d (sym e))
+
+pub node-put-top : (l : List ℕ) (i a f v : ℕ) → i < beforeNodes → nodeWord (putTop l i v) a f ≡ nodeWord l a f
+unfolding nodeWord
+node-put-top l i zero f v h = refl
+node-put-top l i (suc m) f v h = getD-set-other l i (beforeNodes + nodeWidth * m + f) v 0 (λ e. omega arith)
+
+pub link-put-top : (l : List ℕ) (i a v : ℕ) → i < beforeNodes → i ≢ headAt → linkWord (putTop l i v) a ≡ linkWord l a
+unfolding linkWord
+link-put-top l i zero v h d = top-put-other l i headAt v d
+link-put-top l i (suc m) v h d = node-put-top l i (suc m) nextAt v h
+
+-- ---- where a seat's words stand: all that looks at the width of a seat
+-- two words of seats stand at one place only if they are the same word
+seat-apart : (s r f g : ℕ) → f < seatWidth → g < seatWidth → seatWidth * s + f ≡ seatWidth * r + g → (s ≡ r) × (f ≡ g)
+seat-apart s r f g h i e = (omega arith, omega arith)
+
+-- of S seats, those below S have all their words in the table
+pub seat-within : (s S : ℕ) → s < S → seatWidth * s + seatWidth ≤ seatWidth * S
+seat-within s S h = omega arith
+
+-- and the others none
+seat-behind : (s S f : ℕ) → S ≤ s → seatWidth * S ≤ seatWidth * s + f
+seat-behind s S f h = omega arith
+
+seats-by-width : (l S : ℕ) → l ≡ seatWidth * S → l / seatWidth ≡ S
+seats-by-width l S e = omega arith
+
 -- ---- a seat's words after a store to a seat's word
 pub seat-put-same : (l : List ℕ) (s f v : ℕ) → f < seatWidth → seatWidth * s + seatWidth ≤ length l → seatWord (putSeat l s f v) s f ≡ v
 unfolding seatWord putSeat
@@ -116,11 +152,13 @@ seat-put-same l s f v h i = getD-set-same l (seatWidth * s + f) v 0 (omega arith
 
 pub seat-put-field : (l : List ℕ) (s r f g v : ℕ) → f < seatWidth → g < seatWidth → f ≢ g → seatWord (putSeat l s f v) r g ≡ seatWord l r g
 unfolding seatWord putSeat
-seat-put-field l s r f g v h i d = getD-set-other l (seatWidth * s + f) (seatWidth * r + g) v 0 (λ e. d (omega arith))
+seat-put-field l s r f g v h i d =
+    getD-set-other l (seatWidth * s + f) (seatWidth * r + g) v 0 (λ e. d (sym (seat-apart r s g f i h e .1)))
 
 pub seat-put-seat : (l : List ℕ) (s r f g v : ℕ) → f < seatWidth → g < seatWidth → s ≢ r → seatWord (putSeat l s f v) r g ≡ seatWord l r g
 unfolding seatWord putSeat
-seat-put-seat l s r f g v h i d = getD-set-other l (seatWidth * s + f) (seatWidth * r + g) v 0 (λ e. d (omega arith))
+seat-put-seat l s r f g v h i d =
+    getD-set-other l (seatWidth * s + f) (seatWidth * r + g) v 0 (λ e. d (sym (seat-apart r s g f i h e .0)))
 
 -- ---- what stands past the end reads 0
 pub node-past : (t : Tables) (a f : ℕ) → f < nodeWidth → length (t .nodes) ≡ beforeNodes + nodeWidth * nodeCount t → nodeCount t < a → nodeWord (t .nodes) a f ≡ 0
@@ -133,7 +171,7 @@ link-past t a e p = link-node (t .nodes) a (λ z. omega arith) ∙ node-past t a
 
 pub seat-past : (t : Tables) (s f : ℕ) → length (t .seats) ≡ seatWidth * seatCount t → seatCount t ≤ s → seatWord (t .seats) s f ≡ 0
 unfolding seatWord
-seat-past t s f e p = List·getD-eq-default (t .seats) 0 {n = seatWidth * s + f} (omega arith)
+seat-past t s f e p = List·getD-eq-default (t .seats) 0 {n = seatWidth * s + f} (let b = seat-behind s (seatCount t) f p in omega arith)
 
 -- ---- N and S
 pub node-count : (t : Tables) (N : ℕ) → length (t .nodes) ≡ beforeNodes + nodeWidth * N → nodeCount t ≡ N
@@ -142,7 +180,7 @@ node-count t N e = omega arith
 
 pub seat-count : (t : Tables) (S : ℕ) → length (t .seats) ≡ seatWidth * S → seatCount t ≡ S
 unfolding seatCountOf
-seat-count t S e = omega arith
+seat-count t S e = seats-by-width (length (t .seats)) S e
 
 -- ---- fresh tables
 zero-at : (n k : ℕ) → _≡_ {A = ℕ} (getD (zeros n) k 0) 0
@@ -165,9 +203,13 @@ module _ (N S : ℕ) where
   fresh-node-word zero f = refl
   fresh-node-word (suc m) f = zero-at (beforeNodes + nodeWidth * N) (beforeNodes + nodeWidth * m + f)
 
+  pub fresh-top : (i : ℕ) → topWord (fresh N S .nodes) i ≡ 0
+  unfolding fresh
+  fresh-top i = zero-at (beforeNodes + nodeWidth * N) i
+
   pub fresh-link : (a : ℕ) → linkWord (fresh N S .nodes) a ≡ 0
   unfolding fresh linkWord
-  fresh-link zero = zero-at (beforeNodes + nodeWidth * N) headAt
+  fresh-link zero = fresh-top headAt
   fresh-link (suc m) = fresh-node-word (suc m) nextAt
 
   pub fresh-seat-word : (s f : ℕ) → seatWord (fresh N S .seats) s f ≡ 0
