@@ -1,9 +1,10 @@
--- What follows from one definition of specs/ by itself: the words after a store, sound shape clause by clause, what is met, what each number
+-- What follows from one definition of specs/ by itself: the words after a store, sound shape clause by clause, the two counts, what is met, what each number
 -- of the comparison says, what an answer tells, that a run is its steps, that the board on numbers is the board on rows, that covered
 -- counts a frame once, that two results of one promise are equal. They may use specs/ and the ground, and hold for any tables.
 pub mod Opened
 pub mod Words
 pub mod Shape
+pub mod Counts
 pub mod NodesAlone
 pub mod Listed
 pub mod Free

@@ -57,9 +57,13 @@ seatSound t s =
     isPhase t s && idleOrOwning t s && restingAtZero t s && waitingAtCur t s
     && names t (own t s) && names t (prev t s) && names t (cur t s)
 
--- "the count over the seats": how many hold with a claim of this kind
+-- the seat holds with a claim of this kind
+abbrev pub holdsWith : Tables → ℕ → ℕ → Bool
+holdsWith t k s = phase t s is 5 && kind t (own t s) is k
+
+-- "the count over the seats"
 unfoldable pub holdersOfKind : Tables → ℕ → ℕ
-holdersOfKind t k = count (seatCount t) (λ s. phase t s is 5 && kind t (own t s) is k)
+holdersOfKind t k = count (seatCount t) (holdsWith t k)
 
 -- "a table whose two words differ from the count is damaged"
 unfoldable pub countsFit : Tables → Bool

@@ -7,7 +7,8 @@ use native.Mathlib.Omega.{arith}
 use native.Mathlib.Nat.{eq-or-lt-of-le, add-zero, add-suc}
 use borrow.Author.Tests.{ne-eqb, lt-ltb, le-ltb}
 use Rattle.rules.specs.Notation.{if_then_else_, _is_, _<?_, count, lowest}
-use Rattle.rules.proofs.Ground.Logic.{either, or-left, or-right, neither, not-of, branch}
+use Rattle.rules.proofs.Ground.Deciding.{if-same}
+use Rattle.rules.proofs.Ground.Logic.{either, or-left, or-right, neither, not-of, branch, clash}
 
 -- ---- count
 pub count-none : (p : ℕ → Bool) → count 0 p ≡ 0
@@ -53,6 +54,16 @@ count-cut n (suc m) p q h e =
     (λ z. count-out m p (e m (omega arith) ∙ rw (le-ltb m n (omega arith))) ∙ count-cut n m p q (omega arith) (λ j i. e j (omega arith)))
     (eq-or-lt-of-le {n = n} {m = suc m} h)
 
+-- ---- one number may count differently, the others alike
+pub count-change : (n i : ℕ) (p q : ℕ → Bool) → i < n → ((j : ℕ) → j ≢ i → q j ≡ p j)
+    → count n q + (if p i then 1 else 0) ≡ count n p + (if q i then 1 else 0)
+unfolding count
+count-change zero i p q l h = absurd (omega arith)
+count-change (suc n) i p q l h =
+    if-same i n
+    (λ e. let a = count-alike n q p (λ j k. h j (λ z. omega arith)) in rw (e, a) (omega arith))
+    (λ d. let c = count-change n i p q (omega arith) h in rw (h n (λ e. d (sym e))) (omega arith))
+
 -- ---- more of them
 pub count-grows : (n : ℕ) (p : ℕ → Bool) → count n p ≤ count (suc n) p
 count-grows n p =
@@ -84,6 +95,9 @@ count-more (suc n) p q i h b e f =
     (eq-or-lt-of-le {n = i} {m = n} (omega arith))
 
 -- n of them below n are all of them
+pub count-some : (n i : ℕ) (p : ℕ → Bool) → i < n → p i ≡ true → 1 ≤ count n p
+count-some n i p l e = let h = count-more n (λ j. false) p i (λ j z. absurd (clash false z refl)) l refl e in omega arith
+
 pub count-full : (n : ℕ) (p : ℕ → Bool) (j : ℕ) → n ≤ count n p → j < n → p j ≡ true
 count-full zero p j f h = absurd (omega arith)
 count-full (suc n) p j f h =
