@@ -10,8 +10,8 @@ pub mod Ground
 pub mod Laws
 pub mod Invariant
 pub mod Rules
+pub mod Frames
 pub mod Keeping
 pub mod Soundness
-pub mod Frames
 pub mod Holding
 pub mod Waiting

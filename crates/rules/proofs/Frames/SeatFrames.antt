@@ -21,7 +21,7 @@ use Rattle.rules.proofs.Rules.Effects.{Room, Seated}
 use Rattle.rules.proofs.Rules.RuleEffects.{phase-stored, cur-stored, place-stored, pass-stored, start-stored, hold-stored, withdraw-stored, leave-stored, enter-stored}
 use Rattle.rules.proofs.Rules.Reasons.{Unlinking, takes-out, goes-past, Starting, as-reader, as-writer, Inserting, links-in, restarts, rereads, Walking, inserts, unlinks, passes, waits, Waking, wakes, stays, ReaderValidating, reader-holds, reader-unlinks, reader-passes, reader-waits, WriterValidating, writer-holds, writer-unlinks, writer-passes, withdraws, Validating, validates-reader, validates-writer, Fetching, found, found-then, none, Stepping, in-1, in-2, in-3, in-4, in-6, at-rest}
 use Rattle.rules.proofs.Rules.Accepting.{Beginning, begin-refused, begin-accepted, beginning, Stepped, step-refused, step-accepted, stepped, Releasing, release-refused, release-accepted, releasing}
-use Rattle.rules.proofs.Keeping.TakeOut.{taken-out-seats}
+use Rattle.rules.proofs.Laws.NodesAlone.{taken-out-seats}
 
 pub sound-room : (t : Tables) (s : ℕ) → sound t ≡ true → s < seatCount t → Room t s
 sound-room t s e h = let l = is-sound t e .seats-length in omega arith

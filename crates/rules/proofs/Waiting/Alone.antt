@@ -73,7 +73,7 @@ unlinked {t = t} s s-in g c (takes-out j) =
     let v = next t (cur t s) in
     let pos : 0 < cur t s = omega arith in
     let w = cur-stored t s (room g s s-in) v in
-    let new : link (setLink t p v) p ≡ v = link-put-same (t .nodes) p v (node-room g p (prev-in g s)) in
+    let new : link (setLink t p v) p ≡ v = link-put-same (t .nodes) p v (node-room (g .aside) p (prev-in g s)) in
     let old : (a : ℕ) → a ≢ p → link (setLink t p v) a ≡ link t a = λ a d. link-put-other (t .nodes) p a v (λ e. d (sym e)) in
     record {
       same-phase = w .at-s phaseAt (omega arith);

@@ -16,7 +16,7 @@ use Rattle.rules.proofs.Rules.Effects.{Room}
 use Rattle.rules.proofs.Rules.RuleEffects.{enter-stored}
 use Rattle.rules.proofs.Rules.Reasons.{Fetching, found, found-then, none, fetching, by-phase-6}
 use Rattle.rules.proofs.Keeping.Good.{Good, room}
-use Rattle.rules.proofs.Keeping.TakeOut.{taken-out-seats}
+use Rattle.rules.proofs.Laws.NodesAlone.{taken-out-seats}
 use Rattle.rules.proofs.Keeping.FetchKeeps.{fetch-keeps}
 use Rattle.rules.proofs.Soundness.SoundReached.{Bounds}
 use Rattle.rules.proofs.Waiting.Alone.{AtRest, rests-refused, accepted}
