@@ -4,4 +4,5 @@ pub mod SeatFrames
 pub mod NodeFrames
 pub mod ClaimFrames
 pub mod AfterStep
+pub mod CountFrames
 pub mod Uncovered

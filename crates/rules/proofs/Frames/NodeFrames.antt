@@ -141,7 +141,7 @@ module _ (t : Tables) (s : ℕ) where
   inserting (restarts j m) = only-seats
   inserting (rereads j m) = only-seats
 
-  walking : {u : Tables} → Walking t s u → NodesKept (OwnOrPrev t s) NoNode NoNode NoPlace t u
+  pub walking : {u : Tables} → Walking t s u → NodesKept (OwnOrPrev t s) NoNode NoNode NoPlace t u
   unfolding pass
   walking (inserts f w) = inserting w
   walking (unlinks c m w) = kept-but (λ a x. inr x) (λ a x. x) (λ a x. x) (λ i x. x) (unlinking w)
@@ -149,12 +149,12 @@ module _ (t : Tables) (s : ℕ) where
   walking (waits c m f f′) = only-seats
 
   -- ---- phases 2 and 4: none
-  waking : {P : ℕ} {u : Tables} → Waking t s P u → NodesKept NoNode NoNode NoNode NoPlace t u
+  pub waking : {P : ℕ} {u : Tables} → Waking t s P u → NodesKept NoNode NoNode NoNode NoPlace t u
   waking (wakes m) = only-seats
   waking (stays m) = only-seats
 
   -- ---- phase 3: the link of prev and the mark of own, unless the claim comes to hold, and then a count
-  unless-held : {u : Tables} → Validating t s u → (u ≡ hold t s) ⊎ NodesKept (Prev t s) (Own t s) NoNode NoPlace t u
+  pub unless-held : {u : Tables} → Validating t s u → (u ≡ hold t s) ⊎ NodesKept (Prev t s) (Own t s) NoNode NoPlace t u
   unfolding pass withdraw
   unless-held (validates-reader k (reader-holds f)) = inl refl
   unless-held (validates-reader k (reader-unlinks c m w)) = inr (unlinked w)

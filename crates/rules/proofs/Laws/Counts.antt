@@ -1,18 +1,25 @@
 -- The two counts in sound tables, reached or not: each word is at most 64, and that of a holder's kind at least 1. So one more and one less
 -- are always numbers of 32 bits.
 use Prim.Native.Nat.{ℕ, _≤_, _<_}
-use mathlib.Core.Path.{_≡_, refl}
+use mathlib.Core.Path.{_≡_, refl, sym, _∙_}
 use mathlib.Core.Bool.{true}
 use mathlib.Core.Logic.{_≢_, inl, inr}
 use native.Mathlib.Omega.{arith}
 use borrow.Author.Tests.{eq-eqb}
 use Rattle.rules.specs.Notation.{if_then_else_, _is_}
-use Rattle.rules.specs.Tables.{Tables, readersAt, writersAt, topWord, countWord, seatCount, phase, own}
+use Rattle.rules.specs.Tables.{Tables, readersAt, writersAt, topWord, countAt, countWord, seatCount, phase, own}
 use Rattle.rules.specs.Shape.{holdsWith, holdersOfKind, sound}
 use Rattle.rules.specs.Steps.{kindOf}
 use Rattle.rules.proofs.Ground.Logic.{branch}
 use Rattle.rules.proofs.Ground.Counting.{count-small, count-some}
 use Rattle.rules.proofs.Laws.Shape.{IsKind, is-sound}
+
+-- the two kinds are counted apart
+pub kinds-apart : {k j : ℕ} → IsKind k → IsKind j → k ≢ j → countAt k ≢ countAt j
+kinds-apart (inl p) (inl q) d = absurd (d (p ∙ sym q))
+kinds-apart (inl p) (inr q) d = rw (p, q) (omega arith)
+kinds-apart (inr p) (inl q) d = rw (p, q) (omega arith)
+kinds-apart (inr p) (inr q) d = absurd (d (p ∙ sym q))
 
 module _ (t : Tables) (e : sound t ≡ true) where
   -- who has a claim has one of a kind
