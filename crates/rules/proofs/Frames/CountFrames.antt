@@ -4,34 +4,38 @@
 use Prim.Native.Nat.{ℕ, _+_, _-_, _*_, _≤_, _<_}
 use mathlib.Core.Path.{_≡_, refl, sym, ap, _∙_}
 use mathlib.Core.Bool.{Bool, true, false, _&&_}
+use mathlib.Core.List.{List}
 use mathlib.Core.Logic.{_≢_, _⊎_, inl, inr}
 use native.Mathlib.Omega.{arith}
 use lib.ListN.{length}
 use borrow.Author.Tests.{eq-eqb, ne-eqb}
 use Rattle.rules.specs.Notation.{if_then_else_, _is_}
-use Rattle.rules.specs.Tables.{Tables, beforeNodes, nodeWidth, nodeCount, seatCount, phaseAt, ownAt, kindAt, markAt, countAt, countWord, phase, own, setMark, clearSeat, fresh}
+use Rattle.rules.specs.Tables.{Tables, beforeNodes, nodeWidth, nodeCount, seatCount, phaseAt, ownAt, kindAt, markAt, readersAt, writersAt, readers, writers, countAt, countWord, phase, own, setMark, clearSeat, fresh}
 use Rattle.rules.specs.Comparison.{Claim}
 use Rattle.rules.specs.Shape.{holdsWith, holdersOfKind, sound}
 use Rattle.rules.specs.Fetch.{Fetched, writeClaim, takeNode, takenOut}
-use Rattle.rules.specs.Answers.{Answer, Done}
+use Rattle.rules.specs.Answers.{Answer, refused, Done, done}
 use Rattle.rules.specs.Steps.{moveTo, kindOf, hold, leave, refetched}
 use Rattle.rules.specs.Calls.{begun}
 use Rattle.rules.specs.Play.{Call, beginCall, stepCall, releaseCall, call, seatOf}
+use Rattle.rules.specs.Run.{run}
 use Rattle.rules.specs.Reached.{Reached}
+use Rattle.rules.specs.Refusing.{damaged}
 use Rattle.rules.specs.Apart.{Holds, claimOfSeat, OtherSeatsKept, NodesKept, NoPlace}
-use Rattle.rules.specs.HowMany.{CountsMove, stay, one-more, one-less}
+use Rattle.rules.specs.HowMany.{CountsRight, CountsMove, stay, one-more, one-less}
 use Rattle.rules.proofs.Ground.Logic.{branch}
 use Rattle.rules.proofs.Ground.Deciding.{if-same}
 use Rattle.rules.proofs.Ground.Counting.{count-none, count-gap, count-change}
 use Rattle.rules.proofs.Laws.Words.{count-low, count-not-head, count-put-same, count-put-other, node-put-top, top-put-node, put-node-length, same-seat-count, fresh-top, fresh-seat-word}
 use Rattle.rules.proofs.Laws.Shape.{IsKind, Counts, is-sound}
-use Rattle.rules.proofs.Laws.Counts.{kinds-apart, own-kind, holder-counts}
+use Rattle.rules.proofs.Laws.Counts.{wrong-damaged, kinds-apart, own-kind, holder-counts}
 use Rattle.rules.proofs.Laws.NodesAlone.{taken-out-seats}
-use Rattle.rules.proofs.Laws.RunSteps.{reached-has}
+use Rattle.rules.proofs.Laws.RunSteps.{run-keeps, reached-has}
 use Rattle.rules.proofs.Rules.Effects.{Room}
 use Rattle.rules.proofs.Rules.RuleEffects.{hold-stored, leave-stored, enter-stored}
 use Rattle.rules.proofs.Rules.Reasons.{Fetching, found, found-then, none, Stepping, in-1, in-2, in-3, in-4, in-6, at-rest}
 use Rattle.rules.proofs.Rules.Accepting.{Beginning, begin-refused, begin-accepted, beginning, Stepped, step-refused, step-accepted, stepped, Releasing, release-refused, release-accepted, releasing}
+use Rattle.rules.proofs.Rules.RefusedExactly.{table-refused}
 use Rattle.rules.proofs.Frames.SeatFrames.{sound-room, other-seats-kept}
 use Rattle.rules.proofs.Frames.NodeFrames.{walking, waking, unless-held, fetching}
 use Rattle.rules.proofs.Frames.ClaimFrames.{others-claims-kept}
@@ -212,7 +216,16 @@ counts-kept t c right = elim (same-or-accepting (call-outcome t c)) [
       omega arith
 ]
 
+pub run-counts-kept : (t : Tables) (schedule : List ℕ) (budget : ℕ) → Counts t → Counts (run t schedule budget .after)
+run-counts-kept = run-keeps Counts counts-kept
+
+pub wrong-refused : (t : Tables) → (CountsRight t → ⊥) → (c : Call) → call t c ≡ done (refused 1) t
+wrong-refused t w c = table-refused t c 1 (damaged (wrong-damaged t w))
+
 -- ---- in fresh tables nobody holds
+pub fresh-words : (N S : ℕ) → (readers (fresh N S) ≡ 0) × (writers (fresh N S) ≡ 0)
+fresh-words N S = (fresh-top N S readersAt, fresh-top N S writersAt)
+
 fresh-counts : (N S : ℕ) → Counts (fresh N S)
 unfolding holdersOfKind
 fresh-counts N S k kd =

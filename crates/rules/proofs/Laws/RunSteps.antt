@@ -79,11 +79,13 @@ module _ (P : Tables → Type 0) (kept : (t : Tables) (c : Call) → P t → P (
   calls-keep [] t p = p
   calls-keep (c ∷ calls) t p = calls-keep calls (call t c .after) (kept t c p)
 
+  pub run-keeps : (t : Tables) (schedule : List ℕ) (budget : ℕ) → P t → P (run t schedule budget .after)
+  run-keeps t schedule budget p = rw (run-is-its-steps t schedule budget .tables-after) (calls-keep _ t p)
+
   pub reached-has : {N S : ℕ} {t : Tables} → P (fresh N S) → Reached N S t → P t
   reached-has p (cleared a b c d) = p
   reached-has p (asked {t} r (single c)) = kept t c (reached-has p r)
-  reached-has p (asked {t} r (running schedule budget)) =
-      rw (run-is-its-steps t schedule budget .tables-after) (calls-keep _ t (reached-has p r))
+  reached-has p (asked {t} r (running schedule budget)) = run-keeps t schedule budget (reached-has p r)
 
 pub calls-reached : {N S : ℕ} {t : Tables} → Reached N S t → (calls : List Call) → Reached N S (afterAll t calls)
 calls-reached {N} {S} {t} r calls = calls-keep (Reached N S) (λ u c q. asked q (single c)) calls t r
