@@ -4,6 +4,7 @@ use Prim.Native.Nat.{ℕ, _+_, _≤_, _<_}
 use mathlib.Core.Path.{_≡_}
 use mathlib.Core.Bool.{true, false}
 use mathlib.Core.List.{List}
+use mathlib.Core.Logic.{_≢_}
 use lib.ListN.{length}
 use Rattle.rules.specs.Tables.{Tables, readers, writers, countWord, seatCount, fresh}
 use Rattle.rules.specs.Shape.{sound}
@@ -53,6 +54,10 @@ stay-right t c w = laws.as-right (frames.counts-kept t c (laws.from-right w))
 
 pub run-stays-right : (t : Tables) (schedule : List ℕ) (budget : ℕ) → CountsRight t → CountsRight (run t schedule budget .after)
 run-stays-right t schedule budget w = laws.as-right (frames.run-counts-kept t schedule budget (laws.from-right w))
+
+-- so after a call they are right, unless it was refused as damaged
+pub right-unless-damaged : (t : Tables) (c : Call) → call t c .answer ≢ refused 1 → CountsRight (call t c .after)
+right-unless-damaged t c d = laws.as-right (frames.counts-unless-damaged t c d)
 
 -- ---- how they move: by the call's own seat alone, up where it comes to hold and down where it gives up what it held, each time by one. The sum
 -- and the difference are exact: a word is at most 64 before, and that of a holder's kind at least 1

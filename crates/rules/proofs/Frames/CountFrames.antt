@@ -24,7 +24,7 @@ use Rattle.rules.specs.Refusing.{damaged}
 use Rattle.rules.specs.Apart.{Holds, claimOfSeat, OtherSeatsKept, NodesKept, NoPlace}
 use Rattle.rules.specs.HowMany.{CountsRight, CountsMove, stay, one-more, one-less}
 use Rattle.rules.proofs.Ground.Logic.{branch}
-use Rattle.rules.proofs.Ground.Deciding.{if-same}
+use Rattle.rules.proofs.Ground.Deciding.{if-same, if-true}
 use Rattle.rules.proofs.Ground.Counting.{count-none, count-gap, count-change}
 use Rattle.rules.proofs.Laws.Words.{count-low, count-not-head, count-put-same, count-put-other, node-put-top, top-put-node, put-node-length, same-seat-count, fresh-top, fresh-seat-word}
 use Rattle.rules.proofs.Laws.Shape.{IsKind, Counts, is-sound}
@@ -221,6 +221,12 @@ run-counts-kept = run-keeps Counts counts-kept
 
 pub wrong-refused : (t : Tables) → (CountsRight t → ⊥) → (c : Call) → call t c ≡ done (refused 1) t
 wrong-refused t w c = table-refused t c 1 (damaged (wrong-damaged t w))
+
+pub counts-unless-damaged : (t : Tables) (c : Call) → call t c .answer ≢ refused 1 → Counts (call t c .after)
+counts-unless-damaged t c d =
+    if-true (sound t)
+    (λ e. counts-kept t c (is-sound t e .counts))
+    (λ e. absurd (d (ap (λ (x : Done Answer). x .answer) (table-refused t c 1 (damaged e)))))
 
 -- ---- in fresh tables nobody holds
 pub fresh-words : (N S : ℕ) → (readers (fresh N S) ≡ 0) × (writers (fresh N S) ≡ 0)
