@@ -12,8 +12,6 @@ use Rattle.rules.specs.Calls.{step}
 use Rattle.rules.specs.Run.{refusalOf, run}
 use Rattle.rules.specs.Reached.{Reached}
 use Rattle.rules.specs.Cause.{stepTimes, Cause, Settled, Told, RunEnds}
-use Rattle.rules.proofs.Keeping.CallKeeps.{good}
-use Rattle.rules.proofs.Soundness.SoundReached.{bounds}
 use Rattle.rules.proofs.Waiting.EveryWait.{wait-caused}
 use Rattle.rules.proofs.Waiting.StepsAlone.{settled-tells}
 use Rattle.rules.proofs.Waiting.NobodyWaits.{settled, none-or-8, settled-by-run, run-ends}

@@ -1,7 +1,7 @@
 -- A call changes no claim but that of the node it takes, and what it takes is no other seat's own: so every other seat keeps its claim. Of any
 -- tables, since a call on damaged ones changes nothing.
 use Prim.Native.Nat.{ℕ, _≤_, _<_}
-use mathlib.Core.Path.{_≡_, refl, sym, ap, _∙_}
+use mathlib.Core.Path.{_≡_, refl, sym, _∙_}
 use mathlib.Core.Bool.{true, _||_}
 use mathlib.Core.Logic.{_≢_}
 use native.Mathlib.Omega.{arith}
@@ -12,16 +12,16 @@ use Rattle.rules.specs.Tables.{Tables, nodeCount, seatCount, ownAt, phas
 use Rattle.rules.specs.Comparison.{Claim, claimOf}
 use Rattle.rules.specs.Shape.{sound}
 use Rattle.rules.specs.Reach.{met, listed, othersReach, free, lowestFree}
-use Rattle.rules.specs.Fetch.{Fetched, fetch, takenOut}
+use Rattle.rules.specs.Fetch.{Fetched, takenOut}
 use Rattle.rules.specs.Answers.{Answer, Done}
 use Rattle.rules.specs.Steps.{refetched}
-use Rattle.rules.specs.Calls.{begun, begin, step}
+use Rattle.rules.specs.Calls.{begun, step}
 use Rattle.rules.specs.Play.{Call, beginCall, stepCall, releaseCall, call, seatOf}
 use Rattle.rules.specs.Apart.{claimOfSeat}
 use Rattle.rules.proofs.Ground.Logic.{branch, or-neither, not-true, clash}
 use Rattle.rules.proofs.Ground.Deciding.{if-same}
 use Rattle.rules.proofs.Ground.Counting.{lowest-has}
-use Rattle.rules.proofs.Laws.Words.{seat-past, same-node-count, same-seat-count}
+use Rattle.rules.proofs.Laws.Words.{seat-past, same-node-count}
 use Rattle.rules.proofs.Laws.Shape.{is-sound}
 use Rattle.rules.proofs.Laws.NodesAlone.{taken-out-seats}
 use Rattle.rules.proofs.Laws.Listed.{met-here}

@@ -1,16 +1,16 @@
 -- How a call moves the two counts: who comes to hold adds one to the word of its kind, who is released takes one off, and nothing else changes
 -- them. Every other seat holds on with the claim it had, so where the words were right they stay right. Of any tables, reached or not: a call
 -- on damaged ones changes nothing.
-use Prim.Native.Nat.{ℕ, _+_, _-_, _*_, _≤_, _<_}
+use Prim.Native.Nat.{ℕ, _+_, _-_, _≤_, _<_}
 use mathlib.Core.Path.{_≡_, refl, sym, ap, _∙_}
-use mathlib.Core.Bool.{Bool, true, false, _&&_}
+use mathlib.Core.Bool.{Bool, true, false}
 use mathlib.Core.List.{List}
 use mathlib.Core.Logic.{_≢_, _⊎_, inl, inr}
 use native.Mathlib.Omega.{arith}
 use lib.ListN.{length}
 use borrow.Author.Tests.{eq-eqb, ne-eqb}
 use Rattle.rules.specs.Notation.{if_then_else_, _is_}
-use Rattle.rules.specs.Tables.{Tables, beforeNodes, nodeWidth, nodeCount, seatCount, phaseAt, ownAt, kindAt, markAt, readersAt, writersAt, readers, writers, countAt, countWord, phase, own, setMark, clearSeat, fresh}
+use Rattle.rules.specs.Tables.{Tables, beforeNodes, seatCount, phaseAt, ownAt, kindAt, markAt, readersAt, writersAt, readers, writers, countAt, countWord, phase, own, setMark, clearSeat, fresh}
 use Rattle.rules.specs.Comparison.{Claim}
 use Rattle.rules.specs.Shape.{holdsWith, holdersOfKind, sound}
 use Rattle.rules.specs.Fetch.{Fetched, writeClaim, takeNode, takenOut}
@@ -21,7 +21,7 @@ use Rattle.rules.specs.Play.{Call, beginCall, stepCall, releaseCall, cal
 use Rattle.rules.specs.Run.{run}
 use Rattle.rules.specs.Reached.{Reached}
 use Rattle.rules.specs.Refusing.{damaged}
-use Rattle.rules.specs.Apart.{Holds, claimOfSeat, OtherSeatsKept, NodesKept, NoPlace}
+use Rattle.rules.specs.Apart.{NodesKept, NoPlace}
 use Rattle.rules.specs.HowMany.{CountsRight, CountsMove, stay, one-more, one-less}
 use Rattle.rules.proofs.Ground.Logic.{branch}
 use Rattle.rules.proofs.Ground.Deciding.{if-same, if-true}

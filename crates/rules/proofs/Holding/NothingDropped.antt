@@ -5,7 +5,7 @@ use mathlib.Core.List.{List, [], _∷_}
 use mathlib.Core.Logic.{_≢_, _⊎_, inl, inr}
 use native.Mathlib.Omega.{arith}
 use borrow.Author.Tests.{ne-eqb, eqb-false}
-use Rattle.rules.specs.Tables.{Tables, phaseAt, ownAt, mark, next, phase, own, cur}
+use Rattle.rules.specs.Tables.{Tables, tables, phaseAt, ownAt, mark, next, phase, own, cur}
 use Rattle.rules.specs.Comparison.{Claim, claimOf}
 use Rattle.rules.specs.Answers.{Answer, back, Done, answered}
 use Rattle.rules.specs.Steps.{withdraw}
@@ -36,9 +36,9 @@ data Retained (s : ℕ) (t : Tables) (d : Done Answer) : Type 0 where
   still-linked : Linked (phase (d .after) s) → own (d .after) s ≡ own t s → Retained s t d
   told-back : d .answer ≡ back → Retained s t d
 
-stored-linked : {t u : Tables} {s : ℕ} {words : ℕ → ℕ} → Seated (t .seats) (u .seats) s words → Linked (words phaseAt)
-    → words ownAt ≡ own t s → Retained s t (answered u s)
-stored-linked {t} {u} {s} w l e = still-linked (rw (w .at-s phaseAt (omega arith)) l) (w .at-s ownAt (omega arith) ∙ e)
+stored-linked : {t : Tables} {nodes seats : List ℕ} {s : ℕ} {words : ℕ → ℕ} → Seated (t .seats) seats s words → Linked (words phaseAt)
+    → words ownAt ≡ own t s → Retained s t (answered (tables nodes seats) s)
+stored-linked w l e = still-linked (rw (w .at-s phaseAt (omega arith)) l) (w .at-s ownAt (omega arith) ∙ e)
 
 module _ {N S : ℕ} {t : Tables} (g : Good N S t) (s : ℕ) (s-in : s < S) (l : Linked (phase t s)) where
   abbrev r : Room t s

@@ -1,12 +1,11 @@
 -- Good tables: the invariant, and what is known beside the view. Each rule of a step that fetches nothing leaves good tables good, and
 -- so does release.
-use Prim.Native.Nat.{ℕ, _+_, _*_, _≤_, _<_}
-use mathlib.Core.Path.{_≡_, sym, subst, subst₂, _∙_}
+use Prim.Native.Nat.{ℕ, _≤_, _<_}
+use mathlib.Core.Path.{_≡_, sym, subst, _∙_}
 use mathlib.Core.List.{List}
 use mathlib.Core.Logic.{_≢_, _⊎_, inl, inr}
 use native.Mathlib.Omega.{arith}
-use lib.ListN.{length}
-use Rattle.rules.specs.Tables.{Tables, tables, beforeNodes, nodeWidth, markAt, nextAt, phaseAt, ownAt, prevAt, curAt, nodeWord, putLink, mark, link, next, phase, own, prev, cur, setCount, setLink, setMark}
+use Rattle.rules.specs.Tables.{Tables, tables, nodeWidth, markAt, nextAt, phaseAt, ownAt, prevAt, curAt, nodeWord, putLink, mark, link, next, phase, own, prev, cur, setCount, setLink, setMark}
 use Rattle.rules.specs.Comparison.{claimOf}
 use Rattle.rules.specs.Steps.{linkIn}
 use Rattle.rules.proofs.Laws.Words.{link-put-same, link-put-other, link-put-field, node-put-link, node-put-same, node-put-field, node-put-node, put-link-length}

@@ -8,8 +8,8 @@ use mathlib.Core.Logic.{_≢_, inl, inr}
 use native.Mathlib.Omega.{arith}
 use lib.ListN.{length, length-append}
 use borrow.Author.Tests.{eq-eqb, eqb-true}
-use Rattle.rules.specs.Notation.{if_then_else_, _is_, count}
-use Rattle.rules.specs.Tables.{Tables, readersAt, writersAt, topWord, readers, writers, countAt, countWord, seatCount, phase, own}
+use Rattle.rules.specs.Notation.{_is_, count}
+use Rattle.rules.specs.Tables.{Tables, topWord, readers, writers, countAt, countWord, seatCount, phase}
 use Rattle.rules.specs.Shape.{holdsWith, holdersOfKind, sound}
 use Rattle.rules.specs.Steps.{kindOf}
 use Rattle.rules.specs.Board.{rowOf, rowsBelow, holders}

@@ -9,8 +9,8 @@ use native.Mathlib.Omega.{arith}
 use native.Mathlib.Decide.{decLt}
 use lib.ListN.{getD, set, length, length-set, length-replicate, getD-replicate, List·getD-eq-default}
 use lib.Seq.{ext-getD, set-getD, getD-set-same, getD-set-other}
-use Rattle.rules.specs.Tables.{Tables, headAt, readersAt, writersAt, countAt, countWord, setCount, beforeNodes, nodeWidth, seatWidth, nextAt, topWord, putTop, nodeWord, putNode, linkWord, putLink, seatWord, putSeat, nodeCountOf, seatCountOf, nodeCount, seatCount, zeros, fresh}
-use Rattle.rules.specs.Notation.{if_then_else_, _is_}
+use Rattle.rules.specs.Tables.{Tables, headAt, countAt, countWord, setCount, beforeNodes, nodeWidth, seatWidth, nextAt, topWord, putTop, nodeWord, putNode, linkWord, putLink, seatWord, putSeat, nodeCountOf, seatCountOf, nodeCount, seatCount, zeros, fresh}
+use Rattle.rules.specs.Notation.{_is_}
 use Rattle.rules.proofs.Ground.Deciding.{if-same}
 use Rattle.rules.proofs.Ground.Logic.{branch}
 

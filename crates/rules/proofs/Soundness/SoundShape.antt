@@ -1,16 +1,15 @@
 -- Sound shape in the theory's words: what the invariant says of the nodes and of each seat alone, and that the list ends. The changes
 -- that keep it: a seat moves; a node is passed over, marked, or written anew. Tables that pass the test `sound` have it.
-use Prim.Native.Nat.{ℕ, zero, suc, _+_, _*_, _≤_, _<_}
+use Prim.Native.Nat.{ℕ, zero, suc, _≤_, _<_}
 use mathlib.Core.Path.{_≡_, sym, ap, _∙_, subst}
 use mathlib.Core.Bool.{true}
 use mathlib.Core.List.{List}
 use mathlib.Core.Logic.{_≢_, _⊎_, inl, inr}
 use native.Mathlib.Omega.{arith}
 use native.Mathlib.Decide.{decLt}
-use lib.ListN.{length}
 use borrow.Author.Tests.{eqb-true}
 use Rattle.rules.specs.Notation.{_is_}
-use Rattle.rules.specs.Tables.{Tables, tables, beforeNodes, nodeWidth, nodeCount, seatCount, startAt, endAt, kindAt, markAt, phaseAt, ownAt, prevAt, curAt, mark, link, next, head, setCount, setLink, setMark}
+use Rattle.rules.specs.Tables.{Tables, tables, nodeCount, seatCount, startAt, endAt, kindAt, markAt, phaseAt, ownAt, prevAt, curAt, mark, link, next, head, setCount, setLink, setMark}
 use Rattle.rules.specs.Comparison.{Claim, claimOf}
 use Rattle.rules.specs.Shape.{endsWithin}
 use Rattle.rules.specs.Fetch.{writeClaim}

@@ -12,12 +12,10 @@ use Rattle.rules.specs.Fetch.{Fetched, takenOut, writeClaim, enterAtHead
 use Rattle.rules.specs.Steps.{refetched}
 use Rattle.rules.specs.Calls.{step}
 use Rattle.rules.specs.Reached.{Reached}
-use Rattle.rules.proofs.Invariant.Known.{own-proper}
 use Rattle.rules.proofs.Rules.Effects.{Room}
 use Rattle.rules.proofs.Rules.RuleEffects.{enter-stored}
 use Rattle.rules.proofs.Rules.Reasons.{Fetching, found, found-then, none, fetching, by-phase-6}
 use Rattle.rules.proofs.Laws.NodesAlone.{taken-out-seats}
-use Rattle.rules.proofs.Keeping.FetchKeeps.{fetch-keeps}
 use Rattle.rules.proofs.Keeping.Aside.{seat-room}
 use Rattle.rules.proofs.Keeping.CallKeeps.{good}
 use Rattle.rules.proofs.Waiting.Alone.{AtRest, rests-refused, step-reached, accepted}
