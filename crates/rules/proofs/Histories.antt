@@ -137,7 +137,7 @@ covered-once = (refl, refl, refl, refl)
 
 -- ---- 02 (ii): the readers and writers that hold, readers first, after each call. Two readers come to hold, one of them is stepped again and counts
 -- once, both are released; the writer that waited for them counts from its `held` to its `out`. Of H2's writers both hold, and then one is
--- released. In H9 the writer that links itself in and goes back never counts
+-- released. In H9, here beside a writer of 100..110 that holds, the writer that links itself in and goes back never counts
 abbrev holding : Tables → List Call → List (ℕ × ℕ)
 holding t calls = map (λ (turn : Turn). (readers (turn .did .after), writers (turn .did .after))) (trace t calls)
 
@@ -152,8 +152,8 @@ KnownAtOnce =
     ≡ (2, 0) ∷ (2, 0) ∷ (1, 0) ∷ (0, 0) ∷ (0, 0) ∷ (0, 0) ∷ (0, 0) ∷ (0, 0) ∷ (0, 1) ∷ (0, 0) ∷ [])
     × (holding (fresh 4 4) H2calls ≡ (0, 0) ∷ (0, 0) ∷ (0, 1) ∷ (0, 1) ∷ (0, 1) ∷ (0, 1) ∷ (0, 1) ∷ (0, 2) ∷ [])
     × (holding (afterAll (fresh 4 4) H2calls) (r 0 ∷ []) ≡ (0, 1) ∷ [])
-    × (holding H9start H9calls
-    ≡ (2, 0) ∷ (2, 0) ∷ (2, 0) ∷ (2, 0) ∷ (2, 0) ∷ (2, 0) ∷ (2, 0) ∷ (2, 0) ∷ (2, 0) ∷ (2, 0) ∷ (2, 0) ∷ (3, 0) ∷ [])
+    × (holding (afterAll (fresh 8 5) (b 4 100 110 2 ∷ s 4 ∷ s 4 ∷ H9begun)) H9calls
+    ≡ (2, 1) ∷ (2, 1) ∷ (2, 1) ∷ (2, 1) ∷ (2, 1) ∷ (2, 1) ∷ (2, 1) ∷ (2, 1) ∷ (2, 1) ∷ (2, 1) ∷ (2, 1) ∷ (3, 1) ∷ [])
 
 pub known-at-once : KnownAtOnce
 unfolding rules

@@ -125,15 +125,15 @@ module _ (t : Tables) (s : ℕ) (a : Accepting t s) where
   unfolding hold
   same-kind =
       rw (hold-stored t s room .at-s ownAt (omega arith))
-      (node-put-top (t .nodes) (countAt (kindOf t s)) (own t s) kindAt (countWord t (kindOf t s) + 1) (count-low (kindOf t s)))
+      (node-put-top (t .nodes) _ (own t s) kindAt _ (count-low (kindOf t s)))
 
   hold-counts : countWord (hold t s) (kindOf t s) ≡ countWord t (kindOf t s) + 1
   unfolding hold
-  hold-counts = count-put-same (moveTo t s 5 0 0) (kindOf t s) (countWord t (kindOf t s) + 1) long
+  hold-counts = count-put-same (moveTo t s 5 0 0) (kindOf t s) _ long
 
   hold-counts-alone : (k : ℕ) → countAt k ≢ countAt (kindOf t s) → countWord (hold t s) k ≡ countWord t k
   unfolding hold
-  hold-counts-alone k d = count-put-other (moveTo t s 5 0 0) (kindOf t s) k (countWord t (kindOf t s) + 1) d
+  hold-counts-alone k d = count-put-other (moveTo t s 5 0 0) (kindOf t s) k _ d
 
   idle-then : phase (leave t s) s ≢ 5
   idle-then = rw (leave-stored t s room .at-s phaseAt (omega arith)) (omega arith)
@@ -141,13 +141,13 @@ module _ (t : Tables) (s : ℕ) (a : Accepting t s) where
   leave-counts : countWord (leave t s) (kindOf t s) ≡ countWord t (kindOf t s) - 1
   unfolding leave
   leave-counts =
-      count-put-same (clearSeat (setMark t (own t s) 1) s) (kindOf t s) (countWord t (kindOf t s) - 1)
+      count-put-same (clearSeat (setMark t (own t s) 1) s) (kindOf t s) _
       (rw (put-node-length (t .nodes) (own t s) markAt 1) long)
 
   leave-counts-alone : (k : ℕ) → countAt k ≢ countAt (kindOf t s) → countWord (leave t s) k ≡ countWord t k
   unfolding leave
   leave-counts-alone k d =
-      count-put-other (clearSeat (setMark t (own t s) 1) s) (kindOf t s) k (countWord t (kindOf t s) - 1) d
+      count-put-other (clearSeat (setMark t (own t s) 1) s) (kindOf t s) k _ d
       ∙ top-put-node (t .nodes) (countAt k) (own t s) markAt 1 (count-low k)
 
 -- ---- so the words move as the call's own seat does

@@ -1,5 +1,5 @@
 -- What each call leaves of the nodes. Over any tables.
-use Prim.Native.Nat.{ℕ, zero, suc, _+_, _-_, _<_}
+use Prim.Native.Nat.{ℕ, zero, suc, _<_}
 use mathlib.Core.Path.{_≡_, refl, sym, ap, _∙_}
 use mathlib.Core.Bool.{true, false}
 use mathlib.Core.List.{List, [], _∷_}
@@ -7,7 +7,7 @@ use mathlib.Core.Logic.{_≢_, _⊎_, inl, inr}
 use native.Mathlib.Omega.{arith}
 use borrow.Author.Tests.{eqb-false, eq-eqb}
 use Rattle.rules.specs.Notation.{_is_}
-use Rattle.rules.specs.Tables.{Tables, tables, countAt, countWord, nodeWidth, nodeCount, startAt, endAt, kindAt, markAt, nextAt, ownAt, nodeWord, marked, next, head, phase, own, prev, cur, setCount, setNode, setLink, setMark, clearSeat}
+use Rattle.rules.specs.Tables.{Tables, tables, countAt, nodeWidth, nodeCount, startAt, endAt, kindAt, markAt, nextAt, ownAt, nodeWord, marked, next, head, phase, own, prev, cur, setCount, setNode, setLink, setMark, clearSeat}
 use Rattle.rules.specs.Comparison.{Claim, claimOf}
 use Rattle.rules.specs.Reach.{met, listed}
 use Rattle.rules.specs.Fetch.{Fetched, fetch, keptFrom, kept, linkThrough, takenOut, writeClaim, enterAtHead, takeNode}
@@ -167,7 +167,7 @@ module _ (t : Tables) (s : ℕ) where
 
   holding : NodesKept NoNode NoNode NoNode (OwnCount t s) t (hold t s)
   unfolding hold
-  holding = kept-then {u = moveTo t s 5 0 0} only-seats (count-kept (moveTo t s 5 0 0) (kindOf t s) (countWord t (kindOf t s) + 1))
+  holding = kept-then {u = moveTo t s 5 0 0} only-seats (count-kept (moveTo t s 5 0 0) (kindOf t s) _)
 
   validating : {u : Tables} → Validating t s u → NodesKept (Prev t s) (Own t s) NoNode (OwnCount t s) t u
   validating w = elim (unless-held w) [
@@ -182,7 +182,7 @@ module _ (t : Tables) (s : ℕ) where
       let u = clearSeat (setMark t (own t s) 1) s in
       kept-then {u = u}
       (seats-aside (kept-but (λ a x. x) (λ a x. x) (λ a x. x) (λ i x. absurd x) (mark-kept t (own t s) 1)))
-      (kept-but (λ a x. x) (λ a x. absurd x) (λ a x. x) (λ i x. x) (count-kept u (kindOf t s) (countWord t (kindOf t s) - 1)))
+      (kept-but (λ a x. x) (λ a x. absurd x) (λ a x. x) (λ i x. x) (count-kept u (kindOf t s) _))
 
 -- ---- fetch: the node taken and, where the marked ones are taken out first, the links of the head and of the claims that stand
 module _ (t : Tables) (a : ℕ) (c : Claim) where

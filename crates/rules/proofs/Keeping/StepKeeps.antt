@@ -1,9 +1,9 @@
 -- Every rule of a step that fetches nothing, and release, leave good tables good: by clauses on why the step did what it did.
-use Prim.Native.Nat.{ℕ, _+_, _-_, _<_}
+use Prim.Native.Nat.{ℕ, _<_}
 use mathlib.Core.Path.{_≡_, refl, sym, _∙_, ap}
 use mathlib.Core.Logic.{_≢_, _⊎_, inl, inr}
 use native.Mathlib.Omega.{arith}
-use Rattle.rules.specs.Tables.{Tables, markAt, kindAt, countWord, kind, mark, link, next, head, phase, own, prev, cur, setLink, setPhase, setCur}
+use Rattle.rules.specs.Tables.{Tables, markAt, kindAt, kind, mark, link, next, head, phase, own, prev, cur, setLink, setPhase, setCur}
 use Rattle.rules.specs.Comparison.{claimOf}
 use Rattle.rules.specs.Steps.{linkIn, pass, kindOf, hold, withdraw, leave}
 use Rattle.rules.proofs.Ground.Deciding.{if-same}
@@ -46,7 +46,7 @@ module _ {N S : ℕ} {t : Tables} (g : Good N S t) (s : ℕ) (s-in : s < S) wher
 
   hold-good : (Moved (seatsOf t) (seatsOf (hold t s)) s 5 0 0 → Invariant N (nodesOf t) (seatsOf (hold t s))) → Good N S (hold t s)
   unfolding hold
-  hold-good f = counts-on (moves g (hold-stored t s r) (not-idle (omega arith)) f) (kindOf t s) (countWord t (kindOf t s) + 1)
+  hold-good f = counts-on (moves g (hold-stored t s r) (not-idle (omega arith)) f) (kindOf t s) _
 
   own-writes : phase t s ≢ 0 → kind t (own t s) ≢ 1 → kind t (own t s) ≡ 2
   own-writes b k = elim (own-proper (g .inv) s b .reads-or-writes) [ inl q ↦ absurd (k q) | inr q ↦ q ]
@@ -120,5 +120,4 @@ module _ {N S : ℕ} {t : Tables} (g : Good N S t) (s : ℕ) (s-in : s < S) wher
   -- ---- release
   pub leave-keeps : phase t s ≡ 5 → Good N S (leave t s)
   unfolding leave
-  leave-keeps e =
-      counts-on (leaves-good g s (holding e) (leave-stored t s r) all-zero refl refl (leaving.releases refl refl)) (kindOf t s) (countWord t (kindOf t s) - 1)
+  leave-keeps e = counts-on (leaves-good g s (holding e) (leave-stored t s r) all-zero refl refl (leaving.releases refl refl)) (kindOf t s) _

@@ -1,13 +1,13 @@
 -- A step keeps sound shape in any sound tables, reached or not, and so do begin and release. Only the step that links own in can break
 -- a clause, and only the last one: in tables that no calls have made, own may be on the list already.
-use Prim.Native.Nat.{ℕ, _+_, _-_, _*_, _≤_, _<_}
+use Prim.Native.Nat.{ℕ, _+_, _*_, _≤_, _<_}
 use mathlib.Core.Path.{_≡_, refl, sym, _∙_, subst}
 use mathlib.Core.Bool.{true, _||_}
 use mathlib.Core.Logic.{_≢_, _⊎_, inl, inr}
 use native.Mathlib.Omega.{arith}
 use lib.ListN.{length}
 use Rattle.rules.specs.Notation.{_is_}
-use Rattle.rules.specs.Tables.{Tables, beforeNodes, nodeWidth, putLink, countWord, nodeCount, seatCount, phaseAt, link, next, head, phase, own, prev, cur, setLink, setMark, setPhase, setPrev, setCur}
+use Rattle.rules.specs.Tables.{Tables, beforeNodes, nodeWidth, putLink, nodeCount, seatCount, phaseAt, link, next, head, phase, own, prev, cur, setLink, setMark, setPhase, setPrev, setCur}
 use Rattle.rules.specs.Comparison.{Claim, claimOf}
 use Rattle.rules.specs.Shape.{endsWithin, sound}
 use Rattle.rules.specs.Reach.{met, listed, othersReach, free, lowestFree, Reach, there}
@@ -169,9 +169,7 @@ module _ {N S : ℕ} {t : Tables} (g : Shaped N S t) (s : ℕ) (s-in : s < S) (b
 
   hold-shaped : Shaped N S (hold t s)
   unfolding hold
-  hold-shaped =
-      count-put (seat-moves g (hold-stored t s room) (not-idle (omega arith)) (resting-seat (inl refl) own-pos (shape .own-named)))
-      (kindOf t s) (countWord t (kindOf t s) + 1)
+  hold-shaped = count-put (seat-moves g (hold-stored t s room) (not-idle (omega arith)) (resting-seat (inl refl) own-pos (shape .own-named))) (kindOf t s) _
 
   own-marked : Shaped N S (setMark t (own t s) 1)
   own-marked = claim-marked g (own t s) (let o = own-pos in omega arith) (named-in (shape .own-named)) own-proper
@@ -182,7 +180,7 @@ module _ {N S : ℕ} {t : Tables} (g : Shaped N S t) (s : ℕ) (s-in : s < S) (b
 
   leave-shaped : Shaped N S (leave t s)
   unfolding leave
-  leave-shaped = count-put (seat-moves own-marked (leave-stored t s room) all-zero (idle-seat refl)) (kindOf t s) (countWord t (kindOf t s) - 1)
+  leave-shaped = count-put (seat-moves own-marked (leave-stored t s room) all-zero (idle-seat refl)) (kindOf t s) _
 
 module _ {N S : ℕ} {t : Tables} (g : Shaped N S t) (s : ℕ) (s-in : s < S) (busy : phase t s ≢ 0) where
   unlinking-shaped : {u : Tables} → OnFoot (phase t s) → cur t s ≢ 0 → Unlinking t s u → Shaped N S u
