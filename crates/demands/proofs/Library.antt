@@ -6,24 +6,26 @@ use mathlib.Core.Bool.{true}
 use mathlib.Core.List.{List}
 use mathlib.Core.Logic.{_≢_, _⊎_}
 use lib.ListN.{length, replicate}
-use Rattle.rules.specs.Tables.{Tables, start, phase, own}
+use Rattle.rules.specs.Tables.{Tables, readers, writers, start, phase, own}
 use Rattle.rules.specs.Shape.{sound}
 use Rattle.rules.specs.Reach.{listOf}
 use Rattle.rules.specs.Answers.{Answer, wait, refused, Done, done}
 use Rattle.rules.specs.FreeCount.{Counted}
 use Rattle.rules.specs.Board.{Boarded, Shown, rowWidth, holders, coveredBy}
-use Rattle.rules.specs.Play.{Call, stepCall, call}
+use Rattle.rules.specs.Play.{Call, stepCall, call, seatOf}
 use Rattle.rules.specs.Reached.{Request}
 use Rattle.rules.specs.Run.{ran}
 use Rattle.rules.specs.Refusing.{Refuses, ClearRefuses, DamageRefuses, BoardRefuses}
 use Rattle.rules.specs.Apart.{Covers, claimOfSeat, Holds, LinkedIn, Stands, OfOneSeat, Rising, IsItsSteps, Stops, GivenUp, callsMade, StillStands}
 use Rattle.rules.specs.Cause.{Cause, Settled, Told}
 use Rattle.rules.specs.Covered.{addedUp, In32Bits}
+use Rattle.rules.specs.HowMany.{CountsRight, CountsMove}
 use Rattle.rules.specs.declared.Ran.{Ran}
 use Rattle.rules.proofs.Refusing as refusing
 use Rattle.rules.proofs.Apart as apart
 use Rattle.rules.proofs.Cause as cause
 use Rattle.rules.proofs.Covered as covers
+use Rattle.rules.proofs.HowMany as many
 use Rattle.demands.proofs.Made.{ClearMade, CallMade, RunMade, CountMade, BoardMade, RequestsMade, StepsMade, Lent}
 use Rattle.demands.proofs.MadeByRules.{made-clear, made-call, made-run, made-count, made-board, made-requests, made-steps, count-not-1, board-not-1, lent-reached}
 
@@ -79,6 +81,20 @@ pub board-fits : {t : Tables} {rows after : List ℕ} {n covered : ℕ} → In32
     → covered ≤ 4294967295
 board-fits {t} words m = rw (board-covers m .1) (covers.fits t words)
 
+-- ---- the two counts, of any tables: after a call that was not refused as damaged each word is the number of seats that hold with its kind,
+-- and the call moved them by its own seat alone
+pub counts-right : {t u : Tables} {c : Call} {a : Answer} → CallMade t c a u → a ≢ refused 1 → CountsRight u
+counts-right {t} {c = c} m d =
+    let e = made-call m in
+    rw (ap (λ (x : Done Answer). x .after) e) (many.right-unless-damaged t c (λ q. d (ap (λ (x : Done Answer). x .answer) e ∙ q)))
+
+pub counts-move : {t u : Tables} {c : Call} {a : Answer} → CallMade t c a u → CountsMove (seatOf c) t u
+counts-move {t} {c = c} m = rw (ap (λ (x : Done Answer). x .after) (made-call m)) (many.by-its-own-seat t c)
+
+pub run-counts-right : {t u : Tables} {schedule : List ℕ} {budget : ℕ} {r : Ran} → sound t ≡ true → RunMade t schedule budget r u → CountsRight u
+run-counts-right {t} {schedule = schedule} {budget} e m =
+    rw (ap (λ (d : Done Ran). d .after) (made-run m)) (many.run-stays-right t schedule budget (many.right-if-sound t e))
+
 -- ---- demand 2, of tables that the library cleared and that only its calls have changed since
 module _ {N S : ℕ} {t : Tables} (l : Lent N S t) where
   -- two holders share a frame only if both read
@@ -120,6 +136,13 @@ module _ {N S : ℕ} {t : Tables} (l : Lent N S t) where
 
   pub board-never-damaged : {rows after : List ℕ} {a : Boarded} → BoardMade t rows a after → a ≢ Boarded.refused 1
   board-never-damaged = board-not-1 always-sound
+
+  -- the display's two words are the counts over the seats, and together the rows of every board
+  pub always-right : CountsRight t
+  always-right = many.always-right (lent-reached l)
+
+  pub counts-are-rows : {rows after : List ℕ} {n covered : ℕ} → BoardMade t rows (Boarded.filled n covered) after → readers t + writers t ≡ n
+  counts-are-rows m = many.all-holders t always-sound ∙ sym (board-covers m .0)
 
   -- where all holders write, covered is what 01 had: the sum over the rows
   pub writers-covered : {rows after : List ℕ} {n covered : ℕ} → ((s : ℕ) → Holds t s → claimOfSeat t s .kind ≡ 2) → BoardMade t rows (Boarded.filled n covered) after

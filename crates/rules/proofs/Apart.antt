@@ -6,11 +6,12 @@ use mathlib.Core.Path.{_≡_}
 use mathlib.Core.Bool.{true}
 use mathlib.Core.List.{List}
 use mathlib.Core.Logic.{_≢_, _⊎_}
-use Rattle.rules.specs.Tables.{Tables, start, phase, own, prev}
+use Rattle.rules.specs.Tables.{Tables, countAt, start, phase, own, prev}
 use Rattle.rules.specs.Comparison.{Claim, claimOf}
 use Rattle.rules.specs.Shape.{sound}
 use Rattle.rules.specs.Reach.{listOf}
 use Rattle.rules.specs.Answers.{refused}
+use Rattle.rules.specs.Steps.{kindOf}
 use Rattle.rules.specs.Calls.{begin, step, release}
 use Rattle.rules.specs.Run.{run}
 use Rattle.rules.specs.Play.{Call, call, afterAll, seatOf}
@@ -95,8 +96,8 @@ touches-one-seat = other-seats-kept
 pub begin-touches : (t : Tables) (s : ℕ) (c : Claim) → FetchKept s t (begin t s c .after)
 begin-touches = begin-kept
 
--- release, the mark of own
-pub release-touches : (t : Tables) (s : ℕ) → NodesKept NoNode (λ a. a ≡ own t s) NoNode NoPlace t (release t s .after)
+-- release, the mark of own and the count of its kind
+pub release-touches : (t : Tables) (s : ℕ) → NodesKept NoNode (λ a. a ≡ own t s) NoNode (λ i. i ≡ countAt (kindOf t s)) t (release t s .after)
 release-touches = release-kept
 
 -- a step, by its phase: the links of own and prev, where the claim is linked in or a marked node is unlinked
@@ -106,8 +107,9 @@ walking-touches = step-1-kept
 pub waiting-touches : (t : Tables) (s : ℕ) → phase t s ≡ 2 → NodesKept NoNode NoNode NoNode NoPlace t (step t s .after)
 waiting-touches = step-2-kept
 
--- the link of prev, where a marked node is unlinked, and the mark of own, where the claim is withdrawn
-pub validating-touches : (t : Tables) (s : ℕ) → phase t s ≡ 3 → NodesKept (λ a. a ≡ prev t s) (λ a. a ≡ own t s) NoNode NoPlace t (step t s .after)
+-- the link of prev, where a marked node is unlinked; the mark of own, where the claim is withdrawn; the count of its kind, where it comes to hold
+pub validating-touches : (t : Tables) (s : ℕ) → phase t s ≡ 3
+    → NodesKept (λ a. a ≡ prev t s) (λ a. a ≡ own t s) NoNode (λ i. i ≡ countAt (kindOf t s)) t (step t s .after)
 validating-touches = step-3-kept
 
 pub reader-waiting-touches : (t : Tables) (s : ℕ) → phase t s ≡ 4 → NodesKept NoNode NoNode NoNode NoPlace t (step t s .after)
@@ -123,7 +125,6 @@ withdrawn-touches = step-6-kept
 pub claims-kept : (t : Tables) (c : Call) (a : ℕ) → a ≢ own (call t c .after) (seatOf c) → claimOf (call t c .after) a ≡ claimOf t a
 claims-kept = frames.claims-kept
 
--- so on a table that is reached every other seat keeps its claim
-pub others-keep-claims : {N S : ℕ} {t : Tables} → Reached N S t → (c : Call) (r : ℕ) → r ≢ seatOf c
-    → claimOfSeat (call t c .after) r ≡ claimOfSeat t r
-others-keep-claims r = frames.others-claims-kept (good r)
+-- and that is no other seat's own, so every other seat keeps its claim
+pub others-keep-claims : (t : Tables) (c : Call) (r : ℕ) → r ≢ seatOf c → claimOfSeat (call t c .after) r ≡ claimOfSeat t r
+others-keep-claims = frames.others-claims-kept

@@ -12,15 +12,13 @@ use Rattle.rules.specs.Calls.{step}
 use Rattle.rules.specs.Run.{refusalOf, run}
 use Rattle.rules.specs.Reached.{Reached}
 use Rattle.rules.specs.Cause.{stepTimes, Cause, Settled, Told, RunEnds}
-use Rattle.rules.proofs.Keeping.CallKeeps.{good}
-use Rattle.rules.proofs.Soundness.SoundReached.{bounds}
 use Rattle.rules.proofs.Waiting.EveryWait.{wait-caused}
 use Rattle.rules.proofs.Waiting.StepsAlone.{settled-tells}
 use Rattle.rules.proofs.Waiting.NobodyWaits.{settled, none-or-8, settled-by-run, run-ends}
 
 -- ---- whenever a step answers `wait n`, the claim at n is the cause, in the tables that the step leaves
 pub every-wait-has-its-cause : {N S : ℕ} {t : Tables} → Reached N S t → (s n : ℕ) → step t s .answer ≡ wait n → Cause (step t s .after) s n
-every-wait-has-its-cause r = wait-caused (bounds r) (good r)
+every-wait-has-its-cause r = wait-caused r
 
 -- ---- 6·N + 8 steps of one seat settle its claim
 pub nobody-waits-without-cause : {N S : ℕ} {t : Tables} → Reached N S t → (s : ℕ) → phase t s ≢ 0 → Settled (stepTimes (6 * N + 8) t s) s

@@ -1,9 +1,9 @@
 -- The small histories of document 01, H1 to H11, as one statement over the group, proved by computing with the rules; beside them the
--- example of request (i) of document 02, and two of our own, for the faults that H1 to H11 do not tell apart.
+-- examples of requests (i) and (ii) of document 02, and two of our own, for the faults that H1 to H11 do not tell apart.
 use Prim.Native.Nat.{ℕ}
 use mathlib.Core.Path.{_≡_, refl}
 use mathlib.Core.List.{List, [], _∷_, map}
-use Rattle.rules.specs.Tables.{Tables, fresh, head, own}
+use Rattle.rules.specs.Tables.{Tables, fresh, readers, writers, head, own}
 use Rattle.rules.specs.Comparison.{claim}
 use Rattle.rules.specs.Reach.{listOf}
 use Rattle.rules.specs.Answers.{Answer, node, out, on, wait, held, back, refused}
@@ -134,6 +134,30 @@ CoveredOnce =
 pub covered-once : CoveredOnce
 unfolding rules
 covered-once = (refl, refl, refl, refl)
+
+-- ---- 02 (ii): the readers and writers that hold, readers first, after each call. Two readers come to hold, one of them is stepped again and counts
+-- once, both are released; the writer that waited for them counts from its `held` to its `out`. Of H2's writers both hold, and then one is
+-- released. In H9 the writer that links itself in and goes back never counts
+abbrev holding : Tables → List Call → List (ℕ × ℕ)
+holding t calls = map (λ (turn : Turn). (readers (turn .did .after), writers (turn .did .after))) (trace t calls)
+
+abbrev readersCalls : List Call
+readersCalls = b 0 0 9 1 ∷ s 0 ∷ s 0 ∷ s 0 ∷ b 1 0 9 1 ∷ s 1 ∷ s 1 ∷ s 1 ∷ []
+
+abbrev pub KnownAtOnce : Type 0
+KnownAtOnce =
+    (holding (fresh 4 3) readersCalls
+    ≡ (0, 0) ∷ (0, 0) ∷ (1, 0) ∷ (1, 0) ∷ (1, 0) ∷ (1, 0) ∷ (1, 0) ∷ (2, 0) ∷ [])
+    × (holding (afterAll (fresh 4 3) readersCalls) (b 2 5 7 2 ∷ s 2 ∷ r 0 ∷ r 1 ∷ s 2 ∷ s 2 ∷ s 2 ∷ s 2 ∷ s 2 ∷ r 2 ∷ [])
+    ≡ (2, 0) ∷ (2, 0) ∷ (1, 0) ∷ (0, 0) ∷ (0, 0) ∷ (0, 0) ∷ (0, 0) ∷ (0, 0) ∷ (0, 1) ∷ (0, 0) ∷ [])
+    × (holding (fresh 4 4) H2calls ≡ (0, 0) ∷ (0, 0) ∷ (0, 1) ∷ (0, 1) ∷ (0, 1) ∷ (0, 1) ∷ (0, 1) ∷ (0, 2) ∷ [])
+    × (holding (afterAll (fresh 4 4) H2calls) (r 0 ∷ []) ≡ (0, 1) ∷ [])
+    × (holding H9start H9calls
+    ≡ (2, 0) ∷ (2, 0) ∷ (2, 0) ∷ (2, 0) ∷ (2, 0) ∷ (2, 0) ∷ (2, 0) ∷ (2, 0) ∷ (2, 0) ∷ (2, 0) ∷ (2, 0) ∷ (3, 0) ∷ [])
+
+pub known-at-once : KnownAtOnce
+unfolding rules
+known-at-once = (refl, refl, refl, refl, refl)
 
 -- ---- ours: seat 2 waits at node 1, and nodes 1 and 2 are released. Taken out, node 2 is at no seat's own, prev or cur; but
 -- seat 2 still reaches it through node 1, so it is not free

@@ -5,13 +5,14 @@ pub mod Refusing
 pub mod Apart
 pub mod Cause
 pub mod Covered
+pub mod HowMany
 -- The rooms behind it, in the order in which they may use each other; the first line of each says what it proves.
 pub mod Ground
 pub mod Laws
 pub mod Invariant
 pub mod Rules
+pub mod Frames
 pub mod Keeping
 pub mod Soundness
-pub mod Frames
 pub mod Holding
 pub mod Waiting

@@ -57,7 +57,7 @@ pub record OtherSeatsKept (s : ℕ) (t u : Tables) : Type 0 where
   pub same-length : length (u .seats) ≡ length (t .seats)
 
 -- u has every word of the nodes from t, but for the links of these nodes (0: the head), the marks of these, the claims of these, and the
--- words at these places before node 1, where beside the head no word stands yet
+-- words at these places before node 1, the head's apart
 pub record NodesKept (links marks claims places : ℕ → Type 0) (t u : Tables) : Type 0 where
   pub link-of : (a : ℕ) → (links a → ⊥) → link u a ≡ link t a
   pub mark-of : (a : ℕ) → (marks a → ⊥) → mark u a ≡ mark t a

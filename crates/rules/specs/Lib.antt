@@ -18,3 +18,4 @@ pub mod Refusing
 pub mod Apart
 pub mod Cause
 pub mod Covered
+pub mod HowMany

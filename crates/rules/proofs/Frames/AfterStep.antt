@@ -1,7 +1,7 @@
--- Where a step leaves its seat: with a claim, if it had one, and waiting only at a node that is not marked. Of any tables that have room for
--- the seat.
+-- Where a step leaves its seat: with a claim, if it had one, waiting only at a node that is not marked, and holding only as it was or by the
+-- rule of hold. Of any tables that have room for the seat.
 use Prim.Native.Nat.{ℕ}
-use mathlib.Core.Path.{_≡_, refl}
+use mathlib.Core.Path.{_≡_, refl, sym, _∙_}
 use mathlib.Core.List.{List}
 use mathlib.Core.Logic.{_≢_, _⊎_, inl, inr}
 use native.Mathlib.Omega.{arith}
@@ -18,82 +18,88 @@ use Rattle.rules.proofs.Rules.RuleEffects.{phase-stored, cur-stored, pl
 use Rattle.rules.proofs.Rules.Reasons.{Unlinking, takes-out, goes-past, as-reader, as-writer, links-in, restarts, rereads, Walking, inserts, unlinks, passes, waits, Waking, wakes, stays, reader-holds, reader-unlinks, reader-passes, reader-waits, writer-holds, writer-unlinks, writer-passes, withdraws, Validating, validates-reader, validates-writer, Fetching, found, found-then, none, Stepping, in-1, in-2, in-3, in-4, in-6, at-rest}
 use Rattle.rules.proofs.Rules.Accepting.{Stepped, step-refused, step-accepted, stepped}
 use Rattle.rules.proofs.Frames.SeatFrames.{sound-room}
-use Rattle.rules.proofs.Keeping.TakeOut.{taken-out-seats}
+use Rattle.rules.proofs.Laws.NodesAlone.{taken-out-seats}
 
--- after a step: the seat has a claim, and where it waits is not marked
-pub record Left (u : Tables) (s : ℕ) : Type 0 where
+-- from t to u by a step of seat s
+pub record Left (t u : Tables) (s : ℕ) : Type 0 where
   pub busy : phase u s ≢ 0
   pub unmarked : (phase u s ≡ 2) ⊎ (phase u s ≡ 4) → mark u (cur u s) ≢ 1
+  pub holding : phase u s ≡ 5 → (u ≡ t) ⊎ (u ≡ hold t s)
 
-pub not-waiting : {u : Tables} {s : ℕ} → phase u s ≢ 0 → phase u s ≢ 2 → phase u s ≢ 4 → Left u s
-not-waiting b d₂ d₄ = record { busy = b; unmarked = λ p. absurd (elim p [ inl e ↦ d₂ e | inr e ↦ d₄ e ]) }
+not-waiting : {t u : Tables} {s : ℕ} → phase u s ≢ 0 → phase u s ≢ 2 → phase u s ≢ 4 → (phase u s ≡ 5 → (u ≡ t) ⊎ (u ≡ hold t s)) → Left t u s
+not-waiting b d₂ d₄ h = record { busy = b; unmarked = λ p. absurd (elim p [ inl e ↦ d₂ e | inr e ↦ d₄ e ]); holding = h }
 
-moved : {before : List ℕ} {u : Tables} {s : ℕ} {words : ℕ → ℕ} → Seated before (u .seats) s words → words phaseAt ≢ 0 → words phaseAt ≢ 2 → words phaseAt ≢ 4 → Left u s
-moved w b d₂ d₄ = let e = w .at-s phaseAt (omega arith) in not-waiting (rw e b) (rw e d₂) (rw e d₄)
+moved : {before : List ℕ} {t u : Tables} {s : ℕ} {words : ℕ → ℕ} → Seated before (u .seats) s words
+    → words phaseAt ≢ 0 → words phaseAt ≢ 2 → words phaseAt ≢ 4 → words phaseAt ≢ 5 → Left t u s
+moved w b d₂ d₄ d₅ = let e = w .at-s phaseAt (omega arith) in not-waiting (rw e b) (rw e d₂) (rw e d₄) (λ p. absurd (d₅ (sym e ∙ p)))
 
 module _ (t : Tables) (s : ℕ) (r : Room t s) where
-  turned : (P : ℕ) → P ≢ 0 → mark t (cur t s) ≢ 1 → Left (setPhase t s P) s
-  turned P z m =
+  turned : (P : ℕ) → P ≢ 0 → P ≢ 5 → mark t (cur t s) ≢ 1 → Left t (setPhase t s P) s
+  turned P z d₅ m =
       let w = phase-stored t s r P in
-      record { busy = rw (w .at-s phaseAt (omega arith)) z; unmarked = λ p. rw (w .at-s curAt (omega arith)) m }
+      let e = w .at-s phaseAt (omega arith) in
+      record { busy = rw e z; unmarked = λ p. rw (w .at-s curAt (omega arith)) m; holding = λ p. absurd (d₅ (sym e ∙ p)) }
 
   -- in phase 1 or 3 the seat moves on without another phase
   module _ (p : (phase t s ≡ 1) ⊎ (phase t s ≡ 3)) where
-    goes-on : {u : Tables} {words : ℕ → ℕ} → Seated (t .seats) (u .seats) s words → words phaseAt ≡ phase t s → Left u s
-    goes-on w e = elim p [ inl q ↦ moved w (omega arith) (omega arith) (omega arith) | inr q ↦ moved w (omega arith) (omega arith) (omega arith) ]
+    goes-on : {u : Tables} {words : ℕ → ℕ} → Seated (t .seats) (u .seats) s words → words phaseAt ≡ phase t s → Left t u s
+    goes-on w e = elim p [ inl q ↦ moved w (omega arith) (omega arith) (omega arith) (omega arith) | inr q ↦ moved w (omega arith) (omega arith) (omega arith) (omega arith) ]
 
-    unlinking-leaves : {u : Tables} → Unlinking t s u → Left u s
+    unlinking-leaves : {u : Tables} → Unlinking t s u → Left t u s
     unlinking-leaves (takes-out j) = goes-on (cur-stored t s r (next t (cur t s))) refl
     unlinking-leaves (goes-past e) = goes-on (cur-stored t s r (next t (cur t s))) refl
 
-  walking-leaves : {u : Tables} → phase t s ≡ 1 → Walking t s u → Left u s
+  walking-leaves : {u : Tables} → phase t s ≡ 1 → Walking t s u → Left t u s
   unfolding linkIn
-  walking-leaves p (inserts f (links-in j (as-reader k))) = moved (start-stored t s r 3 (own t s) (next (linkIn t s) (own t s))) (omega arith) (omega arith) (omega arith)
-  walking-leaves p (inserts f (links-in j (as-writer k))) = moved (start-stored t s r 3 0 (head (linkIn t s))) (omega arith) (omega arith) (omega arith)
+  walking-leaves p (inserts f (links-in j (as-reader k))) = moved (start-stored t s r 3 (own t s) (next (linkIn t s) (own t s))) (omega arith) (omega arith) (omega arith) (omega arith)
+  walking-leaves p (inserts f (links-in j (as-writer k))) = moved (start-stored t s r 3 0 (head (linkIn t s))) (omega arith) (omega arith) (omega arith) (omega arith)
   walking-leaves p (inserts f (restarts j m)) = goes-on (inl p) (place-stored t s r 0 (head t)) refl
   walking-leaves p (inserts f (rereads j m)) = goes-on (inl p) (cur-stored t s r (link t (prev t s))) refl
   walking-leaves p (unlinks c m w) = unlinking-leaves (inl p) w
   walking-leaves p (passes c m f) = goes-on (inl p) (pass-stored t s r) refl
-  walking-leaves p (waits c m f f′) = turned 2 (omega arith) m
+  walking-leaves p (waits c m f f′) = turned 2 (omega arith) (omega arith) m
 
-  waking-leaves : {P : ℕ} {u : Tables} → phase t s ≢ 0 → P ≢ 0 → P ≢ 2 → P ≢ 4 → Waking t s P u → Left u s
-  waking-leaves {P} b z d₂ d₄ (wakes m) = moved (phase-stored t s r P) z d₂ d₄
-  waking-leaves b z d₂ d₄ (stays m) = record { busy = b; unmarked = λ p. m }
+  waking-leaves : {P : ℕ} {u : Tables} → phase t s ≢ 0 → P ≢ 0 → P ≢ 2 → P ≢ 4 → P ≢ 5 → Waking t s P u → Left t u s
+  waking-leaves {P} b z d₂ d₄ d₅ (wakes m) = moved (phase-stored t s r P) z d₂ d₄ d₅
+  waking-leaves b z d₂ d₄ d₅ (stays m) = record { busy = b; unmarked = λ p. m; holding = λ p. inl refl }
 
-  holding-leaves : Left (hold t s) s
-  holding-leaves = moved (hold-stored t s r) (omega arith) (omega arith) (omega arith)
+  holding-leaves : Left t (hold t s) s
+  holding-leaves =
+      let e = hold-stored t s r .at-s phaseAt (omega arith) in
+      not-waiting (rw e (omega arith)) (rw e (omega arith)) (rw e (omega arith)) (λ p. inr refl)
 
-  validating-leaves : {u : Tables} → phase t s ≡ 3 → Validating t s u → Left u s
+  validating-leaves : {u : Tables} → phase t s ≡ 3 → Validating t s u → Left t u s
   validating-leaves p (validates-reader k (reader-holds f)) = holding-leaves
   validating-leaves p (validates-reader k (reader-unlinks c m w)) = unlinking-leaves (inr p) w
   validating-leaves p (validates-reader k (reader-passes c m f)) = goes-on (inr p) (pass-stored t s r) refl
-  validating-leaves p (validates-reader k (reader-waits c m f h)) = turned 4 (omega arith) m
+  validating-leaves p (validates-reader k (reader-waits c m f h)) = turned 4 (omega arith) (omega arith) m
   validating-leaves p (validates-writer k (writer-holds f)) = holding-leaves
   validating-leaves p (validates-writer k (writer-unlinks d c m w)) = unlinking-leaves (inr p) w
   validating-leaves p (validates-writer k (writer-passes d c m f)) = goes-on (inr p) (pass-stored t s r) refl
-  validating-leaves p (validates-writer k (withdraws d f)) = moved (withdraw-stored t s r) (omega arith) (omega arith) (omega arith)
+  validating-leaves p (validates-writer k (withdraws d f)) = moved (withdraw-stored t s r) (omega arith) (omega arith) (omega arith) (omega arith)
 
-  taking-leaves : (a : ℕ) (c : Claim) → Left (takeNode t s a c) s
+  taking-leaves : {from : Tables} (a : ℕ) (c : Claim) → Left from (takeNode t s a c) s
   unfolding takeNode writeClaim
-  taking-leaves a c = moved (enter-stored (writeClaim t a c) s r a) (omega arith) (omega arith) (omega arith)
+  taking-leaves a c = moved (enter-stored (writeClaim t a c) s r a) (omega arith) (omega arith) (omega arith) (omega arith)
 
-fetching-leaves : {t : Tables} {s : ℕ} {c : Claim} {f : Fetched} → Room t s → phase t s ≡ 6 → Fetching t s c f → Left (f .after) s
+fetching-leaves : {t : Tables} {s : ℕ} {c : Claim} {f : Fetched} → Room t s → phase t s ≡ 6 → Fetching t s c f → Left t (f .after) s
 fetching-leaves {t} {s} {c} r p (found a e z) = taking-leaves t s r a c
 fetching-leaves {t} {s} {c} r p (found-then a e e′ z) = taking-leaves (takenOut t) s (rw (taken-out-seats t) r) a c
-fetching-leaves r p (none e e′) = not-waiting (omega arith) (omega arith) (omega arith)
+fetching-leaves r p (none e e′) = not-waiting (omega arith) (omega arith) (omega arith) (λ q. inl refl)
 
 module _ (t : Tables) (s : ℕ) where
-  refetched-leaves : (f : Fetched) → phase t s ≡ 6 → Left (f .after) s → Left (refetched t s f .after) s
+  refetched-leaves : (f : Fetched) → phase t s ≡ 6 → Left t (f .after) s → Left t (refetched t s f .after) s
   unfolding refetched
-  refetched-leaves f p w = branch (λ (d : Done Answer). Left (d .after) s) (f .node is 0) (λ e. not-waiting (omega arith) (omega arith) (omega arith)) (λ e. w)
+  refetched-leaves f p w = branch (λ (d : Done Answer). Left t (d .after) s) (f .node is 0)
+      (λ e. not-waiting (omega arith) (omega arith) (omega arith) (λ q. inl refl)) (λ e. w)
 
-  pub stepping-leaves : {d : Done Answer} → Room t s → phase t s ≢ 0 → Stepping t s d → Left (d .after) s
+  pub stepping-leaves : {d : Done Answer} → Room t s → phase t s ≢ 0 → Stepping t s d → Left t (d .after) s
   stepping-leaves r b (in-1 e w) = walking-leaves t s r e w
-  stepping-leaves r b (in-2 e w) = waking-leaves t s r b (omega arith) (omega arith) (omega arith) w
+  stepping-leaves r b (in-2 e w) = waking-leaves t s r b (omega arith) (omega arith) (omega arith) (omega arith) w
   stepping-leaves r b (in-3 e w) = validating-leaves t s r e w
-  stepping-leaves r b (in-4 e w) = waking-leaves t s r b (omega arith) (omega arith) (omega arith) w
+  stepping-leaves r b (in-4 e w) = waking-leaves t s r b (omega arith) (omega arith) (omega arith) (omega arith) w
   stepping-leaves r b (in-6 {f = f} e w) = refetched-leaves f e (fetching-leaves r e w)
-  stepping-leaves r b (at-rest d₁ d₂ d₃ d₄ d₆) = not-waiting b d₂ d₄
+  stepping-leaves r b (at-rest d₁ d₂ d₃ d₄ d₆) = not-waiting b d₂ d₄ (λ p. inl refl)
 
   stepped-busy : {d : Done Answer} → phase t s ≢ 0 → Stepped t s d → phase (d .after) s ≢ 0
   stepped-busy b (step-refused k r) = b

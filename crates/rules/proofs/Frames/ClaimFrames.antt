@@ -1,60 +1,105 @@
--- A call changes no claim but that of the node it takes, so every other seat's claim stays.
-use Prim.Native.Nat.{ℕ}
+-- A call changes no claim but that of the node it takes, and what it takes is no other seat's own: so every other seat keeps its claim. Of any
+-- tables, since a call on damaged ones changes nothing.
+use Prim.Native.Nat.{ℕ, _≤_, _<_}
 use mathlib.Core.Path.{_≡_, refl, sym, _∙_}
+use mathlib.Core.Bool.{true, _||_}
 use mathlib.Core.Logic.{_≢_}
 use native.Mathlib.Omega.{arith}
-use Rattle.rules.specs.Tables.{Tables, startAt, endAt, kindAt, phaseAt, ownAt, phase, own}
-use Rattle.rules.specs.Comparison.{claimOf}
-use Rattle.rules.specs.Calls.{step}
+use native.Mathlib.Decide.{decLt}
+use borrow.Author.Tests.{eqb-false}
+use Rattle.rules.specs.Notation.{_is_}
+use Rattle.rules.specs.Tables.{Tables, nodeCount, seatCount, ownAt, phase, own}
+use Rattle.rules.specs.Comparison.{Claim, claimOf}
+use Rattle.rules.specs.Shape.{sound}
+use Rattle.rules.specs.Reach.{met, listed, othersReach, free, lowestFree}
+use Rattle.rules.specs.Fetch.{Fetched, takenOut}
+use Rattle.rules.specs.Answers.{Answer, Done}
+use Rattle.rules.specs.Steps.{refetched}
+use Rattle.rules.specs.Calls.{begun, step}
 use Rattle.rules.specs.Play.{Call, beginCall, stepCall, releaseCall, call, seatOf}
+use Rattle.rules.specs.Apart.{claimOfSeat}
+use Rattle.rules.proofs.Ground.Logic.{branch, or-neither, not-true, clash}
 use Rattle.rules.proofs.Ground.Deciding.{if-same}
-use Rattle.rules.proofs.Laws.Words.{node-zero}
-use Rattle.rules.proofs.Rules.Reasons.{by-no-phase}
-use Rattle.rules.proofs.Rules.Accepting.{step-or-same}
-use Rattle.rules.proofs.Keeping.Good.{Good}
-use Rattle.rules.proofs.Keeping.CallKeeps.{call-keeps}
+use Rattle.rules.proofs.Ground.Counting.{lowest-has}
+use Rattle.rules.proofs.Laws.Words.{seat-past, same-node-count}
+use Rattle.rules.proofs.Laws.Shape.{is-sound}
+use Rattle.rules.proofs.Laws.NodesAlone.{taken-out-seats}
+use Rattle.rules.proofs.Laws.Listed.{met-here}
+use Rattle.rules.proofs.Laws.Free.{others-miss}
+use Rattle.rules.proofs.Rules.Reasons.{by-phase-6, by-no-phase, Fetching, found, found-then, none, fetching as fetching-of}
+use Rattle.rules.proofs.Rules.Accepting.{Beginning, begin-refused, begin-accepted, beginning, step-or-same}
 use Rattle.rules.proofs.Frames.SeatFrames.{other-seats-kept}
-use Rattle.rules.proofs.Frames.NodeFrames.{step-1-kept, step-2-kept, step-3-kept, step-4-kept, step-6-kept, begin-kept, release-kept}
+use Rattle.rules.proofs.Frames.NodeFrames.{taking-out, fetching, step-1-kept, step-2-kept, step-3-kept, step-4-kept, step-6-kept, begin-kept, release-kept}
 
--- ---- in any tables
+-- ---- only fetch changes a claim
 module _ (t : Tables) (s a : ℕ) where
   -- the phase of a step that is accepted is one of these, or nothing is done
-  step-claims : a ≢ own (step t s .after) s → claimOf (step t s .after) a ≡ claimOf t a
-  step-claims d =
+  step-claims : (phase t s ≡ 6 → claimOf (step t s .after) a ≡ claimOf t a) → claimOf (step t s .after) a ≡ claimOf t a
+  step-claims fetched =
       if-same (phase t s) 1 (λ e. step-1-kept t s e .claim-of a (λ z. z)) (λ d₁.
       if-same (phase t s) 2 (λ e. step-2-kept t s e .claim-of a (λ z. z)) (λ d₂.
       if-same (phase t s) 3 (λ e. step-3-kept t s e .claim-of a (λ z. z)) (λ d₃.
       if-same (phase t s) 4 (λ e. step-4-kept t s e .claim-of a (λ z. z)) (λ d₄.
-      if-same (phase t s) 6 (λ e. step-6-kept t s e .claim-of a d) (λ d₆.
+      if-same (phase t s) 6 fetched (λ d₆.
       step-or-same t s (λ u. claimOf u a ≡ claimOf t a) refl (λ e h b. rw (by-no-phase t s d₁ d₂ d₃ d₄ d₆)))))))
 
 pub claims-kept : (t : Tables) (c : Call) (a : ℕ) → a ≢ own (call t c .after) (seatOf c) → claimOf (call t c .after) a ≡ claimOf t a
 unfolding call
 claims-kept t (beginCall s c) a d = begin-kept t s c .claim-of a d
-claims-kept t (stepCall s) a d = step-claims t s a d
+claims-kept t (stepCall s) a d = step-claims t s a (λ e. step-6-kept t s e .claim-of a d)
 claims-kept t (releaseCall s) a d = release-kept t s .claim-of a (λ z. z)
 
--- ---- and so in good ones: what is taken is no other seat's own
-no-claim : (t u : Tables) → claimOf u 0 ≡ claimOf t 0
-no-claim t u = λ i. record {
-  start = (node-zero (u .nodes) startAt ∙ sym (node-zero (t .nodes) startAt)) i;
-  end = (node-zero (u .nodes) endAt ∙ sym (node-zero (t .nodes) endAt)) i;
-  kind = (node-zero (u .nodes) kindAt ∙ sym (node-zero (t .nodes) kindAt)) i;
-}
+-- ---- what fetch takes is free, and a free node is no other seat's own
+free-not-own : (t : Tables) (s r a : ℕ) → lowestFree t s ≡ a → a ≢ 0 → 1 ≤ nodeCount t → r < seatCount t → r ≢ s → own t r ≢ a
+unfolding lowestFree free
+free-not-own t s r a p z n l d e =
+    let f = lowest-has (nodeCount t) (free t s) a p z .0 in
+    let q = or-neither (listed t a) (othersReach t s a) (not-true (listed t a || othersReach t s a) f) in
+    clash (met (nodeCount t) t a a) (met-here t a (nodeCount t) n z) (rw e at (others-miss t s a r (q .1) l d .from-own))
 
-pub others-claims-kept : {N S : ℕ} {t : Tables} → Good N S t → (c : Call) (r : ℕ) → r ≢ seatOf c
-    → claimOf (call t c .after) (own (call t c .after) r) ≡ claimOf t (own t r)
-others-claims-kept {t = t} g c r d =
-    let u = call t c .after in
-    let s = seatOf c in
-    let kept = other-seats-kept t c in
-    let same-own : own u r ≡ own t r = kept .word r ownAt d (omega arith) in
-    let same-phase : phase u r ≡ phase t r = kept .word r phaseAt d (omega arith) in
-    let g′ = call-keeps g c in
-    rw same-own
-    (if-same (own t r) 0
-    (λ z. rw z (no-claim t u))
-    (λ z. claims-kept t c (own t r) (λ e.
-    let busy-r : phase u r ≢ 0 = λ p. z (sym same-own ∙ g′ .aside .seat r .idle p ownAt (omega arith)) in
-    let busy-s : phase u s ≢ 0 = λ p. z (e ∙ g′ .aside .seat s .idle p ownAt (omega arith)) in
-    g′ .inv .distinct r s d busy-r busy-s (same-own ∙ e))))
+module _ (t : Tables) (e : sound t ≡ true) (s r : ℕ) (d : r ≢ s) where
+  -- of a seat that is not there own is 0
+  if-there : (a : ℕ) → a ≢ 0 → (r < seatCount t → own t r ≢ a) → own t r ≢ a
+  if-there a z f = elim (decLt r (seatCount t)) [
+    | yes l ↦ f l
+    | no l ↦ λ q. z (sym q ∙ seat-past t r ownAt (is-sound t e .seats-length) (omega arith))
+  ]
+
+  not-taken : {c : Claim} {f : Fetched} → Fetching t s c f → f .node ≢ 0 → own t r ≢ f .node
+  not-taken (found a p z) k = if-there a z (λ l. free-not-own t s r a p z (is-sound t e .some-nodes) l d)
+  not-taken (found-then a p p′ z) k =
+      let same = taken-out-seats t in
+      let nodes = same-node-count t (takenOut t) (taking-out t .same-length) in
+      if-there a z (λ l. rw same at (free-not-own (takenOut t) s r a p′ z (rw nodes (is-sound t e .some-nodes)) (rw same l) d))
+  not-taken (none p p′) k = absurd (k refl)
+
+  taken-keeps : {c : Claim} {f : Fetched} → Fetching t s c f → f .node ≢ 0 → claimOf (f .after) (own t r) ≡ claimOf t (own t r)
+  taken-keeps w k = fetching w .claim-of (own t r) (not-taken w k)
+
+-- ---- so every other seat keeps its claim
+module _ (t : Tables) (s r : ℕ) (d : r ≢ s) where
+  abbrev Keeps : Done Answer → Type 0
+  Keeps x = claimOf (x .after) (own t r) ≡ claimOf t (own t r)
+
+  begun-keeps : (c : Claim) {x : Done Answer} → Beginning t s c x → Keeps x
+  unfolding begun
+  begun-keeps c (begin-refused k q) = refl
+  begun-keeps c (begin-accepted {f = f} e h p z w) = branch Keeps (f .node is 0) (λ q. refl) (λ q. taken-keeps t e s r d w (eqb-false (f .node) 0 q))
+
+  refetched-keeps : sound t ≡ true → {c : Claim} {f : Fetched} → Fetching t s c f → Keeps (refetched t s f)
+  unfolding refetched
+  refetched-keeps e {f = f} w = branch Keeps (f .node is 0) (λ q. refl) (λ q. taken-keeps t e s r d w (eqb-false (f .node) 0 q))
+
+  stepped-keeps : Keeps (step t s)
+  stepped-keeps =
+      step-claims t s (own t r) (λ p. step-or-same t s (λ u. claimOf u (own t r) ≡ claimOf t (own t r)) refl
+      (λ e h b. rw (by-phase-6 t s p) (refetched-keeps e (fetching-of t s (claimOf t (own t s))))))
+
+pub others-claims-kept : (t : Tables) (c : Call) (r : ℕ) → r ≢ seatOf c → claimOfSeat (call t c .after) r ≡ claimOfSeat t r
+unfolding call
+others-claims-kept t c r d = rw (other-seats-kept t c .word r ownAt d (omega arith)) (kept c d)
+  where
+    kept : (c : Call) → r ≢ seatOf c → claimOf (call t c .after) (own t r) ≡ claimOf t (own t r)
+    kept (beginCall s c) d = begun-keeps t s r d c (beginning t s c)
+    kept (stepCall s) d = stepped-keeps t s r d
+    kept (releaseCall s) d = release-kept t s .claim-of (own t r) (λ z. z)

@@ -1,27 +1,26 @@
 -- What each call leaves of the nodes. Over any tables.
-use Prim.Native.Nat.{ℕ, zero, suc, _<_}
+use Prim.Native.Nat.{ℕ, zero, suc, _+_, _-_, _<_}
 use mathlib.Core.Path.{_≡_, refl, sym, ap, _∙_}
 use mathlib.Core.Bool.{true, false}
 use mathlib.Core.List.{List, [], _∷_}
 use mathlib.Core.Logic.{_≢_, _⊎_, inl, inr}
 use native.Mathlib.Omega.{arith}
-use lib.ListN.{length}
 use borrow.Author.Tests.{eqb-false, eq-eqb}
 use Rattle.rules.specs.Notation.{_is_}
-use Rattle.rules.specs.Tables.{Tables, nodeWidth, nodeCount, startAt, endAt, kindAt, markAt, nextAt, ownAt, topWord, nodeWord, linkWord, marked, next, head, phase, own, prev, cur, setNode, setLink, setMark}
-use Rattle.rules.specs.Comparison.{Claim, claim, claimOf}
+use Rattle.rules.specs.Tables.{Tables, tables, countAt, countWord, nodeWidth, nodeCount, startAt, endAt, kindAt, markAt, nextAt, ownAt, nodeWord, marked, next, head, phase, own, prev, cur, setCount, setNode, setLink, setMark, clearSeat}
+use Rattle.rules.specs.Comparison.{Claim, claimOf}
 use Rattle.rules.specs.Reach.{met, listed}
 use Rattle.rules.specs.Fetch.{Fetched, fetch, keptFrom, kept, linkThrough, takenOut, writeClaim, enterAtHead, takeNode}
 use Rattle.rules.specs.Answers.{Answer, Done}
-use Rattle.rules.specs.Steps.{linkIn, pass, hold, withdraw, leave, refetched}
+use Rattle.rules.specs.Steps.{moveTo, linkIn, pass, kindOf, hold, withdraw, leave, refetched}
 use Rattle.rules.specs.Calls.{begun, begin, step, release}
 use Rattle.rules.specs.Apart.{Stands, NodesKept, NoNode, NoPlace, FetchKept}
 use Rattle.rules.proofs.Ground.Logic.{branch, or-left, or-right}
-use Rattle.rules.proofs.Laws.Words.{node-put-field, node-put-node, node-put-link, link-put-field, link-put-other, top-put-node, top-put-link, put-node-length, put-link-length}
+use Rattle.rules.proofs.Laws.Words.{node-put-field, node-put-node, node-put-link, link-put-field, link-put-other, top-put-node, top-put-link, top-put-other, node-put-top, link-put-top, count-low, count-not-head, put-node-length, put-link-length, put-top-length}
 use Rattle.rules.proofs.Laws.Listed.{met-first}
 use Rattle.rules.proofs.Rules.Effects.{Room}
 use Rattle.rules.proofs.Rules.RuleEffects.{enter-stored}
-use Rattle.rules.proofs.Keeping.TakeOut.{taken-out-seats}
+use Rattle.rules.proofs.Laws.NodesAlone.{taken-out-seats}
 use Rattle.rules.proofs.Frames.SeatFrames.{sound-room}
 use Rattle.rules.proofs.Rules.Reasons.{Unlinking, takes-out, goes-past, as-reader, as-writer, Inserting, links-in, restarts, rereads, Walking, inserts, unlinks, passes, waits, walks, Waking, wakes, stays, wakes-to-walk, wakes-to-validate, reader-holds, reader-unlinks, reader-passes, reader-waits, writer-holds, writer-unlinks, writer-passes, withdraws, Validating, validates-reader, validates-writer, validates, by-phase-1, by-phase-2, by-phase-3, by-phase-4, by-phase-5, by-phase-6, Fetching, found, found-then, none, fetching as fetching-of}
 use Rattle.rules.proofs.Rules.Accepting.{Beginning, begin-refused, begin-accepted, beginning, step-or-same, Releasing, release-refused, release-accepted, releasing}
@@ -40,13 +39,13 @@ kept-then f g = record {
 }
 
 -- more may have changed
-pub kept-but : {L M C P L′ M′ C′ : ℕ → Type 0} {t u : Tables} → ((a : ℕ) → L a → L′ a) → ((a : ℕ) → M a → M′ a) → ((a : ℕ) → C a → C′ a)
-    → NodesKept L M C P t u → NodesKept L′ M′ C′ P t u
-kept-but l m c f = record {
+pub kept-but : {L M C P L′ M′ C′ P′ : ℕ → Type 0} {t u : Tables} → ((a : ℕ) → L a → L′ a) → ((a : ℕ) → M a → M′ a) → ((a : ℕ) → C a → C′ a)
+    → ((i : ℕ) → P i → P′ i) → NodesKept L M C P t u → NodesKept L′ M′ C′ P′ t u
+kept-but l m c p f = record {
   link-of = λ a d. f .link-of a (λ x. d (l a x));
   mark-of = λ a d. f .mark-of a (λ x. d (m a x));
   claim-of = λ a d. f .claim-of a (λ x. d (c a x));
-  word-at = f .word-at;
+  word-at = λ i h n d. f .word-at i h n (λ x. d (p i x));
   same-length = f .same-length;
 }
 
@@ -90,18 +89,22 @@ word-kept t f a v h x y = record {
   same-length = put-node-length (t .nodes) a f v;
 }
 
--- ---- what the seats do changes no node
-seats-aside : {L M C P : ℕ → Type 0} {t u v : Tables} → v .nodes ≡ u .nodes → NodesKept L M C P t u → NodesKept L M C P t v
-seats-aside {v = v} e f = record {
-  link-of = λ a d. ap (λ l. linkWord l a) e ∙ f .link-of a d;
-  mark-of = λ a d. ap (λ l. nodeWord l a markAt) e ∙ f .mark-of a d;
-  claim-of = λ a d. ap (λ l. claim (nodeWord l a startAt) (nodeWord l a endAt) (nodeWord l a kindAt)) e ∙ f .claim-of a d;
-  word-at = λ i h n d. ap (λ l. topWord l i) e ∙ f .word-at i h n d;
-  same-length = ap length e ∙ f .same-length;
+-- a count
+count-kept : (t : Tables) (k v : ℕ) → NodesKept NoNode NoNode NoNode (Just (countAt k)) t (setCount t k v)
+count-kept t k v = record {
+  link-of = λ b d. link-put-top (t .nodes) (countAt k) b v (count-low k) (count-not-head k);
+  mark-of = λ b d. node-put-top (t .nodes) (countAt k) b markAt v (count-low k);
+  claim-of = λ b d. same-claim t (setCount t k v) b (λ f h x y. node-put-top (t .nodes) (countAt k) b f v (count-low k));
+  word-at = λ i h n d. top-put-other (t .nodes) (countAt k) i v (λ e. d (sym e));
+  same-length = put-top-length (t .nodes) (countAt k) v;
 }
 
-pub only-seats : {L M C P : ℕ → Type 0} {t u : Tables} → u .nodes ≡ t .nodes → NodesKept L M C P t u
-only-seats {t = t} e = seats-aside e (kept-same t)
+-- ---- what the seats do changes no node
+seats-aside : {L M C P : ℕ → Type 0} {t u : Tables} {seats : List ℕ} → NodesKept L M C P t u → NodesKept L M C P t (tables (u .nodes) seats)
+seats-aside f = record { link-of = f .link-of; mark-of = f .mark-of; claim-of = f .claim-of; word-at = f .word-at; same-length = f .same-length }
+
+pub only-seats : {L M C P : ℕ → Type 0} {t : Tables} {seats : List ℕ} → NodesKept L M C P t (tables (t .nodes) seats)
+only-seats {t = t} = seats-aside (kept-same t)
 
 -- ---- phase 1: the links of own and prev
 abbrev pub OwnOrPrev : Tables → ℕ → ℕ → Type 0
@@ -113,57 +116,78 @@ Prev t s a = a ≡ prev t s
 abbrev pub Own : Tables → ℕ → ℕ → Type 0
 Own t s a = a ≡ own t s
 
+-- the count of the seat's kind
+abbrev pub OwnCount : Tables → ℕ → ℕ → Type 0
+OwnCount t s i = i ≡ countAt (kindOf t s)
+
 module _ (t : Tables) (s : ℕ) where
   unlinking : {u : Tables} → Unlinking t s u → NodesKept (Prev t s) NoNode NoNode NoPlace t u
-  unlinking (takes-out j) = seats-aside refl (link-kept t (prev t s) (next t (cur t s)))
-  unlinking (goes-past e) = only-seats refl
+  unlinking (takes-out j) = seats-aside (link-kept t (prev t s) (next t (cur t s)))
+  unlinking (goes-past e) = only-seats
+
+  unlinked : {u : Tables} → Unlinking t s u → NodesKept (Prev t s) (Own t s) NoNode NoPlace t u
+  unlinked w = kept-but (λ a x. x) (λ a x. absurd x) (λ a x. x) (λ i x. x) (unlinking w)
 
   linking-in : NodesKept (OwnOrPrev t s) NoNode NoNode NoPlace t (linkIn t s)
   unfolding linkIn
   linking-in =
       kept-then
-      (kept-but (λ a x. inl x) (λ a x. x) (λ a x. x) (link-kept t (own t s) (cur t s)))
-      (kept-but (λ a x. inr x) (λ a x. x) (λ a x. x) (link-kept (setLink t (own t s) (cur t s)) (prev t s) (own t s)))
+      (kept-but (λ a x. inl x) (λ a x. x) (λ a x. x) (λ i x. x) (link-kept t (own t s) (cur t s)))
+      (kept-but (λ a x. inr x) (λ a x. x) (λ a x. x) (λ i x. x) (link-kept (setLink t (own t s) (cur t s)) (prev t s) (own t s)))
 
   inserting : {u : Tables} → Inserting t s u → NodesKept (OwnOrPrev t s) NoNode NoNode NoPlace t u
-  inserting (links-in j (as-reader k)) = seats-aside refl linking-in
-  inserting (links-in j (as-writer k)) = seats-aside refl linking-in
-  inserting (restarts j m) = only-seats refl
-  inserting (rereads j m) = only-seats refl
+  inserting (links-in j (as-reader k)) = seats-aside linking-in
+  inserting (links-in j (as-writer k)) = seats-aside linking-in
+  inserting (restarts j m) = only-seats
+  inserting (rereads j m) = only-seats
 
-  walking : {u : Tables} → Walking t s u → NodesKept (OwnOrPrev t s) NoNode NoNode NoPlace t u
+  pub walking : {u : Tables} → Walking t s u → NodesKept (OwnOrPrev t s) NoNode NoNode NoPlace t u
   unfolding pass
   walking (inserts f w) = inserting w
-  walking (unlinks c m w) = kept-but (λ a x. inr x) (λ a x. x) (λ a x. x) (unlinking w)
-  walking (passes c m f) = only-seats refl
-  walking (waits c m f f′) = only-seats refl
+  walking (unlinks c m w) = kept-but (λ a x. inr x) (λ a x. x) (λ a x. x) (λ i x. x) (unlinking w)
+  walking (passes c m f) = only-seats
+  walking (waits c m f f′) = only-seats
 
   -- ---- phases 2 and 4: none
-  waking : {P : ℕ} {u : Tables} → Waking t s P u → NodesKept NoNode NoNode NoNode NoPlace t u
-  waking (wakes m) = only-seats refl
-  waking (stays m) = only-seats refl
+  pub waking : {P : ℕ} {u : Tables} → Waking t s P u → NodesKept NoNode NoNode NoNode NoPlace t u
+  waking (wakes m) = only-seats
+  waking (stays m) = only-seats
 
-  -- ---- phase 3: the link of prev, the mark of own
-  validating : {u : Tables} → Validating t s u → NodesKept (Prev t s) (Own t s) NoNode NoPlace t u
-  unfolding pass hold withdraw
-  validating (validates-reader k (reader-holds f)) = only-seats refl
-  validating (validates-reader k (reader-unlinks c m w)) = kept-but (λ a x. x) (λ a x. absurd x) (λ a x. x) (unlinking w)
-  validating (validates-reader k (reader-passes c m f)) = only-seats refl
-  validating (validates-reader k (reader-waits c m f h)) = only-seats refl
-  validating (validates-writer k (writer-holds f)) = only-seats refl
-  validating (validates-writer k (writer-unlinks d c m w)) = kept-but (λ a x. x) (λ a x. absurd x) (λ a x. x) (unlinking w)
-  validating (validates-writer k (writer-passes d c m f)) = only-seats refl
-  validating (validates-writer k (withdraws d f)) = seats-aside refl (kept-but (λ a x. absurd x) (λ a x. x) (λ a x. x) (mark-kept t (own t s) 1))
+  -- ---- phase 3: the link of prev and the mark of own, unless the claim comes to hold, and then a count
+  pub unless-held : {u : Tables} → Validating t s u → (u ≡ hold t s) ⊎ NodesKept (Prev t s) (Own t s) NoNode NoPlace t u
+  unfolding pass withdraw
+  unless-held (validates-reader k (reader-holds f)) = inl refl
+  unless-held (validates-reader k (reader-unlinks c m w)) = inr (unlinked w)
+  unless-held (validates-reader k (reader-passes c m f)) = inr only-seats
+  unless-held (validates-reader k (reader-waits c m f h)) = inr only-seats
+  unless-held (validates-writer k (writer-holds f)) = inl refl
+  unless-held (validates-writer k (writer-unlinks d c m w)) = inr (unlinked w)
+  unless-held (validates-writer k (writer-passes d c m f)) = inr only-seats
+  unless-held (validates-writer k (withdraws d f)) = inr (seats-aside (kept-but (λ a x. absurd x) (λ a x. x) (λ a x. x) (λ i x. x) (mark-kept t (own t s) 1)))
 
-  -- ---- release: the mark of own
-  leaving : NodesKept NoNode (Own t s) NoNode NoPlace t (leave t s)
+  holding : NodesKept NoNode NoNode NoNode (OwnCount t s) t (hold t s)
+  unfolding hold
+  holding = kept-then {u = moveTo t s 5 0 0} only-seats (count-kept (moveTo t s 5 0 0) (kindOf t s) (countWord t (kindOf t s) + 1))
+
+  validating : {u : Tables} → Validating t s u → NodesKept (Prev t s) (Own t s) NoNode (OwnCount t s) t u
+  validating w = elim (unless-held w) [
+    | inl e ↦ rw e (kept-but (λ a x. absurd x) (λ a x. absurd x) (λ a x. x) (λ i x. x) holding)
+    | inr f ↦ kept-but (λ a x. x) (λ a x. x) (λ a x. x) (λ i x. absurd x) f
+  ]
+
+  -- ---- release: the mark of own and a count
+  leaving : NodesKept NoNode (Own t s) NoNode (OwnCount t s) t (leave t s)
   unfolding leave
-  leaving = seats-aside refl (mark-kept t (own t s) 1)
+  leaving =
+      let u = clearSeat (setMark t (own t s) 1) s in
+      kept-then {u = u}
+      (seats-aside (kept-but (λ a x. x) (λ a x. x) (λ a x. x) (λ i x. absurd x) (mark-kept t (own t s) 1)))
+      (kept-but (λ a x. x) (λ a x. absurd x) (λ a x. x) (λ i x. x) (count-kept u (kindOf t s) (countWord t (kindOf t s) - 1)))
 
 -- ---- fetch: the node taken and, where the marked ones are taken out first, the links of the head and of the claims that stand
 module _ (t : Tables) (a : ℕ) (c : Claim) where
   taken-word : (u : Tables) (f v : ℕ) → f < nodeWidth → f ≢ nextAt → f ≢ markAt → NodesKept (Just a) (Just a) (Just a) NoPlace u (setNode f u a v)
-  taken-word u f v h x y = kept-but (λ b z. absurd z) (λ b z. absurd z) (λ b z. z) (word-kept u f a v h x y)
+  taken-word u f v h x y = kept-but (λ b z. absurd z) (λ b z. absurd z) (λ b z. z) (λ i x. x) (word-kept u f a v h x y)
 
   writing : NodesKept (Just a) (Just a) (Just a) NoPlace t (writeClaim t a c)
   unfolding writeClaim
@@ -175,12 +199,12 @@ module _ (t : Tables) (a : ℕ) (c : Claim) where
       kept-then {u = t₁} (taken-word t startAt (c .start) (omega arith) (omega arith) (omega arith))
       (kept-then {u = t₂} (taken-word t₁ endAt (c .end) (omega arith) (omega arith) (omega arith))
       (kept-then {u = t₃} (taken-word t₂ kindAt (c .kind) (omega arith) (omega arith) (omega arith))
-      (kept-then {u = t₄} (kept-but (λ b z. z) (λ b z. absurd z) (λ b z. absurd z) (link-kept t₃ a 0))
-      (kept-but (λ b z. absurd z) (λ b z. z) (λ b z. absurd z) (mark-kept t₄ a 0)))))
+      (kept-then {u = t₄} (kept-but (λ b z. z) (λ b z. absurd z) (λ b z. absurd z) (λ i x. x) (link-kept t₃ a 0))
+      (kept-but (λ b z. absurd z) (λ b z. z) (λ b z. absurd z) (λ i x. x) (mark-kept t₄ a 0)))))
 
   taking : (s : ℕ) → NodesKept (Just a) (Just a) (Just a) NoPlace t (takeNode t s a c)
   unfolding takeNode enterAtHead
-  taking s = seats-aside refl writing
+  taking s = seats-aside writing
 
 data Among (x : ℕ) : List ℕ → Type 0 where
   first : {rest : List ℕ} → Among x (x ∷ rest)
@@ -213,19 +237,19 @@ kept-stands t x (suc h) a w =
 
 through-kept : (ks : List ℕ) (t : Tables) (p : ℕ) → NodesKept (λ b. (b ≡ p) ⊎ Among b ks) NoNode NoNode NoPlace t (linkThrough t p ks)
 unfolding linkThrough
-through-kept [] t p = kept-but (λ b x. inl x) (λ b x. x) (λ b x. x) (link-kept t p 0)
+through-kept [] t p = kept-but (λ b x. inl x) (λ b x. x) (λ b x. x) (λ i x. x) (link-kept t p 0)
 through-kept (a ∷ ks) t p =
     kept-then
-    (kept-but (λ b x. inl x) (λ b x. x) (λ b x. x) (link-kept t p a))
-    (kept-but (λ b x. inr (elim x [ inl e ↦ rw e first | inr y ↦ later y ])) (λ b x. x) (λ b x. x) (through-kept ks (setLink t p a) a))
+    (kept-but (λ b x. inl x) (λ b x. x) (λ b x. x) (λ i x. x) (link-kept t p a))
+    (kept-but (λ b x. inr (elim x [ inl e ↦ rw e first | inr y ↦ later y ])) (λ b x. x) (λ b x. x) (λ i x. x) (through-kept ks (setLink t p a) a))
 
 abbrev HeadOrStands : Tables → ℕ → Type 0
 HeadOrStands t b = (b ≡ 0) ⊎ Stands t b
 
-taking-out : (t : Tables) → NodesKept (HeadOrStands t) NoNode NoNode NoPlace t (takenOut t)
+pub taking-out : (t : Tables) → NodesKept (HeadOrStands t) NoNode NoNode NoPlace t (takenOut t)
 unfolding takenOut kept listed
 taking-out t =
-    kept-but (λ b x. elim x [ inl e ↦ inl e | inr y ↦ inr (kept-stands t b (nodeCount t) (head t) y) ]) (λ b x. x) (λ b x. x)
+    kept-but (λ b x. elim x [ inl e ↦ inl e | inr y ↦ inr (kept-stands t b (nodeCount t) (head t) y) ]) (λ b x. x) (λ b x. x) (λ i x. x)
     (through-kept (kept t) t 0)
 
 abbrev pub FetchLinks : Tables → ℕ → ℕ → Type 0
@@ -233,11 +257,11 @@ FetchLinks t n b = (b ≡ n) ⊎ ((b ≡ 0) ⊎ Stands t b)
 
 pub fetching : {t : Tables} {s : ℕ} {c : Claim} {f : Fetched} → Fetching t s c f
     → NodesKept (FetchLinks t (f .node)) (Just (f .node)) (Just (f .node)) NoPlace t (f .after)
-fetching {t} {s} {c} (found a e z) = kept-but (λ b x. inl x) (λ b x. x) (λ b x. x) (taking t a c s)
+fetching {t} {s} {c} (found a e z) = kept-but (λ b x. inl x) (λ b x. x) (λ b x. x) (λ i x. x) (taking t a c s)
 fetching {t} {s} {c} (found-then a e e′ z) =
     kept-then
-    (kept-but (λ b x. inr x) (λ b x. absurd x) (λ b x. absurd x) (taking-out t))
-    (kept-but (λ b x. inl x) (λ b x. x) (λ b x. x) (taking (takenOut t) a c s))
+    (kept-but (λ b x. inr x) (λ b x. absurd x) (λ b x. absurd x) (λ i x. x) (taking-out t))
+    (kept-but (λ b x. inl x) (λ b x. x) (λ b x. x) (λ i x. x) (taking (takenOut t) a c s))
 fetching {t} (none e e′) = kept-same t
 
 -- the node taken is the seat's own afterwards
@@ -261,8 +285,8 @@ module _ (t : Tables) (s : ℕ) where
   pub step-2-kept : phase t s ≡ 2 → NodesKept NoNode NoNode NoNode NoPlace t (step t s .after)
   step-2-kept e = step-or-same t s (NodesKept NoNode NoNode NoNode NoPlace t) (kept-same t) (λ x y z. rw (by-phase-2 t s e) (waking t s (wakes-to-walk t s)))
 
-  pub step-3-kept : phase t s ≡ 3 → NodesKept (Prev t s) (Own t s) NoNode NoPlace t (step t s .after)
-  step-3-kept e = step-or-same t s (NodesKept (Prev t s) (Own t s) NoNode NoPlace t) (kept-same t) (λ x y z. rw (by-phase-3 t s e) (validating t s (validates t s)))
+  pub step-3-kept : phase t s ≡ 3 → NodesKept (Prev t s) (Own t s) NoNode (OwnCount t s) t (step t s .after)
+  step-3-kept e = step-or-same t s (NodesKept (Prev t s) (Own t s) NoNode (OwnCount t s) t) (kept-same t) (λ x y z. rw (by-phase-3 t s e) (validating t s (validates t s)))
 
   pub step-4-kept : phase t s ≡ 4 → NodesKept NoNode NoNode NoNode NoPlace t (step t s .after)
   step-4-kept e = step-or-same t s (NodesKept NoNode NoNode NoNode NoPlace t) (kept-same t) (λ x y z. rw (by-phase-4 t s e) (waking t s (wakes-to-validate t s)))
@@ -289,9 +313,9 @@ module _ (t : Tables) (s : ℕ) where
           branch (λ (d : Done Answer). FetchKept s t (d .after)) (f .node is 0)
           (λ q. kept-same t) (λ q. fetched-kept (sound-room t s e h) w (eqb-false (f .node) 0 q))
 
-  pub release-kept : NodesKept NoNode (Own t s) NoNode NoPlace t (release t s .after)
+  pub release-kept : NodesKept NoNode (Own t s) NoNode (OwnCount t s) t (release t s .after)
   release-kept = released (releasing t s)
     where
-      released : {d : Done Answer} → Releasing t s d → NodesKept NoNode (Own t s) NoNode NoPlace t (d .after)
+      released : {d : Done Answer} → Releasing t s d → NodesKept NoNode (Own t s) NoNode (OwnCount t s) t (d .after)
       released (release-refused k r) = kept-same t
       released (release-accepted e h p) = leaving t s

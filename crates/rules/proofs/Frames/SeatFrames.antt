@@ -3,10 +3,11 @@
 use Prim.Native.Nat.{ℕ, _<_}
 use mathlib.Core.Path.{_≡_, refl, ap, _∙_}
 use mathlib.Core.Bool.{true}
+use mathlib.Core.List.{List}
 use native.Mathlib.Omega.{arith}
 use lib.ListN.{length}
 use Rattle.rules.specs.Notation.{_is_}
-use Rattle.rules.specs.Tables.{Tables, seatCount, seatWord, link, next, head, own, prev, cur}
+use Rattle.rules.specs.Tables.{Tables, tables, seatCount, seatWord, link, next, head, own, prev, cur}
 use Rattle.rules.specs.Comparison.{Claim}
 use Rattle.rules.specs.Shape.{sound}
 use Rattle.rules.specs.Fetch.{Fetched, writeClaim, takeNode, takenOut}
@@ -16,20 +17,21 @@ use Rattle.rules.specs.Calls.{begun}
 use Rattle.rules.specs.Play.{Call, beginCall, stepCall, releaseCall, call, seatOf}
 use Rattle.rules.specs.Apart.{OtherSeatsKept}
 use Rattle.rules.proofs.Ground.Logic.{branch}
+use Rattle.rules.proofs.Laws.Words.{seat-within}
 use Rattle.rules.proofs.Laws.Shape.{is-sound}
 use Rattle.rules.proofs.Rules.Effects.{Room, Seated}
 use Rattle.rules.proofs.Rules.RuleEffects.{phase-stored, cur-stored, place-stored, pass-stored, start-stored, hold-stored, withdraw-stored, leave-stored, enter-stored}
 use Rattle.rules.proofs.Rules.Reasons.{Unlinking, takes-out, goes-past, Starting, as-reader, as-writer, Inserting, links-in, restarts, rereads, Walking, inserts, unlinks, passes, waits, Waking, wakes, stays, ReaderValidating, reader-holds, reader-unlinks, reader-passes, reader-waits, WriterValidating, writer-holds, writer-unlinks, writer-passes, withdraws, Validating, validates-reader, validates-writer, Fetching, found, found-then, none, Stepping, in-1, in-2, in-3, in-4, in-6, at-rest}
 use Rattle.rules.proofs.Rules.Accepting.{Beginning, begin-refused, begin-accepted, beginning, Stepped, step-refused, step-accepted, stepped, Releasing, release-refused, release-accepted, releasing}
-use Rattle.rules.proofs.Keeping.TakeOut.{taken-out-seats}
+use Rattle.rules.proofs.Laws.NodesAlone.{taken-out-seats}
 
 pub sound-room : (t : Tables) (s : ℕ) → sound t ≡ true → s < seatCount t → Room t s
-sound-room t s e h = let l = is-sound t e .seats-length in omega arith
+sound-room t s e h = let l = is-sound t e .seats-length in let b = seat-within s (seatCount t) h in omega arith
 
 same : (s : ℕ) (t : Tables) → OtherSeatsKept s t t
 same s t = record { word = λ r f d h. refl; same-length = refl }
 
-others : {t u : Tables} {s : ℕ} {words : ℕ → ℕ} → Seated (t .seats) (u .seats) s words → OtherSeatsKept s t u
+others : {t : Tables} {nodes seats : List ℕ} {s : ℕ} {words : ℕ → ℕ} → Seated (t .seats) seats s words → OtherSeatsKept s t (tables nodes seats)
 others w = record { word = w .others; same-length = w .long }
 
 module _ (t : Tables) (s : ℕ) (r : Room t s) where

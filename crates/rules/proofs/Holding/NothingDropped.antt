@@ -5,7 +5,7 @@ use mathlib.Core.List.{List, [], _∷_}
 use mathlib.Core.Logic.{_≢_, _⊎_, inl, inr}
 use native.Mathlib.Omega.{arith}
 use borrow.Author.Tests.{ne-eqb, eqb-false}
-use Rattle.rules.specs.Tables.{Tables, phaseAt, ownAt, mark, next, phase, own, cur}
+use Rattle.rules.specs.Tables.{Tables, tables, phaseAt, ownAt, mark, next, phase, own, cur}
 use Rattle.rules.specs.Comparison.{Claim, claimOf}
 use Rattle.rules.specs.Answers.{Answer, back, Done, answered}
 use Rattle.rules.specs.Steps.{withdraw}
@@ -22,7 +22,8 @@ use Rattle.rules.proofs.Rules.Effects.{Room, Seated}
 use Rattle.rules.proofs.Rules.RuleEffects.{phase-stored, cur-stored, pass-stored, hold-stored, withdraw-stored}
 use Rattle.rules.proofs.Rules.Reasons.{Unlinking, takes-out, goes-past, Waking, wakes, stays, reader-holds, reader-unlinks, reader-passes, reader-waits, writer-holds, writer-unlinks, writer-passes, withdraws, Validating, validates-reader, validates-writer, Stepping, in-1, in-2, in-3, in-4, in-6, at-rest}
 use Rattle.rules.proofs.Rules.Accepting.{Beginning, begin-refused, begin-accepted, beginning, Stepped, step-refused, step-accepted, stepped, Releasing, release-refused, release-accepted, releasing}
-use Rattle.rules.proofs.Keeping.Good.{Good, room}
+use Rattle.rules.proofs.Keeping.Aside.{seat-room}
+use Rattle.rules.proofs.Keeping.Good.{Good}
 use Rattle.rules.proofs.Keeping.Hops.{on-list, is-listed}
 use Rattle.rules.proofs.Keeping.CallKeeps.{call-keeps, seat-in}
 use Rattle.rules.proofs.Frames.SeatFrames.{other-seats-kept}
@@ -35,13 +36,13 @@ data Retained (s : ℕ) (t : Tables) (d : Done Answer) : Type 0 where
   still-linked : Linked (phase (d .after) s) → own (d .after) s ≡ own t s → Retained s t d
   told-back : d .answer ≡ back → Retained s t d
 
-stored-linked : {t u : Tables} {s : ℕ} {words : ℕ → ℕ} → Seated (t .seats) (u .seats) s words → Linked (words phaseAt)
-    → words ownAt ≡ own t s → Retained s t (answered u s)
-stored-linked {t} {u} {s} w l e = still-linked (rw (w .at-s phaseAt (omega arith)) l) (w .at-s ownAt (omega arith) ∙ e)
+stored-linked : {t : Tables} {nodes seats : List ℕ} {s : ℕ} {words : ℕ → ℕ} → Seated (t .seats) seats s words → Linked (words phaseAt)
+    → words ownAt ≡ own t s → Retained s t (answered (tables nodes seats) s)
+stored-linked w l e = still-linked (rw (w .at-s phaseAt (omega arith)) l) (w .at-s ownAt (omega arith) ∙ e)
 
 module _ {N S : ℕ} {t : Tables} (g : Good N S t) (s : ℕ) (s-in : s < S) (l : Linked (phase t s)) where
   abbrev r : Room t s
-  r = room g s s-in
+  r = seat-room (g .aside) s s-in
 
   unlinking : {u : Tables} → Unlinking t s u → Retained s t (answered u s)
   unlinking (takes-out j) = stored-linked (cur-stored t s r (next t (cur t s))) l refl
@@ -123,7 +124,7 @@ module _ {N S : ℕ} {t : Tables} (g : Good N S t) where
   kept-by-other c s d l =
       let kept = other-seats-kept t c in
       let e : own (call t c .after) s ≡ own t s = kept .word s ownAt d (omega arith) in
-      still-stands (call-keeps g c) s (rw (kept .word s phaseAt d (omega arith)) l) e (ap (claimOf (call t c .after)) (sym e) ∙ others-claims-kept g c s d)
+      still-stands (call-keeps g c) s (rw (kept .word s phaseAt d (omega arith)) l) e (ap (claimOf (call t c .after)) (sym e) ∙ others-claims-kept t c s d)
 
   pub kept-by-call : (c : Call) (s : ℕ) → LinkedIn t s → StillStands s t (call t c .after) ⊎ GivesUp s t c
   kept-by-call c s l =

@@ -1,18 +1,18 @@
 -- What is known of the tables beside their view, of good tables and of those of sound shape alike: their lengths, for N nodes and S seats,
 -- and what holds of a seat's words by their number, those among them that the view does not show. Each store of the rules keeps it.
-use Prim.Native.Nat.{ℕ, _+_, _*_, _<_}
+use Prim.Native.Nat.{ℕ, _+_, _*_, _≤_, _<_}
 use mathlib.Core.Path.{_≡_, refl, sym, _∙_}
 use mathlib.Core.List.{List}
 use mathlib.Core.Logic.{_≢_}
 use native.Mathlib.Omega.{arith}
 use lib.ListN.{length}
-use Rattle.rules.specs.Tables.{Tables, tables, beforeNodes, nodeWidth, seatWidth, startAt, endAt, kindAt, markAt, phaseAt, seatWord, own, prev, cur, setNode, setLink}
+use Rattle.rules.specs.Tables.{Tables, tables, beforeNodes, nodeWidth, seatWidth, startAt, endAt, kindAt, markAt, phaseAt, countAt, seatWord, own, prev, cur, setCount, setNode, setLink}
 use Rattle.rules.specs.Comparison.{Claim}
 use Rattle.rules.specs.Fetch.{writeClaim}
 use Rattle.rules.specs.Steps.{linkIn}
 use Rattle.rules.proofs.Ground.Deciding.{if-same}
-use Rattle.rules.proofs.Laws.Words.{put-link-length, put-node-length}
-use Rattle.rules.proofs.Rules.Effects.{Seated}
+use Rattle.rules.proofs.Laws.Words.{put-link-length, put-node-length, put-top-length, seat-within}
+use Rattle.rules.proofs.Rules.Effects.{Room, Seated}
 
 -- of a seat with these words
 pub record SeatAside (words : ℕ → ℕ) : Type 0 where
@@ -39,6 +39,9 @@ module _ {N S : ℕ} {t : Tables} (w : Aside N S t) where
   pub word-put : (f a v : ℕ) → Aside N S (setNode f t a v)
   word-put f a v = record { nodes-long = put-node-length (t .nodes) a f v ∙ w .nodes-long; seats-long = w .seats-long; seat = w .seat }
 
+  pub count-put : (k v : ℕ) → Aside N S (setCount t k v)
+  count-put k v = record { nodes-long = put-top-length (t .nodes) (countAt k) v ∙ w .nodes-long; seats-long = w .seats-long; seat = w .seat }
+
   pub seat-put : {s : ℕ} {words : ℕ → ℕ} {seats : List ℕ} → Seated (t .seats) seats s words → SeatAside words → Aside N S (tables (t .nodes) seats)
   seat-put {s} {seats = seats} h k = record {
     nodes-long = w .nodes-long;
@@ -47,6 +50,13 @@ module _ {N S : ℕ} {t : Tables} (w : Aside N S t) where
         (λ e. same-words k (rw e (h .at-s)))
         (λ d. same-words (w .seat r) (λ f. h .others r f d));
   }
+
+  -- ---- there is room for every node and every seat
+  pub node-room : (a : ℕ) → a ≤ N → beforeNodes + nodeWidth * a ≤ length (t .nodes)
+  node-room a h = let l = w .nodes-long in omega arith
+
+  pub seat-room : (s : ℕ) → s < S → Room t s
+  seat-room s h = let l = w .seats-long in let b = seat-within s S h in omega arith
 
 -- ---- stores one after the other
 pub claim-put : {N S : ℕ} {t : Tables} → Aside N S t → (a : ℕ) (c : Claim) → Aside N S (writeClaim t a c)

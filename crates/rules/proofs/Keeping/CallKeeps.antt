@@ -1,7 +1,6 @@
 -- Every call leaves good tables good, so every table that is reached is good.
 use Prim.Native.Nat.{ℕ, _<_}
 use mathlib.Core.Path.{_≡_}
-use mathlib.Core.List.{List, [], _∷_}
 use mathlib.Core.Logic.{inl, inr}
 use native.Mathlib.Omega.{arith}
 use Rattle.rules.specs.Notation.{_is_}
@@ -11,9 +10,8 @@ use Rattle.rules.specs.Fetch.{Fetched}
 use Rattle.rules.specs.Answers.{Answer, Done}
 use Rattle.rules.specs.Steps.{refetched}
 use Rattle.rules.specs.Calls.{begun, step}
-use Rattle.rules.specs.Run.{run}
-use Rattle.rules.specs.Play.{Call, beginCall, stepCall, releaseCall, call, afterAll}
-use Rattle.rules.specs.Reached.{single, running, Reached, cleared, asked}
+use Rattle.rules.specs.Play.{Call, beginCall, stepCall, releaseCall, call}
+use Rattle.rules.specs.Reached.{Reached}
 use Rattle.rules.proofs.Ground.Logic.{branch}
 use Rattle.rules.proofs.Laws.Words.{seat-count, fresh-nodes-length, fresh-seats-length, fresh-node-word, fresh-link, fresh-seat-word}
 use Rattle.rules.proofs.Ground.Following.{not-from-0}
@@ -25,7 +23,7 @@ use Rattle.rules.proofs.Invariant.SeatShapes.{idle-seat}
 use Rattle.rules.proofs.Invariant.SeatMoves.{not-stuck}
 use Rattle.rules.proofs.Rules.Reasons.{Stepping, in-1, in-2, in-3, in-4, in-6, at-rest}
 use Rattle.rules.proofs.Rules.Accepting.{Beginning, begin-refused, begin-accepted, beginning, Stepped, step-refused, step-accepted, stepped, Releasing, release-refused, release-accepted, releasing}
-use Rattle.rules.proofs.Laws.RunSteps.{run-is-its-steps}
+use Rattle.rules.proofs.Laws.RunSteps.{reached-has}
 use Rattle.rules.proofs.Keeping.Good.{Good}
 use Rattle.rules.proofs.Keeping.StepKeeps.{walking-keeps, waiting-keeps, reader-waiting-keeps, validating-keeps, leave-keeps}
 use Rattle.rules.proofs.Keeping.FetchKeeps.{fetch-keeps}
@@ -71,15 +69,6 @@ unfolding call
 call-keeps {t = t} g (beginCall s c) = beginning-keeps g s (beginning t s c)
 call-keeps {t = t} g (stepCall s) = step-keeps g s
 call-keeps {t = t} g (releaseCall s) = releasing-keeps g s (releasing t s)
-
--- ---- calls one after the other, a run's steps among them
-calls-keep : {N S : ℕ} (calls : List Call) {t : Tables} → Good N S t → Good N S (afterAll t calls)
-unfolding afterAll
-calls-keep [] g = g
-calls-keep (c ∷ calls) g = calls-keep calls (call-keeps g c)
-
-run-keeps : {N S : ℕ} {t : Tables} → Good N S t → (schedule : List ℕ) (budget : ℕ) → Good N S (run t schedule budget .after)
-run-keeps {t = t} g schedule budget = rw (run-is-its-steps t schedule budget .tables-after) (calls-keep _ g)
 
 -- ---- fresh tables: every word is 0
 module _ (N S : ℕ) where
@@ -133,6 +122,4 @@ module _ (N S : ℕ) where
 
 -- ---- every table that is reached
 pub good : {N S : ℕ} {t : Tables} → Reached N S t → Good N S t
-good {N} {S} (cleared a b c d) = fresh-good N S
-good (asked r (single c)) = call-keeps (good r) c
-good (asked r (running schedule budget)) = run-keeps (good r) schedule budget
+good {N} {S} r = reached-has (Good N S) (λ t c g. call-keeps g c) (fresh-good N S) r

@@ -17,9 +17,10 @@ use Rattle.rules.proofs.Invariant.Take.{Written, take-keeps}
 use Rattle.rules.proofs.Rules.Effects.{stored, reseated, Noded, node-as-found, put-word, put-next}
 use Rattle.rules.proofs.Rules.RuleEffects.{enter-stored}
 use Rattle.rules.proofs.Rules.Reasons.{Fetching, found, found-then, none}
-use Rattle.rules.proofs.Keeping.Aside.{not-idle, seat-put, claim-put}
-use Rattle.rules.proofs.Keeping.Good.{Good, room, node-room}
-use Rattle.rules.proofs.Keeping.TakeOut.{taken-out-good, taken-out-seats}
+use Rattle.rules.proofs.Keeping.Aside.{not-idle, seat-put, node-room, seat-room, claim-put}
+use Rattle.rules.proofs.Keeping.Good.{Good}
+use Rattle.rules.proofs.Laws.NodesAlone.{taken-out-seats}
+use Rattle.rules.proofs.Keeping.TakeOut.{taken-out-good}
 use Rattle.rules.proofs.Keeping.Hops.{is-free}
 
 -- ---- the words of the node taken
@@ -55,13 +56,13 @@ module _ {N S : ℕ} {t : Tables} (g : Good N S t) (s : ℕ) (s-in : s < S) (c :
   take-good : (a : ℕ) → free t s a ≡ true → a ≢ 0 → a ≤ N → Good N S (takeNode t s a c)
   unfolding takeNode enterAtHead writeClaim
   take-good a f z h =
-      let wrote = claim-written t a c z (node-room g a h) in
+      let wrote = claim-written t a c z (node-room (g .aside) a h) in
       let u = writeClaim t a c in
       let same-head : head u ≡ head t = wrote .links 0 (λ e. z (sym e)) in
-      let sat = enter-stored u s (room g s s-in) a in
+      let sat = enter-stored u s (seat-room (g .aside) s s-in) a in
       record {
         aside = seat-put (claim-put (g .aside) a c) sat (not-idle (omega arith));
-        inv = take-keeps (g .inv) (is-free g s a f z h) (written t a c z (node-room g a h) proper) (reseated t (enterAtHead u s a) sat) same-head h may;
+        inv = take-keeps (g .inv) (is-free g s a f z h) (written t a c z (node-room (g .aside) a h) proper) (reseated t (enterAtHead u s a) sat) same-head h may;
       }
 
   -- the lowest free node is free

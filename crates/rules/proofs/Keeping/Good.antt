@@ -1,12 +1,11 @@
 -- Good tables: the invariant, and what is known beside the view. Each rule of a step that fetches nothing leaves good tables good, and
 -- so does release.
-use Prim.Native.Nat.{ℕ, _+_, _*_, _≤_, _<_}
-use mathlib.Core.Path.{_≡_, sym, subst, subst₂, _∙_}
+use Prim.Native.Nat.{ℕ, _≤_, _<_}
+use mathlib.Core.Path.{_≡_, sym, subst, _∙_}
 use mathlib.Core.List.{List}
 use mathlib.Core.Logic.{_≢_, _⊎_, inl, inr}
 use native.Mathlib.Omega.{arith}
-use lib.ListN.{length}
-use Rattle.rules.specs.Tables.{Tables, tables, beforeNodes, nodeWidth, markAt, nextAt, phaseAt, ownAt, prevAt, curAt, nodeWord, putLink, mark, link, next, phase, own, prev, cur, setLink, setMark}
+use Rattle.rules.specs.Tables.{Tables, tables, nodeWidth, markAt, nextAt, phaseAt, ownAt, prevAt, curAt, nodeWord, putLink, mark, link, next, phase, own, prev, cur, setCount, setLink, setMark}
 use Rattle.rules.specs.Comparison.{claimOf}
 use Rattle.rules.specs.Steps.{linkIn}
 use Rattle.rules.proofs.Laws.Words.{link-put-same, link-put-other, link-put-field, node-put-link, node-put-same, node-put-field, node-put-node, put-link-length}
@@ -19,23 +18,17 @@ use Rattle.rules.proofs.Invariant.Known.{Known, named-in, precedes-orde
 use Rattle.rules.proofs.Invariant.Unlink.{unlink-keeps}
 use Rattle.rules.proofs.Invariant.Insert.{Starts, reader, writer, insert-keeps}
 use Rattle.rules.proofs.Invariant.Leave.{Leaves, leave-keeps}
-use Rattle.rules.proofs.Rules.Effects.{Room, Seated, reseated, only-links, only-marks}
+use Rattle.rules.proofs.Rules.Effects.{Seated, reseated, same-nodes, only-links, only-marks}
 use Rattle.rules.proofs.Rules.Reasons.{Joined}
-use Rattle.rules.proofs.Keeping.Aside.{SeatAside, not-idle, Aside, link-put, word-put, seat-put, linked-in}
+use Rattle.rules.proofs.Keeping.Aside.{SeatAside, not-idle, Aside, link-put, word-put, count-put, seat-put, node-room, linked-in}
 
 pub record Good (N S : ℕ) (t : Tables) : Type 0 where
   pub aside : Aside N S t
   pub inv : Invariant N (nodesOf t) (seatsOf t)
 
-pub room : {N S : ℕ} {t : Tables} → Good N S t → (s : ℕ) → s < S → Room t s
-room g s h = let l = g .aside .seats-long in omega arith
-
-pub node-room : {N S : ℕ} {t : Tables} → Good N S t → (a : ℕ) → a ≤ N → beforeNodes + nodeWidth * a ≤ length (t .nodes)
-node-room g a h = let l = g .aside .nodes-long in omega arith
-
--- words outside the view do not matter
-pub same-view : {N S : ℕ} {t u : Tables} → Good N S t → Aside N S u → nodesOf t ≡ nodesOf u → seatsOf t ≡ seatsOf u → Good N S u
-same-view {N} g w e e′ = record { aside = w; inv = subst₂ (Invariant N) e e′ (g .inv) }
+-- ---- a count is stored: the invariant does not look at it
+pub counts-on : {N S : ℕ} {t : Tables} → Good N S t → (k v : ℕ) → Good N S (setCount t k v)
+counts-on {N} {t = t} g k v = record { aside = count-put (g .aside) k v; inv = subst (λ n. Invariant N n (seatsOf t)) (same-nodes t k v) (g .inv) }
 
 -- ---- a seat moves
 pub moves : {N S : ℕ} {t : Tables} {s : ℕ} {words : ℕ → ℕ} {seats : List ℕ} → Good N S t → Seated (t .seats) seats s words → SeatAside words
@@ -55,7 +48,7 @@ passes-over {N} {t = t} g p out p-in known out-pos gone joins =
     record {
       aside = link-put (g .aside) p v;
       inv = subst (λ n. Invariant N n (seatsOf t)) (only-links t (setLink t p v) (λ a f h d. node-put-link l p a f v h d))
-          (unlink-keeps (g .inv) (link (setLink t p v)) p out known (omega arith) gone joins (link-put-same l p v (node-room g p p-in)) old);
+          (unlink-keeps (g .inv) (link (setLink t p v)) p out known (omega arith) gone joins (link-put-same l p v (node-room (g .aside) p p-in)) old);
     }
 
 -- linking in changes links alone
@@ -89,11 +82,11 @@ module _ {N S : ℕ} {t : Tables} (g : Good N S t) (s : ℕ) where
 
     pub new-prev : link (linkIn t s) p ≡ o
     unfolding linkIn
-    new-prev = link-put-same (putLink (t .nodes) o c) p o (let l = put-link-length (t .nodes) o c in let h = node-room g p prev-in in omega arith)
+    new-prev = link-put-same (putLink (t .nodes) o c) p o (let l = put-link-length (t .nodes) o c in let h = node-room (g .aside) p prev-in in omega arith)
 
     pub new-own : link (linkIn t s) o ≡ c
     unfolding linkIn
-    new-own = link-put-other (putLink (t .nodes) o c) p o o (λ e. own-not-prev (sym e)) ∙ link-put-same (t .nodes) o c (node-room g o own-in)
+    new-own = link-put-other (putLink (t .nodes) o c) p o o (λ e. own-not-prev (sym e)) ∙ link-put-same (t .nodes) o c (node-room (g .aside) o own-in)
 
     pub old-links : (a : ℕ) → a ≢ o → a ≢ p → link (linkIn t s) a ≡ link t a
     unfolding linkIn
@@ -133,6 +126,6 @@ module _ {N S : ℕ} {t : Tables} (g : Good N S t) (s : ℕ) where
         inv = subst (λ n. Invariant N n (seatsOf u))
             (only-marks t (setMark t o 1) (λ a f b d. node-put-field ns o a markAt f 1 (omega arith) b (λ e. d (sym e)))
             (λ a. link-put-field ns o a markAt 1 (omega arith) (omega arith)))
-            (leave-keeps (g .inv) (mark (setMark t o 1)) s (words phaseAt) (words ownAt) l lv r (node-put-same ns o markAt 1 (omega arith) h (node-room g o own-in))
+            (leave-keeps (g .inv) (mark (setMark t o 1)) s (words phaseAt) (words ownAt) l lv r (node-put-same ns o markAt 1 (omega arith) h (node-room (g .aside) o own-in))
             (λ a d. node-put-node ns o a markAt markAt 1 (omega arith) (omega arith) (λ e. d (sym e))));
       }

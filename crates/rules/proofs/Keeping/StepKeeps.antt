@@ -1,11 +1,11 @@
 -- Every rule of a step that fetches nothing, and release, leave good tables good: by clauses on why the step did what it did.
-use Prim.Native.Nat.{ℕ, _<_}
+use Prim.Native.Nat.{ℕ, _+_, _-_, _<_}
 use mathlib.Core.Path.{_≡_, refl, sym, _∙_, ap}
 use mathlib.Core.Logic.{_≢_, _⊎_, inl, inr}
 use native.Mathlib.Omega.{arith}
-use Rattle.rules.specs.Tables.{Tables, markAt, kindAt, kind, mark, link, next, head, phase, own, prev, cur, setLink, setPhase, setCur}
+use Rattle.rules.specs.Tables.{Tables, markAt, kindAt, countWord, kind, mark, link, next, head, phase, own, prev, cur, setLink, setPhase, setCur}
 use Rattle.rules.specs.Comparison.{claimOf}
-use Rattle.rules.specs.Steps.{linkIn, pass, hold, withdraw, leave}
+use Rattle.rules.specs.Steps.{linkIn, pass, kindOf, hold, withdraw, leave}
 use Rattle.rules.proofs.Ground.Deciding.{if-same}
 use Rattle.rules.proofs.Laws.Words.{link-put-same, link-put-other, node-put-link}
 use Rattle.rules.proofs.Laws.Compared.{Precedes}
@@ -19,20 +19,20 @@ use Rattle.rules.proofs.Invariant.Leave as leaving
 use Rattle.rules.proofs.Rules.Effects.{Room}
 use Rattle.rules.proofs.Rules.RuleEffects.{phase-stored, cur-stored, place-stored, pass-stored, start-stored, hold-stored, withdraw-stored, leave-stored}
 use Rattle.rules.proofs.Rules.Reasons.{Joined, Unlinking, takes-out, goes-past, Starting, as-reader, as-writer, Inserting, links-in, restarts, rereads, Walking, inserts, unlinks, passes, waits, Waking, wakes, stays, ReaderValidating, reader-holds, reader-unlinks, reader-passes, reader-waits, WriterValidating, writer-holds, writer-unlinks, writer-passes, withdraws, Validating, validates-reader, validates-writer}
-use Rattle.rules.proofs.Keeping.Aside.{not-idle, all-zero}
-use Rattle.rules.proofs.Keeping.Good.{Good, room, node-room, moves, passes-over, prev-in, new-own, link-in-words, links-in-good, leaves-good}
+use Rattle.rules.proofs.Keeping.Aside.{not-idle, all-zero, node-room, seat-room}
+use Rattle.rules.proofs.Keeping.Good.{Good, counts-on, moves, passes-over, prev-in, new-own, link-in-words, links-in-good, leaves-good}
 
 -- the seat's cur goes on to a marked cur's next
 skip-good : {N S : ℕ} {t : Tables} → Good N S t → (s : ℕ) → s < S → (phase t s ≡ 1) ⊎ (phase t s ≡ 3) → cur t s ≢ 0 → mark t (cur t s) ≡ 1
     → Good N S (setCur t s (next t (cur t s)))
 skip-good {t = t} g s s-in (inl e) c m =
-    moves g (cur-stored t s (room g s s-in) (next t (cur t s))) (not-idle (omega arith)) (λ w. skip-keeps (g .inv) (rw e at w) e (omega arith))
+    moves g (cur-stored t s (seat-room (g .aside) s s-in) (next t (cur t s))) (not-idle (omega arith)) (λ w. skip-keeps (g .inv) (rw e at w) e (omega arith))
 skip-good {t = t} g s s-in (inr e) c m =
-    moves g (cur-stored t s (room g s s-in) (next t (cur t s))) (not-idle (omega arith)) (λ w. skip-validating-keeps (g .inv) (rw e at w) e (omega arith) m)
+    moves g (cur-stored t s (seat-room (g .aside) s s-in) (next t (cur t s))) (not-idle (omega arith)) (λ w. skip-validating-keeps (g .inv) (rw e at w) e (omega arith) m)
 
 module _ {N S : ℕ} {t : Tables} (g : Good N S t) (s : ℕ) (s-in : s < S) where
   abbrev r : Room t s
-  r = room g s s-in
+  r = seat-room (g .aside) s s-in
 
   -- ---- the moves that change no node
   pass-good : phase t s ≢ 0 → (Moved (seatsOf t) (seatsOf (pass t s)) s (phase t s) (cur t s) (next t (cur t s)) → Invariant N (nodesOf t) (seatsOf (pass t s)))
@@ -46,7 +46,7 @@ module _ {N S : ℕ} {t : Tables} (g : Good N S t) (s : ℕ) (s-in : s < S) wher
 
   hold-good : (Moved (seatsOf t) (seatsOf (hold t s)) s 5 0 0 → Invariant N (nodesOf t) (seatsOf (hold t s))) → Good N S (hold t s)
   unfolding hold
-  hold-good f = moves g (hold-stored t s r) (not-idle (omega arith)) f
+  hold-good f = counts-on (moves g (hold-stored t s r) (not-idle (omega arith)) f) (kindOf t s) (countWord t (kindOf t s) + 1)
 
   own-writes : phase t s ≢ 0 → kind t (own t s) ≢ 1 → kind t (own t s) ≡ 2
   own-writes b k = elim (own-proper (g .inv) s b .reads-or-writes) [ inl q ↦ absurd (k q) | inr q ↦ q ]
@@ -60,7 +60,7 @@ module _ {N S : ℕ} {t : Tables} (g : Good N S t) (s : ℕ) (s-in : s < S) wher
       let g′ = passes-over g p (cur t s) (prev-in g s) (known-prev s) c m (j .to-cur) in
       let same : link (setLink t p v) (cur t s) ≡ v =
       if-same (cur t s) p
-      (λ e. ap (link (setLink t p v)) e ∙ link-put-same (t .nodes) p v (node-room g p (prev-in g s)))
+      (λ e. ap (link (setLink t p v)) e ∙ link-put-same (t .nodes) p v (node-room (g .aside) p (prev-in g s)))
       (λ d. link-put-other (t .nodes) p (cur t s) v (λ e. d (sym e))) in
       rw same at (skip-good g′ s s-in ph c (node-put-link (t .nodes) p (cur t s) markAt v (omega arith) (omega arith) ∙ m))
 
@@ -120,4 +120,5 @@ module _ {N S : ℕ} {t : Tables} (g : Good N S t) (s : ℕ) (s-in : s < S) wher
   -- ---- release
   pub leave-keeps : phase t s ≡ 5 → Good N S (leave t s)
   unfolding leave
-  leave-keeps e = leaves-good g s (holding e) (leave-stored t s r) all-zero refl refl (leaving.releases refl refl)
+  leave-keeps e =
+      counts-on (leaves-good g s (holding e) (leave-stored t s r) all-zero refl refl (leaving.releases refl refl)) (kindOf t s) (countWord t (kindOf t s) - 1)

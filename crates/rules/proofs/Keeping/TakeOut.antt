@@ -18,7 +18,8 @@ use Rattle.rules.proofs.Ground.Pigeonhole.{short}
 use Rattle.rules.proofs.Invariant.View.{seatsOf}
 use Rattle.rules.proofs.Invariant.Clauses.{OnList, from-head, Owner}
 use Rattle.rules.proofs.Invariant.Known.{Known, known-head, known-ends, named-in}
-use Rattle.rules.proofs.Keeping.Good.{Good, node-room, passes-over}
+use Rattle.rules.proofs.Keeping.Aside.{node-room}
+use Rattle.rules.proofs.Keeping.Good.{Good, passes-over}
 
 -- ---- what a store to a link that is not ahead leaves of the kept nodes
 module _ (t : Tables) (p v : ℕ) where
@@ -121,18 +122,8 @@ taken-out-good {N} {S} {t} g =
     let ends = known-ends (g .inv) known-head in
     let few = short N (λ b. named-in (g .inv .nodes .links b)) (named-in (g .inv .nodes .links 0)) (ends .1) in
     taken-out-keeps (GoodAt N S)
-    (λ t p w. node-room (w .0) p (firm-in (w .0) p (w .1)))
+    (λ t p w. node-room (w .0 .aside) p (firm-in (w .0) p (w .1)))
     (λ t p w. firm-behind (w .0) p (w .1))
     (λ t p c w e d m. (passes-over (w .0) p c (firm-in (w .0) p (w .1)) (firm-known (w .0) p (w .1)) d m e, w .1))
     (λ t p c w e d m. (w .0, inr (w .0 .inv .owner (rw e at (firm-next (w .0) p (w .1) (rw e d))) m)))
     t (g, inl refl) (ends .0) (ends .1) (rw (node-count t N (g .aside .nodes-long)) few) .1 .0
-
--- ---- what taking out leaves, in any tables
-through-seats : (ks : List ℕ) (t : Tables) (p : ℕ) → linkThrough t p ks .seats ≡ t .seats
-unfolding linkThrough
-through-seats [] t p = refl
-through-seats (a ∷ ks) t p = through-seats ks (setLink t p a) a
-
-pub taken-out-seats : (t : Tables) → takenOut t .seats ≡ t .seats
-unfolding takenOut
-taken-out-seats t = through-seats (kept t) t 0

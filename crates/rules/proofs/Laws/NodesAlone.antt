@@ -1,10 +1,10 @@
--- What reads the node table alone reads the same beside any seats.
+-- What reads the node table alone reads the same beside any seats, and what stores there leaves every seat.
 use Prim.Native.Nat.{ℕ, zero, suc, _-_}
 use mathlib.Core.Path.{_≡_, refl, ap}
 use mathlib.Core.Bool.{Bool, _||_}
 use mathlib.Core.List.{List, [], _∷_}
 use Rattle.rules.specs.Notation.{_is_}
-use Rattle.rules.specs.Tables.{tables, linkWord, putLink, nodeCountOf}
+use Rattle.rules.specs.Tables.{Tables, tables, setLink, linkWord, putLink, nodeCountOf}
 use Rattle.rules.specs.Shape.{zeroNode, claimNode, names, nodeSound, endsWithin, nodesSound}
 use Rattle.rules.specs.Fetch.{keptFrom, kept, linkThrough, takenOut}
 
@@ -34,3 +34,13 @@ through-alone (a ∷ ks) nodes seats p = through-alone ks (putLink nodes p a) se
 pub taken-out-alone : (nodes seats : List ℕ) → tables (takenOut (tables nodes []) .nodes) seats ≡ takenOut (tables nodes seats)
 unfolding takenOut
 taken-out-alone nodes seats = rw (kept-alone nodes seats) (through-alone (kept (tables nodes seats)) nodes seats 0)
+
+-- ---- and changes none
+through-seats : (ks : List ℕ) (t : Tables) (p : ℕ) → linkThrough t p ks .seats ≡ t .seats
+unfolding linkThrough
+through-seats [] t p = refl
+through-seats (a ∷ ks) t p = through-seats ks (setLink t p a) a
+
+pub taken-out-seats : (t : Tables) → takenOut t .seats ≡ t .seats
+unfolding takenOut
+taken-out-seats t = through-seats (kept t) t 0

@@ -1,5 +1,5 @@
 -- Run is its steps: its count says how many entries were stepped, each accepted, and its tables are those after these steps; and it stops as
--- 01 says. Requests are the single calls that they come to.
+-- 01 says. Requests are the single calls that they come to, and what every call keeps every reached table has.
 use Prim.Native.Nat.{ℕ, zero, suc}
 use mathlib.Core.Path.{_≡_, refl, sym, ap, _∙_}
 use mathlib.Core.Bool.{true}
@@ -8,13 +8,13 @@ use native.Mathlib.Omega.{arith}
 use native.Mathlib.Numerals.{add-one}
 use borrow.Author.Tests.{eqb-true, eqb-false}
 use Rattle.rules.specs.Notation.{_is_}
-use Rattle.rules.specs.Tables.{Tables}
+use Rattle.rules.specs.Tables.{Tables, fresh}
 use Rattle.rules.specs.Shape.{sound}
 use Rattle.rules.specs.Answers.{Done, done}
 use Rattle.rules.specs.Calls.{damaged, step}
 use Rattle.rules.specs.Run.{ran, refusalOf, oneMore, runSteps, run}
 use Rattle.rules.specs.Play.{Call, call, afterAll}
-use Rattle.rules.specs.Reached.{Request, single, running, afterRequests, Reached, asked}
+use Rattle.rules.specs.Reached.{Request, single, running, afterRequests, Reached, cleared, asked}
 use Rattle.rules.specs.Refusing.{DamageRefuses, tables-damaged}
 use Rattle.rules.specs.declared.Ran.{Ran}
 use Rattle.rules.specs.Apart.{stepsOf, no-more, one-more, IsItsSteps, Stops, at-the-end, budget-used, at-a-refusal, callsMade}
@@ -72,11 +72,23 @@ pub damaged-run-refused : (t : Tables) (schedule : List ℕ) (budget k : ℕ) �
 unfolding run
 damaged-run-refused t schedule budget k (tables-damaged e) = rw e
 
--- ---- calls one after the other reach what they come to
+-- ---- what every call keeps, calls one after the other keep, and a run; so if fresh tables have it, every reached table has it
+module _ (P : Tables → Type 0) (kept : (t : Tables) (c : Call) → P t → P (call t c .after)) where
+  calls-keep : (calls : List Call) (t : Tables) → P t → P (afterAll t calls)
+  unfolding afterAll
+  calls-keep [] t p = p
+  calls-keep (c ∷ calls) t p = calls-keep calls (call t c .after) (kept t c p)
+
+  pub run-keeps : (t : Tables) (schedule : List ℕ) (budget : ℕ) → P t → P (run t schedule budget .after)
+  run-keeps t schedule budget p = rw (run-is-its-steps t schedule budget .tables-after) (calls-keep _ t p)
+
+  pub reached-has : {N S : ℕ} {t : Tables} → P (fresh N S) → Reached N S t → P t
+  reached-has p (cleared a b c d) = p
+  reached-has p (asked {t} r (single c)) = kept t c (reached-has p r)
+  reached-has p (asked {t} r (running schedule budget)) = run-keeps t schedule budget (reached-has p r)
+
 pub calls-reached : {N S : ℕ} {t : Tables} → Reached N S t → (calls : List Call) → Reached N S (afterAll t calls)
-unfolding afterAll
-calls-reached r [] = r
-calls-reached r (c ∷ calls) = calls-reached (asked r (single c)) calls
+calls-reached {N} {S} {t} r calls = calls-keep (Reached N S) (λ u c q. asked q (single c)) calls t r
 
 after-both : (t : Tables) (first then : List Call) → afterAll t (first ++ then) ≡ afterAll (afterAll t first) then
 unfolding afterAll

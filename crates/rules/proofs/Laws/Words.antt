@@ -9,8 +9,10 @@ use native.Mathlib.Omega.{arith}
 use native.Mathlib.Decide.{decLt}
 use lib.ListN.{getD, set, length, length-set, length-replicate, getD-replicate, List·getD-eq-default}
 use lib.Seq.{ext-getD, set-getD, getD-set-same, getD-set-other}
-use Rattle.rules.specs.Tables.{Tables, headAt, beforeNodes, nodeWidth, seatWidth, nextAt, topWord, putTop, nodeWord, putNode, linkWord, putLink, seatWord, putSeat, nodeCountOf, seatCountOf, nodeCount, seatCount, zeros, fresh}
+use Rattle.rules.specs.Tables.{Tables, headAt, countAt, countWord, setCount, beforeNodes, nodeWidth, seatWidth, nextAt, topWord, putTop, nodeWord, putNode, linkWord, putLink, seatWord, putSeat, nodeCountOf, seatCountOf, nodeCount, seatCount, zeros, fresh}
+use Rattle.rules.specs.Notation.{_is_}
 use Rattle.rules.proofs.Ground.Deciding.{if-same}
+use Rattle.rules.proofs.Ground.Logic.{branch}
 
 -- ---- lengths
 pub put-node-length : (l : List ℕ) (a f v : ℕ) → length (putNode l a f v) ≡ length l
@@ -128,6 +130,19 @@ pub link-put-top : (l : List ℕ) (i a v : ℕ) → i < beforeNodes → i ≢ he
 unfolding linkWord
 link-put-top l i zero v h d = top-put-other l i headAt v d
 link-put-top l i (suc m) v h d = node-put-top l i (suc m) nextAt v h
+
+-- the two counts stand before node 1, behind the head
+pub count-low : (k : ℕ) → countAt k < beforeNodes
+count-low k = branch (λ (i : ℕ). i < beforeNodes) (k is 1) (λ e. omega arith) (λ e. omega arith)
+
+pub count-not-head : (k : ℕ) → countAt k ≢ headAt
+count-not-head k = branch (λ (i : ℕ). i ≢ headAt) (k is 1) (λ e. omega arith) (λ e. omega arith)
+
+pub count-put-same : (t : Tables) (k v : ℕ) → beforeNodes ≤ length (t .nodes) → countWord (setCount t k v) k ≡ v
+count-put-same t k v h = top-put-same (t .nodes) (countAt k) v (let l = count-low k in omega arith)
+
+pub count-put-other : (t : Tables) (k j v : ℕ) → countAt j ≢ countAt k → countWord (setCount t k v) j ≡ countWord t j
+count-put-other t k j v d = top-put-other (t .nodes) (countAt k) (countAt j) v (λ e. d (sym e))
 
 -- ---- where a seat's words stand: all that looks at the width of a seat
 -- two words of seats stand at one place only if they are the same word

@@ -8,9 +8,9 @@ use native.Mathlib.Omega.{arith}
 use lib.ListN.{length}
 use borrow.Author.Tests.{eq-eqb, ne-eqb}
 use Rattle.rules.specs.Notation.{if_then_else_, _is_}
-use Rattle.rules.specs.Tables.{Tables, beforeNodes, nodeWidth, seatWidth, startAt, endAt, kindAt, markAt, nextAt, phaseAt, ownAt, prevAt, curAt, nodeWord, linkWord, seatWord, putNode, putLink, putSeat, clearWords, link, mark}
+use Rattle.rules.specs.Tables.{Tables, beforeNodes, nodeWidth, seatWidth, startAt, endAt, kindAt, markAt, nextAt, phaseAt, ownAt, prevAt, curAt, nodeWord, linkWord, seatWord, putNode, putLink, putSeat, clearWords, countAt, setCount, link, mark}
 use Rattle.rules.proofs.Ground.Deciding.{if-same}
-use Rattle.rules.proofs.Laws.Words.{seat-put-same, seat-put-field, seat-put-seat, put-seat-length, node-put-same, node-put-field, node-put-node, put-node-length, put-link-node, link-put-other, link-put-field}
+use Rattle.rules.proofs.Laws.Words.{seat-put-same, seat-put-field, seat-put-seat, put-seat-length, node-put-same, node-put-field, node-put-node, put-node-length, put-link-node, link-put-other, link-put-field, node-put-top, link-put-top, count-low, count-not-head}
 use Rattle.rules.proofs.Invariant.View.{nodesOf, seatsOf, relink, remark, Reseated}
 
 -- ---- the words of one seat
@@ -108,7 +108,16 @@ module _ {before after : List ℕ} {a : ℕ} {words : ℕ → ℕ} (pos : a ≢ 
   pub put-next : (v : ℕ) → Noded before (putLink after a v) a (stored words nextAt v)
   put-next v = rw (put-link-node after a v pos) (put-word nextAt v (omega arith))
 
--- ---- the view of the nodes, where only links or only marks have changed
+-- ---- the view of the nodes: a count is outside it, and links or marks alone may change
+pub same-nodes : (t : Tables) (k v : ℕ) → nodesOf t ≡ nodesOf (setCount t k v)
+same-nodes t k v = λ i. record {
+  start = fun-ext (λ a. sym (node-put-top (t .nodes) (countAt k) a startAt v (count-low k))) i;
+  end = fun-ext (λ a. sym (node-put-top (t .nodes) (countAt k) a endAt v (count-low k))) i;
+  kind = fun-ext (λ a. sym (node-put-top (t .nodes) (countAt k) a kindAt v (count-low k))) i;
+  mark = fun-ext (λ a. sym (node-put-top (t .nodes) (countAt k) a markAt v (count-low k))) i;
+  link = fun-ext (λ a. sym (link-put-top (t .nodes) (countAt k) a v (count-low k) (count-not-head k))) i;
+}
+
 pub only-links : (t u : Tables) → ((a f : ℕ) → f < nodeWidth → f ≢ nextAt → nodeWord (u .nodes) a f ≡ nodeWord (t .nodes) a f)
     → relink (nodesOf t) (link u) ≡ nodesOf u
 only-links t u e = λ i. record {

@@ -1,23 +1,24 @@
 -- A step keeps sound shape in any sound tables, reached or not, and so do begin and release. Only the step that links own in can break
 -- a clause, and only the last one: in tables that no calls have made, own may be on the list already.
-use Prim.Native.Nat.{ℕ, _+_, _*_, _≤_, _<_}
+use Prim.Native.Nat.{ℕ, _+_, _-_, _*_, _≤_, _<_}
 use mathlib.Core.Path.{_≡_, refl, sym, _∙_, subst}
 use mathlib.Core.Bool.{true, _||_}
 use mathlib.Core.Logic.{_≢_, _⊎_, inl, inr}
 use native.Mathlib.Omega.{arith}
 use lib.ListN.{length}
 use Rattle.rules.specs.Notation.{_is_}
-use Rattle.rules.specs.Tables.{Tables, beforeNodes, nodeWidth, putLink, nodeCount, seatCount, phaseAt, link, next, head, phase, own, prev, cur, setLink, setMark, setPhase, setPrev, setCur}
+use Rattle.rules.specs.Tables.{Tables, beforeNodes, nodeWidth, putLink, countWord, nodeCount, seatCount, phaseAt, link, next, head, phase, own, prev, cur, setLink, setMark, setPhase, setPrev, setCur}
 use Rattle.rules.specs.Comparison.{Claim, claimOf}
 use Rattle.rules.specs.Shape.{endsWithin, sound}
 use Rattle.rules.specs.Reach.{met, listed, othersReach, free, lowestFree, Reach, there}
 use Rattle.rules.specs.Fetch.{Fetched, writeClaim, enterAtHead, takeNode, takenOut}
 use Rattle.rules.specs.Answers.{Answer, Done}
-use Rattle.rules.specs.Steps.{linkIn, pass, hold, withdraw, leave, refetched}
+use Rattle.rules.specs.Steps.{linkIn, pass, kindOf, hold, withdraw, leave, refetched}
 use Rattle.rules.specs.Calls.{begun, begin, step, release}
+use Rattle.rules.specs.Play.{beginCall, stepCall, releaseCall, call}
 use Rattle.rules.proofs.Ground.Logic.{branch, or-neither, not-true, clash}
 use Rattle.rules.proofs.Laws.Words.{link-put-same, link-put-other, put-link-length, node-count}
-use Rattle.rules.proofs.Laws.Shape.{is-sound, sound-is}
+use Rattle.rules.proofs.Laws.Shape.{Counts, is-sound, sound-is}
 use Rattle.rules.proofs.Ground.Counting.{lowest-has}
 use Rattle.rules.proofs.Ground.Following.{reach-target, ends-tail, no-circle, unlink-keeps-ends, unlink-adds-none}
 use Rattle.rules.proofs.Ground.Pigeonhole.{short}
@@ -34,10 +35,11 @@ use Rattle.rules.proofs.Keeping.Good.{link-in-words}
 use Rattle.rules.proofs.Rules.RuleEffects.{phase-stored, cur-stored, place-stored, start-stored, hold-stored, withdraw-stored, leave-stored, enter-stored}
 use Rattle.rules.proofs.Rules.Reasons.{Unlinking, takes-out, goes-past, Starting, as-reader, as-writer, Inserting, links-in, restarts, rereads, Walking, inserts, unlinks, passes, waits, Waking, wakes, stays, reader-holds, reader-unlinks, reader-passes, reader-waits, writer-holds, writer-unlinks, writer-passes, withdraws, Validating, validates-reader, validates-writer, Fetching, found, found-then, none, Stepping, in-1, in-2, in-3, in-4, in-6, at-rest}
 use Rattle.rules.proofs.Rules.Accepting.{Beginning, begin-refused, begin-accepted, beginning, Stepped, step-refused, step-accepted, stepped, Releasing, release-refused, release-accepted, releasing}
-use Rattle.rules.proofs.Keeping.Aside.{not-idle, all-zero, linked-in}
+use Rattle.rules.proofs.Keeping.Aside.{not-idle, all-zero, node-room, seat-room, linked-in}
+use Rattle.rules.proofs.Frames.CountFrames.{counts-kept}
 use Rattle.rules.proofs.Keeping.FetchKeeps.{written}
 use Rattle.rules.proofs.Keeping.TakeOut.{taken-out-keeps}
-use Rattle.rules.proofs.Soundness.SoundShape.{SoundView, Shaped, within-ends, shaped-room, seat-moves, link-passes-over, claim-marked, claim-put, sound-shaped}
+use Rattle.rules.proofs.Soundness.SoundShape.{SoundView, Shaped, within-ends, seat-moves, link-passes-over, claim-marked, claim-put, count-put, sound-shaped}
 use Rattle.rules.proofs.Soundness.SoundReached.{shaped-sound}
 
 -- ---- fetch
@@ -59,7 +61,7 @@ module _ {N S : ℕ} (t : Tables) (p c : ℕ) (w : OnWay N S t p) (e : link t p 
   passed-over =
       let v = next t c in
       let u = setLink t p v in
-      let new : link u p ≡ v = link-put-same (t .nodes) p v (shaped-room (w .shaped) p (w .in-table)) in
+      let new : link u p ≡ v = link-put-same (t .nodes) p v (node-room (w .shaped .aside) p (w .in-table)) in
       let old : (a : ℕ) → a ≢ p → link u a ≡ link t a = λ a x. link-put-other (t .nodes) p a v (λ q. x (sym q)) in
       let left = unlink-keeps-ends (link t) (link u) p c pos e new old (rest .1) in
       record {
@@ -86,7 +88,7 @@ module _ {N S : ℕ} {t : Tables} (g : Shaped N S t) where
   taken-out-shaped : Shaped N S (takenOut t)
   taken-out-shaped =
       taken-out-keeps (OnWay N S)
-      (λ t p w. shaped-room (w .shaped) p (w .in-table))
+      (λ t p w. node-room (w .shaped .aside) p (w .in-table))
       (λ t p w. w .no-way-back)
       (λ t p c w e d m. passed-over t p c w e d)
       (λ t p c w e d m. gone-on t p c w e d)
@@ -109,8 +111,8 @@ module _ {N S : ℕ} {t : Tables} (g : Shaped N S t) where
       let w = lowest-has (nodeCount t) (free t s) a e z in
       let l : a ≤ N = rw (node-count t N (g .aside .nodes-long)) at (w .1) in
       let put = claim-put g a c z l p (free-off-list s a (w .0)) in
-      let there : Named N (claimOf (writeClaim t a c)) a = node (omega arith) l (written t a c z (shaped-room g a l) p .proper) in
-      seat-moves put (enter-stored (writeClaim t a c) s (let h = g .aside .seats-long in omega arith) a) (not-idle (omega arith))
+      let there : Named N (claimOf (writeClaim t a c)) a = node (omega arith) l (written t a c z (node-room (g .aside) a l) p .proper) in
+      seat-moves put (enter-stored (writeClaim t a c) s (seat-room (g .aside) s s-in) a) (not-idle (omega arith))
       (on-its-way (omega arith) (omega arith) (not-waiting (omega arith) (omega arith)) (omega arith) there (nothing refl) (put .view .nodes .links 0))
 
 fetch-shaped : {N S : ℕ} {t : Tables} {s : ℕ} {c : Claim} {f : Fetched} → Shaped N S t → s < S → Proper c → Fetching t s c f → Shaped N S (f .after)
@@ -129,7 +131,7 @@ foot-busy (inr e) = omega arith
 
 module _ {N S : ℕ} {t : Tables} (g : Shaped N S t) (s : ℕ) (s-in : s < S) (busy : phase t s ≢ 0) where
   room : Room t s
-  room = let l = g .aside .seats-long in omega arith
+  room = seat-room (g .aside) s s-in
 
   abbrev shape : SeatShape N (claimOf t) (phase t s) (own t s) (prev t s) (cur t s)
   shape = g .view .seats s
@@ -167,7 +169,9 @@ module _ {N S : ℕ} {t : Tables} (g : Shaped N S t) (s : ℕ) (s-in : s < S) (b
 
   hold-shaped : Shaped N S (hold t s)
   unfolding hold
-  hold-shaped = seat-moves g (hold-stored t s room) (not-idle (omega arith)) (resting-seat (inl refl) own-pos (shape .own-named))
+  hold-shaped =
+      count-put (seat-moves g (hold-stored t s room) (not-idle (omega arith)) (resting-seat (inl refl) own-pos (shape .own-named)))
+      (kindOf t s) (countWord t (kindOf t s) + 1)
 
   own-marked : Shaped N S (setMark t (own t s) 1)
   own-marked = claim-marked g (own t s) (let o = own-pos in omega arith) (named-in (shape .own-named)) own-proper
@@ -178,7 +182,7 @@ module _ {N S : ℕ} {t : Tables} (g : Shaped N S t) (s : ℕ) (s-in : s < S) (b
 
   leave-shaped : Shaped N S (leave t s)
   unfolding leave
-  leave-shaped = seat-moves own-marked (leave-stored t s room) all-zero (idle-seat refl)
+  leave-shaped = count-put (seat-moves own-marked (leave-stored t s room) all-zero (idle-seat refl)) (kindOf t s) (countWord t (kindOf t s) - 1)
 
 module _ {N S : ℕ} {t : Tables} (g : Shaped N S t) (s : ℕ) (s-in : s < S) (busy : phase t s ≢ 0) where
   unlinking-shaped : {u : Tables} → OnFoot (phase t s) → cur t s ≢ 0 → Unlinking t s u → Shaped N S u
@@ -186,7 +190,7 @@ module _ {N S : ℕ} {t : Tables} (g : Shaped N S t) (s : ℕ) (s-in : s < S) (b
       let v = next t (cur t s) in
       let l = named-in (shape g s s-in busy .prev-named) in
       let h = link-passes-over g (prev t s) (cur t s) l d (j .to-cur) in
-      cur-shaped h s s-in busy p v (rw (link-put-same (t .nodes) (prev t s) v (shaped-room g (prev t s) l)) at (h .view .nodes .links (prev t s)))
+      cur-shaped h s s-in busy p v (rw (link-put-same (t .nodes) (prev t s) v (node-room (g .aside) (prev t s) l)) at (h .view .nodes .links (prev t s)))
   unlinking-shaped p d (goes-past e) = cur-shaped g s s-in busy p (next t (cur t s)) (g .view .nodes .links (cur t s))
 
   -- each link is as it was, or a claim's to a claim
@@ -198,12 +202,12 @@ module _ {N S : ℕ} {t : Tables} (g : Shaped N S t) (s : ℕ) (s-in : s < S) (b
       let p = prev t s in
       let c = cur t s in
       let own-linked = putLink (t .nodes) o c in
-      let long : beforeNodes + nodeWidth * p ≤ length own-linked = rw (put-link-length (t .nodes) o c) (shaped-room g p (named-in (h .prev-named))) in
+      let long : beforeNodes + nodeWidth * p ≤ length own-linked = rw (put-link-length (t .nodes) o c) (node-room (g .aside) p (named-in (h .prev-named))) in
       if-same a p
       (λ e. inr (rw e (h .prev-named), rw (e, link-put-same own-linked p o long) (h .own-named)))
       (λ d. let kept = link-put-other own-linked p a o (λ e. d (sym e)) in
       if-same a o
-      (λ e. inr (rw e (h .own-named), rw (kept, e, link-put-same (t .nodes) o c (shaped-room g o (named-in (h .own-named)))) (h .cur-named)))
+      (λ e. inr (rw e (h .own-named), rw (kept, e, link-put-same (t .nodes) o c (node-room (g .aside) o (named-in (h .own-named)))) (h .cur-named)))
       (λ f. inl (kept ∙ link-put-other (t .nodes) o a c (λ e. f (sym e)))))
 
   linked-shaped : Ending (link (linkIn t s)) (head (linkIn t s)) → Shaped N S (linkIn t s)
@@ -273,34 +277,38 @@ module _ {N S : ℕ} {t : Tables} (g : Shaped N S t) (s : ℕ) (s-in : s < S) (b
 
 -- ---- the calls
 module _ (t : Tables) (s : ℕ) where
-  shaped-after : {u : Tables} → sound t ≡ true → Shaped (nodeCount t) (seatCount t) u → sound u ≡ true
-  shaped-after {u} e h =
+  shaped-after : {u : Tables} → sound t ≡ true → Shaped (nodeCount t) (seatCount t) u → Counts u → sound u ≡ true
+  shaped-after {u} e h c =
       let w = is-sound t e in
-      sound-is u (shaped-sound h (record { some-nodes = w .some-nodes; few-nodes = w .few-nodes; some-seats = w .some-seats; few-seats = w .few-seats }))
+      sound-is u (shaped-sound h (record { some-nodes = w .some-nodes; few-nodes = w .few-nodes; some-seats = w .some-seats; few-seats = w .few-seats }) c)
 
-  step-sound : {d : Done Answer} → sound t ≡ true → (phase t s ≡ 1 → phase (d .after) s ≡ 3 → endsWithin (nodeCount (d .after)) (d .after) (head (d .after)) ≡ true) → Stepped t s d → sound (d .after) ≡ true
-  step-sound e f (step-refused number r) = e
-  step-sound e f (step-accepted y h b w) = shaped-after e (stepping-shaped (sound-shaped (is-sound t e)) s h b f w)
+  step-sound : {d : Done Answer} → sound t ≡ true → Counts (d .after) → (phase t s ≡ 1 → phase (d .after) s ≡ 3 → endsWithin (nodeCount (d .after)) (d .after) (head (d .after)) ≡ true) → Stepped t s d → sound (d .after) ≡ true
+  step-sound e c f (step-refused number r) = e
+  step-sound e c f (step-accepted y h b w) = shaped-after e (stepping-shaped (sound-shaped (is-sound t e)) s h b f w) c
 
   pub step-keeps-sound : sound t ≡ true
       → (phase t s ≡ 1 → phase (step t s .after) s ≡ 3 → endsWithin (nodeCount (step t s .after)) (step t s .after) (head (step t s .after)) ≡ true)
       → sound (step t s .after) ≡ true
-  step-keeps-sound e f = step-sound e f (stepped t s)
+  unfolding call
+  step-keeps-sound e f = step-sound e (counts-kept t (stepCall s) (is-sound t e .counts)) f (stepped t s)
 
-  begin-sound : {c : Claim} {d : Done Answer} → sound t ≡ true → Beginning t s c d → sound (d .after) ≡ true
+  begin-sound : {c : Claim} {d : Done Answer} → sound t ≡ true → Counts (d .after) → Beginning t s c d → sound (d .after) ≡ true
   unfolding begun
-  begin-sound e (begin-refused number r) = e
-  begin-sound e (begin-accepted {f = f} y h p z w) =
-      branch (λ (d : Done Answer). sound (d .after) ≡ true) (f .node is 0)
-      (λ q. e)
-      (λ q. shaped-after e (fetch-shaped (sound-shaped (is-sound t e)) h p w))
+  begin-sound e k (begin-refused number r) = e
+  begin-sound e k (begin-accepted {f = f} y h p z w) =
+      branch (λ (d : Done Answer). Counts (d .after) → sound (d .after) ≡ true) (f .node is 0)
+      (λ q k. e)
+      (λ q k. shaped-after e (fetch-shaped (sound-shaped (is-sound t e)) h p w) k)
+      k
 
   pub begin-keeps-sound : (c : Claim) → sound t ≡ true → sound (begin t s c .after) ≡ true
-  begin-keeps-sound c e = begin-sound e (beginning t s c)
+  unfolding call
+  begin-keeps-sound c e = begin-sound e (counts-kept t (beginCall s c) (is-sound t e .counts)) (beginning t s c)
 
-  release-sound : {d : Done Answer} → sound t ≡ true → Releasing t s d → sound (d .after) ≡ true
-  release-sound e (release-refused number r) = e
-  release-sound e (release-accepted y h p) = shaped-after e (leave-shaped (sound-shaped (is-sound t e)) s h (omega arith))
+  release-sound : {d : Done Answer} → sound t ≡ true → Counts (d .after) → Releasing t s d → sound (d .after) ≡ true
+  release-sound e c (release-refused number r) = e
+  release-sound e c (release-accepted y h p) = shaped-after e (leave-shaped (sound-shaped (is-sound t e)) s h (omega arith)) c
 
   pub release-keeps-sound : sound t ≡ true → sound (release t s .after) ≡ true
-  release-keeps-sound e = release-sound e (releasing t s)
+  unfolding call
+  release-keeps-sound e = release-sound e (counts-kept t (releaseCall s) (is-sound t e .counts)) (releasing t s)

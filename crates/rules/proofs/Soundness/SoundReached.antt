@@ -1,5 +1,5 @@
--- What has sound shape in the theory's words, within the bounds, passes the test `sound`. Good tables have it, and so every table that is
--- reached.
+-- What has sound shape in the theory's words, within the bounds, and counts that are right, passes the test `sound`. Every table that is reached
+-- has all of it.
 use Prim.Native.Nat.{ℕ, zero, suc, _≤_}
 use mathlib.Core.Path.{_≡_, refl}
 use mathlib.Core.Bool.{true}
@@ -10,13 +10,14 @@ use Rattle.rules.specs.Tables.{Tables, nodeCount, link, next}
 use Rattle.rules.specs.Shape.{endsWithin, sound}
 use Rattle.rules.specs.Reached.{Reached, cleared, asked}
 use Rattle.rules.proofs.Ground.Logic.{or-right}
-use Rattle.rules.proofs.Laws.Shape.{Names, ZeroNode, ClaimNode, SeatSound, Sound, sound-is}
+use Rattle.rules.proofs.Laws.Shape.{Names, ZeroNode, ClaimNode, SeatSound, Counts, Sound, sound-is}
 use Rattle.rules.proofs.Laws.Words.{node-count, seat-count}
 use Rattle.rules.proofs.Ground.Following.{Ends, stop, more}
 use Rattle.rules.proofs.Ground.Pigeonhole.{short}
 use Rattle.rules.proofs.Invariant.View.{nodesOf, claimAt}
 use Rattle.rules.proofs.Invariant.Clauses.{Named, nothing, node}
 use Rattle.rules.proofs.Invariant.Known.{known-head, known-ends, named-in}
+use Rattle.rules.proofs.Frames.CountFrames.{reached-counts}
 use Rattle.rules.proofs.Keeping.Good.{Good}
 use Rattle.rules.proofs.Soundness.SoundShape.{Shaped}
 use Rattle.rules.proofs.Keeping.CallKeeps.{good}
@@ -70,8 +71,8 @@ module _ {N S : ℕ} {t : Tables} (g : Shaped N S t) where
     cur-names = names (h .cur-named);
   }
 
-  pub shaped-sound : Bounds N S → Sound t
-  shaped-sound b =
+  pub shaped-sound : Bounds N S → Counts t → Sound t
+  shaped-sound b c =
       let seats = seat-count t S (g .aside .seats-long) in
       let ends = g .view .ends in
       let few = short N (λ a. named-in (g .view .nodes .links a)) (named-in (g .view .nodes .links 0)) (ends .1) in
@@ -85,14 +86,15 @@ module _ {N S : ℕ} {t : Tables} (g : Shaped N S t) where
         node = λ a z l. node-shape a z;
         link-names = λ a. names (g .view .nodes .links a);
         seat = seat-shape;
+        counts = c;
         ends = ends-within t (ends .1) (nodeCount t) (rw count few);
       }
 
-pub good-sound : {N S : ℕ} {t : Tables} → Good N S t → Bounds N S → Sound t
-good-sound g = shaped-sound (record {
+good-shaped : {N S : ℕ} {t : Tables} → Good N S t → Shaped N S t
+good-shaped g = record {
   aside = g .aside;
   view = record { nodes = g .inv .nodes; seats = g .inv .seats; ends = known-ends (g .inv) known-head };
-})
+}
 
 pub reached-sound : {N S : ℕ} {t : Tables} → Reached N S t → sound t ≡ true
-reached-sound {t = t} r = sound-is t (good-sound (good r) (bounds r))
+reached-sound {t = t} r = sound-is t (shaped-sound (good-shaped (good r)) (bounds r) (reached-counts r))

@@ -1,16 +1,15 @@
 -- Sound shape in the theory's words: what the invariant says of the nodes and of each seat alone, and that the list ends. The changes
 -- that keep it: a seat moves; a node is passed over, marked, or written anew. Tables that pass the test `sound` have it.
-use Prim.Native.Nat.{ℕ, zero, suc, _+_, _*_, _≤_, _<_}
+use Prim.Native.Nat.{ℕ, zero, suc, _≤_, _<_}
 use mathlib.Core.Path.{_≡_, sym, ap, _∙_, subst}
 use mathlib.Core.Bool.{true}
 use mathlib.Core.List.{List}
 use mathlib.Core.Logic.{_≢_, _⊎_, inl, inr}
 use native.Mathlib.Omega.{arith}
 use native.Mathlib.Decide.{decLt}
-use lib.ListN.{length}
 use borrow.Author.Tests.{eqb-true}
 use Rattle.rules.specs.Notation.{_is_}
-use Rattle.rules.specs.Tables.{Tables, tables, beforeNodes, nodeWidth, nodeCount, seatCount, startAt, endAt, kindAt, markAt, phaseAt, ownAt, prevAt, curAt, mark, link, next, head, setLink, setMark}
+use Rattle.rules.specs.Tables.{Tables, tables, nodeCount, seatCount, startAt, endAt, kindAt, markAt, phaseAt, ownAt, prevAt, curAt, mark, link, next, head, setCount, setLink, setMark}
 use Rattle.rules.specs.Comparison.{Claim, claimOf}
 use Rattle.rules.specs.Shape.{endsWithin}
 use Rattle.rules.specs.Fetch.{writeClaim}
@@ -25,9 +24,9 @@ use Rattle.rules.specs.Refusing.{Proper}
 use Rattle.rules.proofs.Invariant.Unlink.{relink-shape}
 use Rattle.rules.proofs.Invariant.Leave.{remark-shape}
 use Rattle.rules.proofs.Invariant.Take.{Written, written-shape, seat-same}
-use Rattle.rules.proofs.Rules.Effects.{Seated, reseated, only-links, only-marks}
+use Rattle.rules.proofs.Rules.Effects.{Seated, reseated, same-nodes, only-links, only-marks}
 use Rattle.rules.proofs.Keeping.Aside as aside
-use Rattle.rules.proofs.Keeping.Aside.{SeatAside, Aside}
+use Rattle.rules.proofs.Keeping.Aside.{SeatAside, Aside, node-room}
 use Rattle.rules.proofs.Keeping.FetchKeeps.{written}
 
 pub record SoundView (N : ℕ) (n : Nodes) (s : Seats) : Type 0 where
@@ -88,9 +87,6 @@ pub record Shaped (N S : ℕ) (t : Tables) : Type 0 where
   pub aside : Aside N S t
   pub view : SoundView N (nodesOf t) (seatsOf t)
 
-pub shaped-room : {N S : ℕ} {t : Tables} → Shaped N S t → (a : ℕ) → a ≤ N → beforeNodes + nodeWidth * a ≤ length (t .nodes)
-shaped-room g a h = let l = g .aside .nodes-long in omega arith
-
 module _ {N S : ℕ} {t : Tables} (g : Shaped N S t) where
   pub seat-moves : {s : ℕ} {words : ℕ → ℕ} {seats : List ℕ} → Seated (t .seats) seats s words → SeatAside words
       → SeatShape N (claimOf t) (words phaseAt) (words ownAt) (words prevAt) (words curAt) → Shaped N S (tables (t .nodes) seats)
@@ -106,7 +102,7 @@ module _ {N S : ℕ} {t : Tables} (g : Shaped N S t) where
       record {
         aside = aside.link-put (g .aside) p v;
         view = subst (λ n. SoundView N n (seatsOf t)) (only-links t (setLink t p v) (λ a f h d. node-put-link l p a f v h d))
-            (pass-over-keeps-shape (g .view) (link (setLink t p v)) p out p-in (omega arith) joins (link-put-same l p v (shaped-room g p p-in))
+            (pass-over-keeps-shape (g .view) (link (setLink t p v)) p out p-in (omega arith) joins (link-put-same l p v (node-room (g .aside) p p-in))
             (λ a d. link-put-other l p a v (λ e. d (sym e))));
       }
 
@@ -118,18 +114,22 @@ module _ {N S : ℕ} {t : Tables} (g : Shaped N S t) where
         view = subst (λ n. SoundView N n (seatsOf t))
             (only-marks t (setMark t o 1) (λ a f b d. node-put-field l o a markAt f 1 (omega arith) b (λ e. d (sym e)))
             (λ a. link-put-field l o a markAt 1 (omega arith) (omega arith)))
-            (mark-keeps-shape (g .view) (mark (setMark t o 1)) o (omega arith) c (node-put-same l o markAt 1 (omega arith) d (shaped-room g o o-in))
+            (mark-keeps-shape (g .view) (mark (setMark t o 1)) o (omega arith) c (node-put-same l o markAt 1 (omega arith) d (node-room (g .aside) o o-in))
             (λ a d. node-put-node l o a markAt markAt 1 (omega arith) (omega arith) (λ e. d (sym e))));
       }
 
   pub claim-put : (a : ℕ) (c : Claim) → a ≢ 0 → a ≤ N → Proper c → (OnList (link t) a → ⊥) → Shaped N S (writeClaim t a c)
   unfolding writeClaim
   claim-put a c d a-in p off =
-      let room = shaped-room g a a-in in
+      let room = node-room (g .aside) a a-in in
       record {
         aside = aside.claim-put (g .aside) a c;
         view = write-keeps-shape (g .view) a (written t a c d room p) (omega arith) off;
       }
+
+  -- no part of it looks at a count
+  pub count-put : (k v : ℕ) → Shaped N S (setCount t k v)
+  count-put k v = record { aside = aside.count-put (g .aside) k v; view = subst (λ n. SoundView N n (seatsOf t)) (same-nodes t k v) (g .view) }
 
 -- ---- sound tables have it
 pub within-ends : (t : Tables) (h a : ℕ) → endsWithin h t a ≡ true → Ending (link t) a

@@ -21,11 +21,11 @@ use Rattle.rules.proofs.Invariant.View.{seatsOf, waiting, reader-waitin
 use Rattle.rules.proofs.Invariant.Phases.{linked-busy, linked-in}
 use Rattle.rules.proofs.Invariant.Clauses.{Seen, from-cur}
 use Rattle.rules.specs.Refusing.{Proper}
+use Rattle.rules.specs.Reached.{Reached}
 use Rattle.rules.proofs.Invariant.Known.{seen-proper, own-proper, hidden}
 use Rattle.rules.proofs.Rules.Reasons.{by-phase-2, by-phase-4, by-phase-5, by-phase-6}
-use Rattle.rules.proofs.Keeping.Good.{Good}
 use Rattle.rules.proofs.Keeping.Hops.{is-listed, busy-in}
-use Rattle.rules.proofs.Soundness.SoundReached.{Bounds}
+use Rattle.rules.proofs.Keeping.CallKeeps.{good}
 use Rattle.rules.proofs.Waiting.Alone.{AtRest, rests-holding, rests-waiting, rests-refused, accepted}
 
 -- ---- two claims that clash share a frame, and one of them writes
@@ -66,20 +66,20 @@ stays-withdrawn : (t : Tables) (s : ℕ) (c : Claim) → lowestFree t s ≡ 0 �
 unfolding refetched fetch fetchAgain
 stays-withdrawn t s c e e′ = rw (e, e′)
 
-module _ {N S : ℕ} (b : Bounds N S) (s : ℕ) (s-in : s < S) {t : Tables} (g : Good N S t) where
+module _ {N S : ℕ} (s : ℕ) (s-in : s < S) {t : Tables} (g : Reached N S t) where
   held-on : phase t s ≡ 5 → step t s ≡ done held t
-  held-on p = accepted b s s-in g (omega arith) ∙ by-phase-5 t s p ∙ ap (λ a. done a t) (answers-held t s p)
+  held-on p = accepted s s-in g (omega arith) ∙ by-phase-5 t s p ∙ ap (λ a. done a t) (answers-held t s p)
 
   waits-on : (phase t s ≡ 2) ⊎ (phase t s ≡ 4) → mark t (cur t s) ≢ 1 → step t s ≡ done (wait (cur t s)) t
   waits-on (inl p) m =
-      accepted b s s-in g (omega arith) ∙ by-phase-2 t s p ∙ ap (λ u. answered u s) (stays-waiting t s m)
+      accepted s s-in g (omega arith) ∙ by-phase-2 t s p ∙ ap (λ u. answered u s) (stays-waiting t s m)
       ∙ ap (λ a. done a t) (answers-wait t s (inl p))
   waits-on (inr p) m =
-      accepted b s s-in g (omega arith) ∙ by-phase-4 t s p ∙ ap (λ u. answered u s) (stays-reader-waiting t s m)
+      accepted s s-in g (omega arith) ∙ by-phase-4 t s p ∙ ap (λ u. answered u s) (stays-reader-waiting t s m)
       ∙ ap (λ a. done a t) (answers-wait t s (inr p))
 
   refused-8 : phase t s ≡ 6 → lowestFree t s ≡ 0 → lowestFree (takenOut t) s ≡ 0 → step t s ≡ done (refused 8) t
-  refused-8 p e e′ = accepted b s s-in g (omega arith) ∙ by-phase-6 t s p ∙ stays-withdrawn t s (claimOf t (own t s)) e e′
+  refused-8 p e e′ = accepted s s-in g (omega arith) ∙ by-phase-6 t s p ∙ stays-withdrawn t s (claimOf t (own t s)) e e′
 
   pub rest-stays : AtRest s t → step t s .after ≡ t
   rest-stays (rests-holding p) = ap (λ (d : Done Answer). d .after) (held-on p)
@@ -94,15 +94,15 @@ module _ {N S : ℕ} (b : Bounds N S) (s : ℕ) (s-in : s < S) {t : Tables} (g :
     cause : (f : ℕ) → Covers (claimOf t (own t s)) f → Covers (claimOf t (cur t s)) f
         → (kind t (own t s) ≡ 2) ⊎ (kind t (cur t s) ≡ 2) → own t s ≢ cur t s → Cause t s (cur t s)
     cause f in-own in-cur w d =
-        let on = g .inv .seen-listed seen m in
-        let o = g .inv .owner on m in
+        let on = good g .inv .seen-listed seen m in
+        let o = good g .inv .owner on m in
         record {
           seat = o .seat;
-          is-seat = rw (seat-count t S (g .aside .seats-long)) (busy-in g (o .seat) (linked-busy (o .linked)));
+          is-seat = rw (seat-count t S (good g .aside .seats-long)) (busy-in (good g) (o .seat) (linked-busy (o .linked)));
           other = λ e. d (ap (own t) (sym e) ∙ o .owns);
           theirs = o .owns;
           linked-in = linked-in (o .linked);
-          stands = (is-listed g on, ne-eqb (mark t (cur t s)) 1 m);
+          stands = (is-listed (good g) on, ne-eqb (mark t (cur t s)) 1 m);
           frame = f;
           covered = in-own;
           covered-by-theirs = in-cur;
@@ -111,17 +111,17 @@ module _ {N S : ℕ} (b : Bounds N S) (s : ℕ) (s-in : s < S) {t : Tables} (g :
 
   cause-2 : phase t s ≡ 2 → mark t (cur t s) ≢ 1 → Cause t s (cur t s)
   cause-2 p m =
-      let pos = g .inv .seats s .at-cur (inl p) in
-      let k = g .inv .stuck s .at-2 p in
-      let w = clash-shares (seen-proper (g .inv) (seen m pos)) (own-proper (g .inv) s (omega arith)) (k .0) (k .1) in
-      cause m pos (w .frame) (w .in-o) (w .in-c) (w .writes) (λ e. hidden (g .inv) {i = s} (waiting p) (rw e (seen m pos)))
+      let pos = good g .inv .seats s .at-cur (inl p) in
+      let k = good g .inv .stuck s .at-2 p in
+      let w = clash-shares (seen-proper (good g .inv) (seen m pos)) (own-proper (good g .inv) s (omega arith)) (k .0) (k .1) in
+      cause m pos (w .frame) (w .in-o) (w .in-c) (w .writes) (λ e. hidden (good g .inv) {i = s} (waiting p) (rw e (seen m pos)))
 
   cause-4 : phase t s ≡ 4 → mark t (cur t s) ≢ 1 → Cause t s (cur t s)
   cause-4 p m =
-      let pos = g .inv .seats s .at-cur (inr p) in
-      let k = g .inv .stuck s .at-4 p in
-      let theirs = seen-proper (g .inv) (seen m pos) in
-      let h = g .inv .reader-cur s (reader-waiting p) (k .0) pos in
+      let pos = good g .inv .seats s .at-cur (inr p) in
+      let k = good g .inv .stuck s .at-4 p in
+      let theirs = seen-proper (good g .inv) (seen m pos) in
+      let h = good g .inv .reader-cur s (reader-waiting p) (k .0) pos in
       let some = theirs .some in
       cause m pos (start t (cur t s)) (h, k .2) (omega arith)
       (inr (elim (theirs .reads-or-writes) [ inl z ↦ absurd (k .1 z) | inr z ↦ z ]))

@@ -1,4 +1,4 @@
--- From good tables to reached ones: a claim stepped alone settles, by steps and by a run.
+-- A claim stepped alone settles, by steps and by a run.
 use Prim.Native.Nat.{ℕ, _+_, _*_, _≤_, _<_}
 use mathlib.Core.Path.{_≡_}
 use mathlib.Core.Logic.{_≢_, _⊎_, inl, inr}
@@ -11,24 +11,23 @@ use Rattle.rules.specs.Reached.{Reached}
 use Rattle.rules.specs.Cause.{stepTimes, Settled, RunEnds}
 use Rattle.rules.proofs.Keeping.Hops.{busy-in}
 use Rattle.rules.proofs.Keeping.CallKeeps.{good}
-use Rattle.rules.proofs.Soundness.SoundReached.{bounds}
 use Rattle.rules.proofs.Soundness.Refusals.{no-refusal, refusal-8}
 use Rattle.rules.proofs.Waiting.Within.{more-time}
 use Rattle.rules.proofs.Waiting.RestsAlone.{comes-to-rest}
-use Rattle.rules.proofs.Waiting.StepsAlone.{times-good, settled-after, times-busy, step-none-or-8, run-alone, run-alone-ends}
+use Rattle.rules.proofs.Waiting.StepsAlone.{times-reached, settled-after, times-busy, step-none-or-8, run-alone, run-alone-ends}
 
 module _ {N S : ℕ} {t : Tables} (r : Reached N S t) (s : ℕ) (busy : phase t s ≢ 0) where
   seat-in : s < S
   seat-in = busy-in (good r) s busy
 
   pub settled : (k : ℕ) → 5 * N + 7 ≤ k → Settled (stepTimes k t s) s
-  settled k h = settled-after (bounds r) s seat-in k t (good r) (more-time {k = 5 * N + 7} h (comes-to-rest (bounds r) s seat-in (good r) busy))
+  settled k h = settled-after s seat-in k t r (more-time {k = 5 * N + 7} h (comes-to-rest s seat-in r busy))
 
   pub none-or-8 : (k : ℕ) → (refusalOf (step (stepTimes k t s) s .answer) ≡ 0) ⊎ (step (stepTimes k t s) s .answer ≡ refused 8)
-  none-or-8 k = elim (step-none-or-8 (bounds r) s seat-in (times-good k s (good r)) (times-busy k t s busy)) [ no-refusal e ↦ inl e | refusal-8 e ↦ inr e ]
+  none-or-8 k = elim (step-none-or-8 s seat-in (times-reached k s r) (times-busy k t s busy)) [ no-refusal e ↦ inl e | refusal-8 e ↦ inr e ]
 
   pub settled-by-run : (k : ℕ) → 5 * N + 7 ≤ k → (budget : ℕ) → k ≤ budget → Settled (run t (replicate k s) budget .after) s
-  settled-by-run k h budget l = rw (run-alone (bounds r) (good r) k budget s l) (settled k h)
+  settled-by-run k h budget l = rw (run-alone r k budget s l) (settled k h)
 
   pub run-ends : (k budget : ℕ) → k ≤ budget → RunEnds k (run t (replicate k s) budget .answer)
-  run-ends k budget l = run-alone-ends (bounds r) s seat-in k budget (good r) busy l
+  run-ends k budget l = run-alone-ends s seat-in k budget r busy l

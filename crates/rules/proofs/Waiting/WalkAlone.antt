@@ -11,6 +11,7 @@ use Rattle.rules.specs.Steps.{moveTo, linkIn, pass}
 use Rattle.rules.proofs.Ground.Deciding.{if-same}
 use Rattle.rules.proofs.Ground.Following.{reach-source, not-from-0, beyond, Ends, ends-tail}
 use Rattle.rules.specs.Reach.{Reach, here}
+use Rattle.rules.specs.Reached.{Reached}
 use Rattle.rules.proofs.Laws.Compared.{Precedes, apart, readers}
 use Rattle.rules.proofs.Invariant.View.{walking, validating}
 use Rattle.rules.proofs.Invariant.Phases.{outside-busy}
@@ -18,8 +19,9 @@ use Rattle.rules.proofs.Invariant.Clauses.{OnList, from-head, from-cur}
 use Rattle.rules.proofs.Invariant.Known.{own-proper, ordered-along}
 use Rattle.rules.proofs.Rules.RuleEffects.{pass-stored, start-stored}
 use Rattle.rules.proofs.Rules.Reasons.{Joined, Starting, as-reader, as-writer, links-in, restarts, rereads, Walking, inserts, unlinks, passes, waits}
-use Rattle.rules.proofs.Keeping.Good.{Good, room, link-in-words}
-use Rattle.rules.proofs.Soundness.SoundReached.{Bounds}
+use Rattle.rules.proofs.Keeping.Good.{link-in-words}
+use Rattle.rules.proofs.Keeping.Aside.{seat-room}
+use Rattle.rules.proofs.Keeping.CallKeeps.{good}
 use Rattle.rules.proofs.Waiting.Within.{Within, now, later, along-chain}
 use Rattle.rules.proofs.Waiting.Alone.{alone, AtRest, rests-in, after-1, unlinked, is-not-joined}
 use Rattle.rules.proofs.Waiting.WriterAlone.{ClearWay}
@@ -29,71 +31,71 @@ abbrev pub SeenAll : ℕ → Tables → Type 0
 SeenAll s t = (x : ℕ) → OnList (link t) x → mark t x ≢ 1 → Reach (link t) x (cur t s) ⊎ (end t x ≤ start t (own t s))
 
 pub record WalkAt (N S s : ℕ) (known : Bool) (t : Tables) : Type 0 where
-  pub good : Good N S t
+  pub reached : Reached N S t
   pub in-1 : phase t s ≡ 1
   pub joined : Joined t s
   pub seen-all : known ≡ true → kind t (own t s) ≢ 1 → SeenAll s t
 
 pub data WalkEnds (N S s : ℕ) (known : Bool) (t : Tables) : Type 0 where
   at-rest : AtRest s t → WalkEnds N S s known t
-  linked : Good N S t → phase t s ≡ 3 → (known ≡ true → kind t (own t s) ≢ 1 → ClearWay s t) → WalkEnds N S s known t
+  linked : Reached N S t → phase t s ≡ 3 → (known ≡ true → kind t (own t s) ≢ 1 → ClearWay s t) → WalkEnds N S s known t
 
-module _ {N S : ℕ} (b : Bounds N S) (s : ℕ) (s-in : s < S) (known : Bool) where
+module _ {N S : ℕ} (s : ℕ) (s-in : s < S) (known : Bool) where
   -- a writer that is linked in where it has seen all has a clear way from the head
   clear-way : {t : Tables} → WalkAt N S s known t → (cur t s ≡ 0) ⊎ Precedes (claimOf t (own t s)) (claimOf t (cur t s))
-      → Good N S (moveTo (linkIn t s) s 3 0 (head (linkIn t s))) → known ≡ true → kind t (own t s) ≢ 1
+      → Reached N S (moveTo (linkIn t s) s 3 0 (head (linkIn t s))) → known ≡ true → kind t (own t s) ≢ 1
       → ClearWay s (moveTo (linkIn t s) s 3 0 (head (linkIn t s)))
   clear-way {t} r front g k ko =
       let u = moveTo (linkIn t s) s 3 0 (head (linkIn t s)) in
-      let w = start-stored t s (room (r .good) s s-in) 3 0 (head (linkIn t s)) in
+      let w = start-stored t s (seat-room (good (r .reached) .aside) s s-in) 3 0 (head (linkIn t s)) in
       let own-is = w .at-s ownAt (omega arith) in
       let cur-is = w .at-s curAt (omega arith) in
       let same = link-in-words t s in
-      let proper = own-proper (r .good .inv) s (outside-busy (walking (r .in-1))) .some in
+      let proper = own-proper (good (r .reached) .inv) s (outside-busy (walking (r .in-1))) .some in
       record {
-        ahead = rw cur-is (g .inv .linked s (validating (w .at-s phaseAt (omega arith))) .on-list);
+        ahead = rw cur-is (good g .inv .linked s (validating (w .at-s phaseAt (omega arith))) .on-list);
         clear = rw (cur-is, own-is) (λ x rx ro ne mx.
-            let owner = g .inv .owner rx mx in
+            let owner = good g .inv .owner rx mx in
             let j = owner .seat in
             let d : j ≢ s = λ q. ne (sym (owner .owns) ∙ ap (own u) q ∙ own-is) in
             let on : OnList (link t) x =
             rw (sym (w .others j ownAt d (omega arith)) ∙ owner .owns) at
-            (r .good .inv .linked j (rw (w .others j phaseAt d (omega arith)) at (owner .linked)) .on-list) in
+            (good (r .reached) .inv .linked j (rw (w .others j phaseAt d (omega arith)) at (owner .linked)) .on-list) in
             rw (same x endAt (omega arith) (omega arith), same (own t s) startAt (omega arith) (omega arith))
             (elim (r .seen-all k ko x on (rw (same x markAt (omega arith) (omega arith)) at mx)) [
               | inr l ↦ l
               | inl q ↦ absurd (
-                  let a = ordered-along (r .good .inv) (from-cur s (here (reach-source q))) q .starts in
+                  let a = ordered-along (good (r .reached) .inv) (from-cur s (here (reach-source q))) q .starts in
                   let c = rw (same x startAt (omega arith) (omega arith), same (own t s) startAt (omega arith) (omega arith)) at
-                  (ordered-along (g .inv) (from-head rx) ro .starts) in
+                  (ordered-along (good g .inv) (from-head rx) ro .starts) in
                   elim front [ inl z ↦ not-from-0 q z | inr z ↦ elim z [ apart y ↦ omega arith | readers y y′ y″ ↦ ko y ] ])
             ]));
       }
 
   starts : {t u : Tables} → WalkAt N S s known t → (cur t s ≡ 0) ⊎ Precedes (claimOf t (own t s)) (claimOf t (cur t s))
-      → Starting (linkIn t s) s u → Good N S u → WalkEnds N S s known u
+      → Starting (linkIn t s) s u → Reached N S u → WalkEnds N S s known u
   unfolding linkIn
   starts {t} r front (as-reader x) g =
-      let w = start-stored t s (room (r .good) s s-in) 3 (own t s) (next (linkIn t s) (own t s)) in
+      let w = start-stored t s (seat-room (good (r .reached) .aside) s s-in) 3 (own t s) (next (linkIn t s) (own t s)) in
       linked g (w .at-s phaseAt (omega arith)) (λ k ko. absurd (ko (ap (kind (linkIn t s)) (w .at-s ownAt (omega arith)) ∙ x)))
   starts {t} r front (as-writer x) g =
-      let w = start-stored t s (room (r .good) s s-in) 3 0 (head (linkIn t s)) in
+      let w = start-stored t s (seat-room (good (r .reached) .aside) s s-in) 3 0 (head (linkIn t s)) in
       linked g (w .at-s phaseAt (omega arith)) (λ k ko. clear-way r front g k (λ q. x (link-in-words t s (own t s) kindAt (omega arith) (omega arith) ∙ q)))
 
   one-step : (m k : ℕ) (t : Tables) → WalkAt N S s known t → Ends (link t) (cur t s) k
       → ((u : Tables) → WalkAt N S s known u → (j : ℕ) → Ends (link u) (cur u s) j → j < k → Within (alone s) (WalkEnds N S s known) m u)
-      → {u : Tables} → Walking t s u → Good N S u → Within (alone s) (WalkEnds N S s known) m u
+      → {u : Tables} → Walking t s u → Reached N S u → Within (alone s) (WalkEnds N S s known) m u
   unfolding pass
   one-step m k t r e on (inserts f (links-in j st)) g = now (starts r f st g)
   one-step m k t r e on (inserts f (restarts x y)) g = absurd (is-not-joined t s x (r .joined))
   one-step m k t r e on (inserts f (rereads x y)) g = absurd (is-not-joined t s x (r .joined))
-  one-step m k t r e on (waits c mk f f′) g = now (at-rest (rests-in (r .good) s s-in 2 (inl refl) mk))
+  one-step m k t r e on (waits c mk f f′) g = now (at-rest (rests-in (r .reached) s s-in 2 (inl refl) mk))
   one-step m k t r e on (unlinks c mk w) g =
-      let f = unlinked s s-in (r .good) c w in
+      let f = unlinked s s-in (r .reached) c w in
       let z = ends-tail e c in
       let y = f .ends (z .1) in
       on _ (record {
-        good = g;
+        reached = g;
         in-1 = f .same-phase ∙ r .in-1;
         joined = record {
           unmarked = rw (f .same-prev, f .same-word (prev t s) markAt (omega arith) (omega arith)) (r .joined .unmarked);
@@ -108,13 +110,13 @@ module _ {N S : ℕ} (b : Bounds N S) (s : ℕ) (s-in : s < S) (known : Bool) wh
       })
       (y .0) (rw (f .on-to-next) (y .1)) (omega arith)
   one-step m k t r e on (passes c mk f) g =
-      let w = pass-stored t s (room (r .good) s s-in) in
+      let w = pass-stored t s (seat-room (good (r .reached) .aside) s s-in) in
       let z = ends-tail e c in
       let own-is = w .at-s ownAt (omega arith) in
       let prev-is = w .at-s prevAt (omega arith) in
       let cur-is = w .at-s curAt (omega arith) in
       on (pass t s) (record {
-        good = g;
+        reached = g;
         in-1 = w .at-s phaseAt (omega arith) ∙ r .in-1;
         joined = record { unmarked = rw prev-is mk; to-cur = rw (prev-is, cur-is) };
         seen-all = λ q ko. rw (own-is, cur-is) (λ x ox mx.
@@ -132,5 +134,5 @@ module _ {N S : ℕ} (b : Bounds N S) (s : ℕ) (s-in : s < S) (known : Bool) wh
       → Within (alone s) (WalkEnds N S s known) (suc m) t
   walk-ends m {t} =
       along-chain {P = WalkEnds N S s known} {R = WalkAt N S s known} (λ t. cur t s)
-      (λ m k t r e on. later {k = m} (after-1 b s s-in (r .good) (Within (alone s) (WalkEnds N S s known) m) (r .in-1) (λ u w gu. one-step m k t r e on w gu)))
+      (λ m k t r e on. later {k = m} (after-1 s s-in (r .reached) (Within (alone s) (WalkEnds N S s known) m) (r .in-1) (λ u w gu. one-step m k t r e on w gu)))
       m t

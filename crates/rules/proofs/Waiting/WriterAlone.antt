@@ -10,10 +10,11 @@ use Rattle.rules.specs.Steps.{pass}
 use Rattle.rules.proofs.Ground.Logic.{not-of}
 use Rattle.rules.proofs.Ground.Following.{reach-source, not-from-0, beyond, Ends, ends-tail}
 use Rattle.rules.specs.Reach.{Reach, here, there}
+use Rattle.rules.specs.Reached.{Reached}
 use Rattle.rules.proofs.Rules.RuleEffects.{pass-stored, hold-stored, withdraw-stored}
 use Rattle.rules.proofs.Rules.Reasons.{writer-holds, writer-unlinks, writer-passes, withdraws, Validating, validates-reader, validates-writer}
-use Rattle.rules.proofs.Keeping.Good.{Good, room}
-use Rattle.rules.proofs.Soundness.SoundReached.{Bounds}
+use Rattle.rules.proofs.Keeping.Aside.{seat-room}
+use Rattle.rules.proofs.Keeping.CallKeeps.{good}
 use Rattle.rules.proofs.Waiting.Within.{Within, now, later, along-chain}
 use Rattle.rules.proofs.Waiting.Alone.{alone, AtRest, rests-holding, after-3, unlinked}
 
@@ -25,36 +26,36 @@ pub record ClearWay (s : ℕ) (t : Tables) : Type 0 where
 -- how a writer's validation ends: it withdraws only if its way was not known to be clear
 pub data WriterEnds (N S s : ℕ) (known : Bool) (t : Tables) : Type 0 where
   at-rest : AtRest s t → WriterEnds N S s known t
-  withdrawn : known ≡ false → Good N S t → phase t s ≡ 6 → WriterEnds N S s known t
+  withdrawn : known ≡ false → Reached N S t → phase t s ≡ 6 → WriterEnds N S s known t
 
-module _ {N S : ℕ} (b : Bounds N S) (s : ℕ) (s-in : s < S) (known : Bool) where
-  record WriterAt (t : Tables) : Type 0 where
-    good : Good N S t
-    in-3 : phase t s ≡ 3
-    writes : kind t (own t s) ≢ 1
-    way : known ≡ true → ClearWay s t
+record WriterAt (N S s : ℕ) (known : Bool) (t : Tables) : Type 0 where
+  reached : Reached N S t
+  in-3 : phase t s ≡ 3
+  writes : kind t (own t s) ≢ 1
+  way : known ≡ true → ClearWay s t
 
-  one-step : (m k : ℕ) (t : Tables) → WriterAt t → Ends (link t) (cur t s) k
-      → ((u : Tables) → WriterAt u → (j : ℕ) → Ends (link u) (cur u s) j → j < k → Within (alone s) (WriterEnds N S s known) m u)
-      → {u : Tables} → Validating t s u → Good N S u → Within (alone s) (WriterEnds N S s known) m u
+module _ {N S : ℕ} (s : ℕ) (s-in : s < S) (known : Bool) where
+  one-step : (m k : ℕ) (t : Tables) → WriterAt N S s known t → Ends (link t) (cur t s) k
+      → ((u : Tables) → WriterAt N S s known u → (j : ℕ) → Ends (link u) (cur u s) j → j < k → Within (alone s) (WriterEnds N S s known) m u)
+      → {u : Tables} → Validating t s u → Reached N S u → Within (alone s) (WriterEnds N S s known) m u
   unfolding pass
   one-step m k t r e on (validates-reader x w) g = absurd (r .writes x)
   one-step m k t r e on (validates-writer x (writer-holds f)) g =
-      now (at-rest (rests-holding (hold-stored t s (room (r .good) s s-in) .at-s phaseAt (omega arith))))
+      now (at-rest (rests-holding (hold-stored t s (seat-room (good (r .reached) .aside) s s-in) .at-s phaseAt (omega arith))))
   one-step m k t r e on (validates-writer x (withdraws d f)) g =
       now (withdrawn
       (not-of known (λ q. let w = r .way q in elim f [
         | inl z ↦ not-from-0 (w .ahead) z
         | inr z ↦ let y = w .clear (cur t s) (here (reach-source (w .ahead))) (w .ahead) d (z .0) in omega arith
       ]))
-      g (withdraw-stored t s (room (r .good) s s-in) .at-s phaseAt (omega arith)))
+      g (withdraw-stored t s (seat-room (good (r .reached) .aside) s s-in) .at-s phaseAt (omega arith)))
   one-step m k t r e on (validates-writer x (writer-unlinks d c mk w)) g =
-      let f = unlinked s s-in (r .good) c w in
+      let f = unlinked s s-in (r .reached) c w in
       let z = ends-tail e c in
       let y = f .ends (z .1) in
       let pos : 0 < cur t s = omega arith in
       on _ (record {
-        good = g;
+        reached = g;
         in-3 = f .same-phase ∙ r .in-3;
         writes = rw (f .same-own, f .same-word (own t s) kindAt (omega arith) (omega arith)) (r .writes);
         way = λ q. let v = r .way q in record {
@@ -66,13 +67,13 @@ module _ {N S : ℕ} (b : Bounds N S) (s : ℕ) (s-in : s < S) (known : Bool) wh
       })
       (y .0) (rw (f .on-to-next) (y .1)) (omega arith)
   one-step m k t r e on (validates-writer x (writer-passes d c mk l)) g =
-      let w = pass-stored t s (room (r .good) s s-in) in
+      let w = pass-stored t s (seat-room (good (r .reached) .aside) s s-in) in
       let z = ends-tail e c in
       let pos : 0 < cur t s = omega arith in
       let own-is = w .at-s ownAt (omega arith) in
       let cur-is = w .at-s curAt (omega arith) in
       on (pass t s) (record {
-        good = g;
+        reached = g;
         in-3 = w .at-s phaseAt (omega arith) ∙ r .in-3;
         writes = rw own-is (r .writes);
         way = λ q. let v = r .way q in record {
@@ -82,9 +83,9 @@ module _ {N S : ℕ} (b : Bounds N S) (s : ℕ) (s-in : s < S) (known : Bool) wh
       })
       (z .0) (rw cur-is (z .1)) (omega arith)
 
-  pub writer-ends : (m : ℕ) {t : Tables} → Good N S t → phase t s ≡ 3 → kind t (own t s) ≢ 1 → (known ≡ true → ClearWay s t)
+  pub writer-ends : (m : ℕ) {t : Tables} → Reached N S t → phase t s ≡ 3 → kind t (own t s) ≢ 1 → (known ≡ true → ClearWay s t)
       → (k : ℕ) → Ends (link t) (cur t s) k → k ≤ m → Within (alone s) (WriterEnds N S s known) (suc m) t
   writer-ends m {t} g p x way =
-      along-chain {P = WriterEnds N S s known} {R = WriterAt} (λ t. cur t s)
-      (λ m k t r e on. later {k = m} (after-3 b s s-in (r .good) (Within (alone s) (WriterEnds N S s known) m) (r .in-3) (λ u w gu. one-step m k t r e on w gu)))
-      m t (record { good = g; in-3 = p; writes = x; way = way })
+      along-chain {P = WriterEnds N S s known} {R = WriterAt N S s known} (λ t. cur t s)
+      (λ m k t r e on. later {k = m} (after-3 s s-in (r .reached) (Within (alone s) (WriterEnds N S s known) m) (r .in-3) (λ u w gu. one-step m k t r e on w gu)))
+      m t (record { reached = g; in-3 = p; writes = x; way = way })
