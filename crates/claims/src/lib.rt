@@ -4,7 +4,8 @@
 ghost use mathlib.Core.Path.{_≡_};
 ghost use mathlib.Core.Bool.{true};
 ghost use lib.ListN.{length};
-ghost use Rattle.rules.specs.Tables.{tables, zeros};
+ghost use Prim.Native.Nat.{_<_};
+ghost use Rattle.rules.specs.Tables.{tables, seatCountOf, zeros};
 ghost use Rattle.rules.specs.Comparison.{claim};
 ghost use Rattle.rules.specs.Shape.{sound};
 ghost use Rattle.rules.specs.Answers.{done};
@@ -109,6 +110,8 @@ pub fn step(nodes: &mut [u32], seats: &mut [u32], s: u32) -> Reply
 // ---- release
 
 fn release_seat(nodes: &mut [u32], seats: &mut [u32], s: u32) -> Reply
+    requires { ⌜ sound (tables (now nodes) (now seats)) ≡ true ⌝ }
+    requires { ⌜ s < seatCountOf (now seats) ⌝ }
     ensures { λ r. ⌜ done (means r) (tables (now (nodes .exit)) (now (seats .exit))) ≡ part.releaseSeat (tables (now (nodes .entry)) (now (seats .entry))) s ⌝ }
 {
     let phase = words::seat_word(seats, s, words::PHASE);

@@ -8,14 +8,14 @@ use native.Mathlib.Omega.{arith}
 use native.Mathlib.Numerals.{add-one}
 use lib.Dec.{eqb, leb, ltb}
 use borrow.Author.Tests.{not-true, not-false, eq-eqb, ne-eqb, eqb-true, eqb-false, ltb-true, ltb-false, le-leb, lt-leb}
-use Rattle.rules.specs.Notation.{_is_, all}
+use Rattle.rules.specs.Notation.{all}
 use Rattle.rules.specs.Tables.{Tables, tables, nodeWord, linkWord, seatWord, nodeCountOf, seatCountOf, startAt, endAt, kindAt, markAt, phaseAt, ownAt, prevAt, curAt}
-use Rattle.rules.specs.Shape.{nodesFit, seatsFit, lengthsFit, isKind, zeroNode, claimNode, names, nodeSound, isPhase, zeroSeat, idleOrOwning, restingAtZero, waitingAtCur, seatSound, endsWithin, nodesSound, seatsSound, sound}
+use Rattle.rules.specs.Shape.{nodesFit, seatsFit, lengthsFit, isKind, zeroNode, claimNode, names, nodeSound, isPhase, zeroSeat, idleOrOwning, restingAtZero, waitingAtCur, seatSound, endsWithin, nodesSound, sound}
 use Rattle.rules.proofs.Ground.Logic.{either, or-case, or-neither, and-left, all-fails}
 use Rattle.rules.proofs.Laws.Words.{link-past}
 use Rattle.rules.proofs.Laws.Shape.{nodes-fit, named, name-of, name-small, lengths-fit}
 use Rattle.rules.proofs.Laws.NodesAlone.{ends-alone, nodes-alone}
-use Rattle.shape.specs.Parts.{busySound, waitingSound, restingSound, listEnds}
+use Rattle.shape.specs.Parts.{busySound, waitingSound, restingSound, seatsAndCountsSound, listEnds}
 
 pub lengths-is : (l t : List ℕ) (u v : Bool) → u ≡ nodesFit (tables l []) → v ≡ seatsFit (tables [] t) → (u && v) ≡ lengthsFit (tables l t)
 unfolding lengthsFit nodesFit seatsFit
@@ -151,7 +151,7 @@ module _ (l : List ℕ) (o v c : ℕ) where
   pub rests : (w : Bool) → w ≡ names (tables l []) o → (eqb o 0 || not (eqb v 0) || not (eqb c 0)) ≡ false → w ≡ restingSound (tables l []) o v c
   rests w q e = rw (rests-case (eqb o 0) (eqb v 0) (eqb c 0) (names (tables l []) o), e) q
 
--- ---- a seat by its phase, and every seat
+-- ---- a seat by its phase
 idle-case : (a b c f g h : Bool) → (a ≡ true → f ≡ true) → (b ≡ true → g ≡ true) → (c ≡ true → h ≡ true)
     → (a && b && c) ≡ (a && b && c && true && true && f && g && h)
 idle-case true true true f g h p q r = rw (p refl, q refl, r refl)
@@ -231,22 +231,6 @@ module _ (l t : List ℕ) (s p o v c : ℕ) (isCur : c ≡ seatWord t s curAt) (
   unfolding seatSound isPhase
   seat-no-phase h = rw (← isPhaseOf, lt-leb p 6 (omega arith))
 
-pub seats-none : (l t : List ℕ) → all 0 (seatSound (tables l t)) ≡ true
-unfolding all
-seats-none l t = refl
-
-pub seats-more : (l t : List ℕ) (s : ℕ) (b : Bool) → all s (seatSound (tables l t)) ≡ true → b ≡ seatSound (tables l t) s → b ≡ true → all (s + 1) (seatSound (tables l t)) ≡ true
-unfolding all
-seats-more l t s b h p q = rw (add-one s, h, ← p, q)
-
-pub seats-fail : (l t : List ℕ) (n s : ℕ) (b : Bool) → b ≡ seatSound (tables l t) s → b ≡ false → s < n → n ≡ seatCountOf t → false ≡ seatsSound (tables l t)
-unfolding seatsSound
-seats-fail l t n s b p q h e = sym (all-fails (seatCountOf t) s (seatSound (tables l t)) (rw e at h) (sym p ∙ q))
-
-pub seats-all : (l t : List ℕ) (n s : ℕ) → all s (seatSound (tables l t)) ≡ true → n ≤ s → s ≤ n → n ≡ seatCountOf t → true ≡ seatsSound (tables l t)
-unfolding seatsSound
-seats-all l t n s h a b e = let q : s ≡ seatCountOf t = omega arith in rw (← q, h)
-
 -- ---- the walk along next: what is left gives the whole
 ends-zero : (t : Tables) (left a : ℕ) → a ≡ 0 → endsWithin left t a ≡ true
 unfolding endsWithin
@@ -309,11 +293,11 @@ module _ (l t : List ℕ) (fit : lengthsFit (tables l t) ≡ true) where
       head-not c p e = rw (fit, nodes-are, ← isHead, sym p ∙ not-true c e)
 
       module _ (c : Bool) (isNamed : c ≡ names (tables l []) h) (found : not c ≡ false) where
-        pub seats-not : (d : Bool) → d ≡ seatsSound (tables l t) → not d ≡ true → false ≡ sound (tables l t)
+        pub seats-not : (d : Bool) → d ≡ seatsAndCountsSound (tables l t) → not d ≡ true → false ≡ sound (tables l t)
         unfolding sound names
         seats-not d p e = rw (fit, nodes-are, ← isHead, sym isNamed ∙ not-false c found, sym p ∙ not-true d e)
 
-        pub words-are : (d r : Bool) → r ≡ listEnds (tables l []) → d ≡ seatsSound (tables l t) → not d ≡ false → r ≡ sound (tables l t)
+        pub words-are : (d r : Bool) → r ≡ listEnds (tables l []) → d ≡ seatsAndCountsSound (tables l t) → not d ≡ false → r ≡ sound (tables l t)
         unfolding sound names
         words-are d r q p e =
             rw (fit, nodes-are, ← isHead, sym isNamed ∙ not-false c found, sym p ∙ not-false d e, ← ends-alone (nodeCountOf l) l t h, isHead) q

@@ -1,9 +1,10 @@
--- Parts of sound shape: what it asks of a seat's own, prev and cur by the seat's phase, and its last clause alone.
+-- Parts of sound shape: what it asks of a seat's own, prev and cur by the seat's phase, its two clauses on the seats together, and its last
+-- clause alone.
 use Prim.Native.Nat.{ℕ}
 use mathlib.Core.Bool.{Bool, not, _&&_}
-use Rattle.rules.specs.Notation.{_is_}
-use Rattle.rules.specs.Tables.{Tables, nodeCount, head}
-use Rattle.rules.specs.Shape.{names, endsWithin}
+use Rattle.rules.specs.Notation.{if_then_else_, _is_}
+use Rattle.rules.specs.Tables.{Tables, nodeCount, kind, head, phase, own}
+use Rattle.rules.specs.Shape.{names, seatsSound, countsFit, endsWithin}
 
 -- in any phase but 0
 abbrev pub busySound : Tables → ℕ → ℕ → ℕ → Bool
@@ -16,6 +17,14 @@ waitingSound t own prev cur = not (cur is 0) && busySound t own prev cur
 -- in phases 5 and 6
 abbrev pub restingSound : Tables → ℕ → ℕ → ℕ → Bool
 restingSound t own prev cur = not (own is 0) && prev is 0 && cur is 0 && names t own
+
+-- the kind of the claim that a seat holds with, 0 if it holds with none
+abbrev pub heldKind : Tables → ℕ → ℕ
+heldKind t s = if phase t s is 5 then kind t (own t s) else 0
+
+-- each seat is sound, and the two words are the numbers of those who hold
+abbrev pub seatsAndCountsSound : Tables → Bool
+seatsAndCountsSound t = seatsSound t && countsFit t
 
 -- "from the head, 0 is met after at most N nodes"
 abbrev pub listEnds : Tables → Bool

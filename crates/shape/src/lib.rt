@@ -4,8 +4,8 @@ ghost use mathlib.Core.Bool.{true};
 ghost use mathlib.Core.List.{[]};
 ghost use Prim.Native.Nat.{_<_, _≤_};
 ghost use Rattle.rules.specs.Tables.{tables, nodeCountOf, seatCountOf};
-ghost use Rattle.rules.specs.Shape.{nodesFit, lengthsFit, isKind, names, nodeSound, seatSound, nodesSound, seatsSound, sound};
-ghost use Rattle.shape.specs.Parts.{busySound, waitingSound, restingSound, listEnds};
+ghost use Rattle.rules.specs.Shape.{nodesFit, lengthsFit, isKind, names, nodeSound, seatSound, nodesSound, sound};
+ghost use Rattle.shape.specs.Parts.{busySound, waitingSound, restingSound, heldKind, seatsAndCountsSound, listEnds};
 
 pub fn lengths_fit(nodes: &[u32], seats: &[u32]) -> bool
     ensures { λ r. ⌜ r ≡ lengthsFit (tables (now (nodes .entry)) (now (seats .entry))) ⌝ }
@@ -131,20 +131,43 @@ fn seat_sound(nodes: &[u32], seats: &[u32], n: u32, s: u32) -> bool
     }
 }
 
-fn seats_sound(nodes: &[u32], seats: &[u32], n: u32, count: u32) -> bool
+// the kind of the claim that a seat holds with, 0 if it holds with none
+fn held_kind(nodes: &[u32], seats: &[u32], s: u32) -> u32
+    requires { ⌜ s < seatCountOf (now seats) ⌝ }
+    requires { ⌜ seatSound (tables (now nodes) (now seats)) s ≡ true ⌝ }
+    ensures { λ r. ⌜ r ≡ heldKind (tables (now (nodes .entry)) (now (seats .entry))) s ⌝ }
+{
+    let phase = words::seat_word_within(seats, s, words::PHASE);
+    if phase == 5 {
+        let own = words::seat_word_within(seats, s, words::OWN);
+        return words::node_word_within(nodes, own, words::KIND);
+    }
+    0
+}
+
+// Each seat is sound, and the two words are the numbers of those who hold. They are counted in the pass that tests the seats, whose words
+// are then at hand: counting them in a pass of its own costs twice as much.
+fn seats_and_counts_sound(nodes: &[u32], seats: &[u32], n: u32, count: u32) -> bool
     requires { ⌜ n ≡ nodeCountOf (now nodes) ⌝ }
     requires { ⌜ count ≡ seatCountOf (now seats) ⌝ }
-    ensures { λ r. ⌜ r ≡ seatsSound (tables (now (nodes .entry)) (now (seats .entry))) ⌝ }
+    ensures { λ r. ⌜ r ≡ seatsAndCountsSound (tables (now (nodes .entry)) (now (seats .entry))) ⌝ }
 {
+    let mut readers: u32 = 0;
+    let mut writers: u32 = 0;
     let mut s: u32 = 0;
     while s < count {
-        if seat_sound(nodes, seats, n, s) {
-            s += 1;
-        } else {
+        if !seat_sound(nodes, seats, n, s) {
             return false;
         }
+        let kind = held_kind(nodes, seats, s);
+        s += 1;
+        if kind == 1 {
+            readers += 1;
+        } else if kind == 2 {
+            writers += 1;
+        }
     }
-    true
+    (words::count_word(nodes, 1) == readers) & (words::count_word(nodes, 2) == writers)
 }
 
 // From the head, 0 is met after at most N nodes. Nothing is asked of the words: a next past the last node reads 0 and ends the list.
@@ -179,7 +202,7 @@ fn words_sound(nodes: &[u32], seats: &[u32]) -> bool
     if !names_node(nodes, n, head) {
         return false;
     }
-    if !seats_sound(nodes, seats, n, count) {
+    if !seats_and_counts_sound(nodes, seats, n, count) {
         return false;
     }
     list_ends(nodes)

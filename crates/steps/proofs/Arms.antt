@@ -1,6 +1,6 @@
 -- The step rules as one law for each way through the code: n and t are the node and the seat table before, n′ and t′ after. The
 -- premises are what the code learned on its way, the last first.
-use Prim.Native.Nat.{ℕ, zero, suc}
+use Prim.Native.Nat.{ℕ, _+_, _≤_, _<_}
 use mathlib.Core.Path.{_≡_, refl, sym, ap, _∙_}
 use mathlib.Core.Bool.{Bool, true, false, not, _&&_, _||_}
 use mathlib.Core.List.{List, []}
@@ -9,12 +9,15 @@ use lib.Dec.{leb, eqb}
 use lib.IntN.{ℤ, pos}
 use lib.Signed.{ltZ}
 use mir.Syntax.{w32}
-use mir.Val.{ofZ, toZ}
+use mir.Val.{Fits, ofZ, toZ}
+use native.Mathlib.Omega.{arith}
 use borrow.Author.Tests.{eq-eqb, ne-eqb}
-use Rattle.rules.specs.Tables.{Tables, tables, nodeWord, linkWord, seatWord, putSeat, kindAt, markAt, startAt, endAt, phaseAt, ownAt, prevAt, curAt}
+use Rattle.rules.specs.Tables.{Tables, tables, seatCountOf, nodeWord, linkWord, seatWord, putSeat, kindAt, markAt, startAt, endAt, phaseAt, ownAt, prevAt, curAt, countWord, phase}
+use Rattle.rules.specs.Shape.{sound}
 use Rattle.rules.specs.Comparison.{claimOf, compare}
 use Rattle.rules.specs.Answers.{Answer, on, wait, held, back, Done, done, answerOf, answered}
-use Rattle.rules.specs.Steps.{moveTo, joined, unlink, pass, linkIn, startValidating, lookAgain, insert, hold, withdraw, walking, waitingToEnter, readerValidating, writerValidating, validating, readerWaiting}
+use Rattle.rules.specs.Steps.{moveTo, joined, unlink, pass, linkIn, startValidating, lookAgain, insert, kindOf, hold, withdraw, walking, waitingToEnter, readerValidating, writerValidating, validating, readerWaiting}
+use Rattle.rules.proofs.Laws.Counts.{count-few, holder-counts}
 use Rattle.comparison.proofs.Signs.{compare-fits, at-zero, below-zero, above-zero}
 use Rattle.steps.specs.Parts.{skip, skipAndLink, walkByComparison, wakeTo, isPast, readOn, endsBefore, writeOn}
 
@@ -33,6 +36,13 @@ pub before-is : (n t : List ℕ) (s o c e x : ℕ) → x ≡ nodeWord n o startA
     → leb e x ≡ endsBefore (tables n t) s
 unfolding endsBefore
 before-is n t s o c e x px pe pc po = rw (px, pe, pc, po)
+
+-- ---- the counts: in sound tables one more and one less are 32-bit numbers, one less at a seat that holds
+pub count-more-fits : (n t : List ℕ) (k x : ℕ) → x ≡ countWord (tables n []) k → sound (tables n t) ≡ true → Fits w32 (x + 1)
+count-more-fits n t k x e z = let h : x ≤ 64 = rw e (count-few (tables n t) z k) in record { fits = omega arith }
+
+pub count-some : (n t : List ℕ) (s k x : ℕ) → x ≡ countWord (tables n []) k → k ≡ kindOf (tables n t) s → sound (tables n t) ≡ true → s < seatCountOf t → phase (tables n t) s ≡ 5 → 1 ≤ x
+count-some n t s k x e q z h p = rw (e, q) (holder-counts (tables n t) z s h p)
 
 -- ---- by whether prev is joined to cur
 module _ (n t t′ : List ℕ) (s : ℕ) (b : Bool) (isJoined : b ≡ joined (tables n t) s) where
@@ -149,9 +159,9 @@ module _ (n t t′ : List ℕ) (s c : ℕ) (isCur : c ≡ seatWord t s curAt) wh
 
 -- ---- a reader validates
 module _ (n t t′ : List ℕ) (s : ℕ) (b : Bool) (isPastCur : b ≡ isPast (tables n t) s) where
-  pub reader-holds : t′ ≡ moveTo (tables [] t) s 5 0 0 .seats → b ≡ true → tables n t′ ≡ readerValidating (tables n t) s
-  unfolding readerValidating hold isPast
-  reader-holds w e = rw (sym isPastCur ∙ e, w)
+  pub reader-holds : (n′ : List ℕ) → tables n′ t′ ≡ hold (tables n t) s → b ≡ true → tables n′ t′ ≡ readerValidating (tables n t) s
+  unfolding readerValidating isPast
+  reader-holds n′ w e = rw (sym isPastCur ∙ e) w
 
   pub reader-on : (n′ : List ℕ) → tables n′ t′ ≡ readOn (tables n t) s → b ≡ false → tables n′ t′ ≡ readerValidating (tables n t) s
   unfolding readerValidating readOn isPast
@@ -165,9 +175,9 @@ module _ (n t t′ : List ℕ) (s o c : ℕ) (isCur : c ≡ seatWord t s curAt) 
   not-own : c ≢ o → eqb (seatWord t s curAt) (seatWord t s ownAt) ≡ false
   not-own d = ne-eqb (seatWord t s curAt) (seatWord t s ownAt) (λ e. d (isCur ∙ e ∙ sym isOwn))
 
-  pub writer-holds : t′ ≡ moveTo (tables [] t) s 5 0 0 .seats → c ≡ o → tables n t′ ≡ writerValidating (tables n t) s
-  unfolding writerValidating hold
-  writer-holds w e = rw (at-own e, w)
+  pub writer-holds : (n′ : List ℕ) → tables n′ t′ ≡ hold (tables n t) s → c ≡ o → tables n′ t′ ≡ writerValidating (tables n t) s
+  unfolding writerValidating
+  writer-holds n′ w e = rw (at-own e) w
 
   pub writer-ends : (n′ : List ℕ) → tables n′ t′ ≡ withdraw (tables n t) s → c ≡ 0 → c ≢ o → tables n′ t′ ≡ writerValidating (tables n t) s
   unfolding writerValidating

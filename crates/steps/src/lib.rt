@@ -1,8 +1,12 @@
 // The step rules, one small function for each: what a step does in phases 1 to 5, the answer from the seat's new phase, and
-// release. Each is total, and its promise is the rule's definition over both tables.
+// release. The promise of each is the rule's definition over both tables. Those that move a count ask for sound tables, in which one more and
+// one less are still counts; the others are total.
 ghost use mathlib.Core.Path.{_≡_};
+ghost use mathlib.Core.Bool.{true};
 ghost use mathlib.Core.List.{[]};
-ghost use Rattle.rules.specs.Tables.{tables};
+ghost use Prim.Native.Nat.{_<_};
+ghost use Rattle.rules.specs.Tables.{tables, seatCountOf, phase};
+ghost use Rattle.rules.specs.Shape.{sound};
 ghost use Rattle.rules.specs.Answers.{done, answerOf, answered};
 ghost use Rattle.rules.specs.Means.{means};
 ghost use Rattle.rules.specs.Steps as rule;
@@ -19,12 +23,6 @@ fn move_to(seats: &mut [u32], s: u32, phase: u32, prev: u32, cur: u32)
     words::put_seat(seats, s, words::CUR, cur);
 }
 
-fn hold(seats: &mut [u32], s: u32)
-    ensures { λ r. ⌜ now (seats .exit) ≡ rule.moveTo (tables [] (now (seats .entry))) s 5 0 0 .seats ⌝ }
-{
-    move_to(seats, s, 5, 0, 0);
-}
-
 fn pass(nodes: &[u32], seats: &mut [u32], s: u32)
     ensures { λ r. ⌜ tables (now (nodes .entry)) (now (seats .exit)) ≡ rule.pass (tables (now (nodes .entry)) (now (seats .entry))) s ⌝ }
 {
@@ -32,6 +30,26 @@ fn pass(nodes: &[u32], seats: &mut [u32], s: u32)
     let next = words::link(nodes, cur);
     words::put_seat(seats, s, words::PREV, cur);
     words::put_seat(seats, s, words::CUR, next);
+}
+
+// ---- hold
+
+// the kind of a seat's claim
+fn kind_of(nodes: &[u32], seats: &[u32], s: u32) -> u32
+    ensures { λ r. ⌜ r ≡ rule.kindOf (tables (now (nodes .entry)) (now (seats .entry))) s ⌝ }
+{
+    let own = words::seat_word(seats, s, words::OWN);
+    words::node_word(nodes, own, words::KIND)
+}
+
+fn hold(nodes: &mut [u32], seats: &mut [u32], s: u32)
+    requires { ⌜ sound (tables (now nodes) (now seats)) ≡ true ⌝ }
+    ensures { λ r. ⌜ tables (now (nodes .exit)) (now (seats .exit)) ≡ rule.hold (tables (now (nodes .entry)) (now (seats .entry))) s ⌝ }
+{
+    let kind = kind_of(nodes, seats, s);
+    let count = words::count_word(nodes, kind);
+    move_to(seats, s, 5, 0, 0);
+    words::put_count(nodes, kind, count + 1);
 }
 
 // ---- unlink
@@ -200,10 +218,11 @@ fn read_on(nodes: &mut [u32], seats: &mut [u32], s: u32)
 }
 
 fn validate_reader(nodes: &mut [u32], seats: &mut [u32], s: u32)
+    requires { ⌜ sound (tables (now nodes) (now seats)) ≡ true ⌝ }
     ensures { λ r. ⌜ tables (now (nodes .exit)) (now (seats .exit)) ≡ rule.readerValidating (tables (now (nodes .entry)) (now (seats .entry))) s ⌝ }
 {
     if is_past(nodes, seats, s) {
-        hold(seats, s);
+        hold(nodes, seats, s);
         return;
     }
     read_on(nodes, seats, s);
@@ -246,12 +265,13 @@ fn write_on(nodes: &mut [u32], seats: &mut [u32], s: u32)
 }
 
 fn validate_writer(nodes: &mut [u32], seats: &mut [u32], s: u32)
+    requires { ⌜ sound (tables (now nodes) (now seats)) ≡ true ⌝ }
     ensures { λ r. ⌜ tables (now (nodes .exit)) (now (seats .exit)) ≡ rule.writerValidating (tables (now (nodes .entry)) (now (seats .entry))) s ⌝ }
 {
     let own = words::seat_word(seats, s, words::OWN);
     let cur = words::seat_word(seats, s, words::CUR);
     if cur == own {
-        hold(seats, s);
+        hold(nodes, seats, s);
         return;
     }
     if cur == 0 {
@@ -262,6 +282,7 @@ fn validate_writer(nodes: &mut [u32], seats: &mut [u32], s: u32)
 }
 
 fn validate(nodes: &mut [u32], seats: &mut [u32], s: u32)
+    requires { ⌜ sound (tables (now nodes) (now seats)) ≡ true ⌝ }
     ensures { λ r. ⌜ tables (now (nodes .exit)) (now (seats .exit)) ≡ rule.validating (tables (now (nodes .entry)) (now (seats .entry))) s ⌝ }
 {
     let own = words::seat_word(seats, s, words::OWN);
@@ -304,6 +325,7 @@ pub fn step_waiting_to_enter(nodes: &[u32], seats: &mut [u32], s: u32) -> Reply
 }
 
 pub fn step_validating(nodes: &mut [u32], seats: &mut [u32], s: u32) -> Reply
+    requires { ⌜ sound (tables (now nodes) (now seats)) ≡ true ⌝ }
     ensures { λ r. ⌜ done (means r) (tables (now (nodes .exit)) (now (seats .exit))) ≡ answered (rule.validating (tables (now (nodes .entry)) (now (seats .entry))) s) s ⌝ }
 {
     validate(nodes, seats, s);
@@ -317,12 +339,18 @@ pub fn step_reader_waiting(nodes: &[u32], seats: &mut [u32], s: u32) -> Reply
     answer(seats, s)
 }
 
-// ---- release
+// ---- release, of a seat that holds
 
 pub fn leave(nodes: &mut [u32], seats: &mut [u32], s: u32)
+    requires { ⌜ sound (tables (now nodes) (now seats)) ≡ true ⌝ }
+    requires { ⌜ s < seatCountOf (now seats) ⌝ }
+    requires { ⌜ phase (tables (now nodes) (now seats)) s ≡ 5 ⌝ }
     ensures { λ r. ⌜ tables (now (nodes .exit)) (now (seats .exit)) ≡ rule.leave (tables (now (nodes .entry)) (now (seats .entry))) s ⌝ }
 {
     let own = words::seat_word(seats, s, words::OWN);
+    let kind = kind_of(nodes, seats, s);
+    let count = words::count_word(nodes, kind);
     words::put_node(nodes, own, words::MARK, 1);
     words::clear_seat(seats, s);
+    words::put_count(nodes, kind, count - 1);
 }

@@ -7,26 +7,33 @@ use lib.Dec.{eqb, leb, ltb}
 use mathlib.Core.Logic.{_≢_}
 use native.Mathlib.Omega.{arith}
 use native.Mathlib.Numerals.{add-one}
-use borrow.Author.Tests.{leb-true, le-leb, ltb-true}
+use borrow.Author.Tests.{ne-eqb, leb-true, le-leb, ltb-true}
 use lib.ListN.{getD, set, length}
-use Rattle.rules.specs.Tables.{tables, beforeNodes, nodeWidth, seatWidth, nodeCountOf, seatCountOf, headAt, nextAt, nodeWord, putNode, linkWord, putLink, putSeat, clearWords}
+use Rattle.rules.specs.Tables.{tables, beforeNodes, nodeWidth, seatWidth, nodeCountOf, seatCountOf, headAt, readersAt, writersAt, countAt, nextAt, nodeWord, putNode, linkWord, putLink, countWord, setCount, seatWord, putSeat, clearWords}
 use Rattle.rules.specs.Shape.{nodesFit, seatsFit}
 use Rattle.rules.proofs.Ground.Logic.{same, and-left, and-right}
 use Rattle.rules.proofs.Laws.Words.{link-node, put-link-node}
 
-before : (m : ℕ) → suc m - 1 ≡ m
-before m = omega arith
+-- ---- a node's word at its place
+at-place : (m f p : ℕ) → p ≡ beforeNodes + nodeWidth * (suc m - 1) + f → p ≡ beforeNodes + nodeWidth * m + f
+at-place m f p e = omega arith
 
-pub read-node : (l : List ℕ) (a f r : ℕ) → a ≢ 0 → r ≡ getD l (beforeNodes + nodeWidth * (a - 1) + f) 0 → r ≡ nodeWord l a f
+pub read-node : (l : List ℕ) (a f p r : ℕ) → r ≡ getD l p 0 → p ≡ beforeNodes + nodeWidth * (a - 1) + f → a ≢ 0 → r ≡ nodeWord l a f
 unfolding nodeWord
-read-node l zero f r z e = absurd (z refl)
-read-node l (suc m) f r z e = rw (before m) at e
+read-node l zero f p r e q z = absurd (z refl)
+read-node l (suc m) f p r e q z = rw (at-place m f p q) at e
 
-pub store-node : (l l′ : List ℕ) (a f v : ℕ) → a ≢ 0 → l′ ≡ set l (beforeNodes + nodeWidth * (a - 1) + f) v → l′ ≡ putNode l a f v
+pub store-node : (l l′ : List ℕ) (a f p v : ℕ) → l′ ≡ set l p v → p ≡ beforeNodes + nodeWidth * (a - 1) + f → a ≢ 0 → l′ ≡ putNode l a f v
 unfolding putNode
-store-node l l′ zero f v z e = absurd (z refl)
-store-node l l′ (suc m) f v z e = rw (before m) at e
+store-node l l′ zero f p v e q z = absurd (z refl)
+store-node l l′ (suc m) f p v e q z = rw (at-place m f p q) at e
 
+-- a word of a node that the table has
+pub node-in : (l : List ℕ) (a f p : ℕ) → p ≡ beforeNodes + nodeWidth * (a - 1) + f → a ≢ 0 → a ≤ nodeCountOf l → f < nodeWidth → p < length l
+unfolding nodeCountOf
+node-in l a f p e z h i = omega arith
+
+-- ---- links
 pub read-head : (l : List ℕ) (a r : ℕ) → a ≡ 0 → r ≡ getD l headAt 0 → r ≡ linkWord l a
 unfolding linkWord
 read-head l a r z e = rw z e
@@ -40,6 +47,33 @@ store-head l l′ a v z e = rw z e
 
 pub store-next : (l l′ : List ℕ) (a v : ℕ) → a ≢ 0 → l′ ≡ putNode l a nextAt v → l′ ≡ putLink l a v
 store-next l l′ a v z e = e ∙ sym (put-link-node l a v z)
+
+-- ---- the counts
+pub readers-at : (k : ℕ) → k ≡ 1 → readersAt ≡ countAt k
+readers-at k e = rw e
+
+pub writers-at : (k : ℕ) → k ≢ 1 → writersAt ≡ countAt k
+writers-at k d = rw (ne-eqb k 1 d)
+
+pub read-count : (l : List ℕ) (k p r : ℕ) → r ≡ getD l p 0 → p ≡ countAt k → r ≡ countWord (tables l []) k
+read-count l k p r e q = rw q at e
+
+pub store-count : (l l′ : List ℕ) (k p v : ℕ) → l′ ≡ set l p v → p ≡ countAt k → l′ ≡ setCount (tables l []) k v .nodes
+store-count l l′ k p v e q = rw q at e
+
+-- ---- a seat's word at its place
+pub read-seat : (l : List ℕ) (s f p r : ℕ) → r ≡ getD l p 0 → p ≡ seatWidth * s + f → r ≡ seatWord l s f
+unfolding seatWord
+read-seat l s f p r e q = rw q at e
+
+pub store-seat : (l l′ : List ℕ) (s f p v : ℕ) → l′ ≡ set l p v → p ≡ seatWidth * s + f → l′ ≡ putSeat l s f v
+unfolding putSeat
+store-seat l l′ s f p v e q = rw q at e
+
+-- a word of a seat that the table has
+pub seat-in : (l : List ℕ) (s f p : ℕ) → p ≡ seatWidth * s + f → s < seatCountOf l → f < seatWidth → p < length l
+unfolding seatCountOf
+seat-in l s f p e h i = omega arith
 
 -- ---- the words of a seat, one after the other
 pub clear-none : (l : List ℕ) (s : ℕ) → l ≡ clearWords 0 l s
@@ -70,9 +104,8 @@ module _ (l : List ℕ) (s f n : ℕ) (isCount : n ≡ seatCountOf l) (has : (lt
   pub field-there : f < seatWidth
   field-there = ltb-true f seatWidth (and-right (ltb s n) (ltb f seatWidth) has)
 
-  pub place-there : seatWidth * s + f < length l
-  unfolding seatCountOf
-  place-there = let h = seat-there in let g = field-there in omega arith
+  pub place-there : (p : ℕ) → p ≡ seatWidth * s + f → p < length l
+  place-there p e = seat-in l s f p e seat-there field-there
 
 pub nodes-fit-is : (l : List ℕ) (n : ℕ) → n ≡ nodeCountOf l → (eqb (length l) (beforeNodes + nodeWidth * n) && leb 1 n && leb n 256) ≡ nodesFit (tables l [])
 unfolding nodesFit

@@ -3,8 +3,8 @@
 ghost use mathlib.Core.Path.{_≡_};
 ghost use lib.ListN.{getD, set};
 ghost use mathlib.Core.List.{[]};
-ghost use Rattle.rules.specs.Tables.{tables, beforeNodes, nodeWidth, seatWidth, nodeWord, putNode, linkWord, putLink, seatWord, putSeat, clearWords, nodeCountOf, seatCountOf, zeros};
-ghost use Prim.Native.Nat.{_+_, _*_, _<_, _≤_};
+ghost use Rattle.rules.specs.Tables.{tables, countAt, beforeNodes, nodeWidth, seatWidth, nodeWord, putNode, linkWord, putLink, countWord, setCount, seatWord, putSeat, clearWords, nodeCountOf, seatCountOf, zeros};
+ghost use Prim.Native.Nat.{_+_, _-_, _*_, _<_, _≤_};
 ghost use Rattle.rules.specs.Shape.{nodesFit, seatsFit};
 
 // Where the words of a node stand in it.
@@ -29,11 +29,46 @@ pub const CUR: u32 = 3;
 
 const HEAD: usize = 0;
 
+const READERS: usize = 1;
+
+const WRITERS: usize = 2;
+
 const BEFORE_NODES: usize = 3;
 
 const NODE_WIDTH: usize = 5;
 
 const SEAT_WIDTH: usize = 4;
+
+// ---- where a word stands: nothing else adds up a place. Each is told to be small, so that no caller has to show that a place fits.
+
+// of a node that is not 0; node 1 is the first
+fn node_place(a: u32, field: u32) -> usize
+    requires { ⌜ (a ≡ 0 → ⊥) ⌝ }
+    ensures place { λ r. ⌜ r ≡ beforeNodes + nodeWidth * (a - 1) + field ⌝ }
+    ensures small { λ r. ⌜ r < 34359738368 ⌝ }
+{
+    BEFORE_NODES + NODE_WIDTH * (a - 1) as usize + field as usize
+}
+
+// of a seat
+fn seat_place(s: u32, field: u32) -> usize
+    ensures place { λ r. ⌜ r ≡ seatWidth * s + field ⌝ }
+    ensures small { λ r. ⌜ r < 34359738368 ⌝ }
+{
+    SEAT_WIDTH * s as usize + field as usize
+}
+
+// of the count of those who hold with a claim of this kind
+fn count_place(kind: u32) -> usize
+    ensures { λ r. ⌜ r ≡ countAt kind ⌝ }
+{
+    if kind == 1 {
+        return READERS;
+    }
+    WRITERS
+}
+
+// ---- the words of any table
 
 fn word(table: &[u32], at: usize) -> u32
     ensures { λ r. ⌜ r ≡ getD (now (table .entry)) at 0 ⌝ }
@@ -49,16 +84,15 @@ fn put(table: &mut [u32], at: usize, value: u32)
     }
 }
 
+// ---- the words of the nodes
+
 pub fn node_word(nodes: &[u32], a: u32, field: u32) -> u32
     ensures { λ r. ⌜ r ≡ nodeWord (now (nodes .entry)) a field ⌝ }
 {
     if a == 0 {
         return 0;
     }
-    word(
-        nodes,
-        BEFORE_NODES + NODE_WIDTH * (a - 1) as usize + field as usize,
-    )
+    word(nodes, node_place(a, field))
 }
 
 // a word of a node that the table has
@@ -68,7 +102,7 @@ pub fn node_word_within(nodes: &[u32], a: u32, field: u32) -> u32
     requires { ⌜ field < nodeWidth ⌝ }
     ensures { λ r. ⌜ r ≡ nodeWord (now (nodes .entry)) a field ⌝ }
 {
-    nodes[BEFORE_NODES + NODE_WIDTH * (a - 1) as usize + field as usize]
+    nodes[node_place(a, field)]
 }
 
 pub fn put_node(nodes: &mut [u32], a: u32, field: u32, value: u32)
@@ -77,11 +111,7 @@ pub fn put_node(nodes: &mut [u32], a: u32, field: u32, value: u32)
     if a == 0 {
         return;
     }
-    put(
-        nodes,
-        BEFORE_NODES + NODE_WIDTH * (a - 1) as usize + field as usize,
-        value,
-    );
+    put(nodes, node_place(a, field), value);
 }
 
 pub fn link(nodes: &[u32], a: u32) -> u32
@@ -112,13 +142,29 @@ pub fn put_link(nodes: &mut [u32], a: u32, value: u32)
     put_node(nodes, a, NEXT, value);
 }
 
+// ---- the two counts: how many hold with a claim of this kind
+
+pub fn count_word(nodes: &[u32], kind: u32) -> u32
+    ensures { λ r. ⌜ r ≡ countWord (tables (now (nodes .entry)) []) kind ⌝ }
+{
+    word(nodes, count_place(kind))
+}
+
+pub fn put_count(nodes: &mut [u32], kind: u32, value: u32)
+    ensures { λ r. ⌜ now (nodes .exit) ≡ setCount (tables (now (nodes .entry)) []) kind value .nodes ⌝ }
+{
+    put(nodes, count_place(kind), value);
+}
+
+// ---- the words of the seats
+
 // a word of a seat that the table has
 pub fn seat_word_within(seats: &[u32], s: u32, field: u32) -> u32
     requires { ⌜ s < seatCountOf (now seats) ⌝ }
     requires { ⌜ field < seatWidth ⌝ }
     ensures { λ r. ⌜ r ≡ seatWord (now (seats .entry)) s field ⌝ }
 {
-    seats[SEAT_WIDTH * s as usize + field as usize]
+    seats[seat_place(s, field)]
 }
 
 // Whether the table has the seat is asked of the seat and not of the word, so that a caller who has asked it already pays for no test here.
@@ -128,17 +174,17 @@ pub fn seat_word(seats: &[u32], s: u32, field: u32) -> u32
     if ((s as usize) < seat_count(seats)) & ((field as usize) < SEAT_WIDTH) {
         return seat_word_within(seats, s, field);
     }
-    word(seats, SEAT_WIDTH * s as usize + field as usize)
+    word(seats, seat_place(s, field))
 }
 
 pub fn put_seat(seats: &mut [u32], s: u32, field: u32, value: u32)
     ensures { λ r. ⌜ now (seats .exit) ≡ putSeat (now (seats .entry)) s field value ⌝ }
 {
     if ((s as usize) < seat_count(seats)) & ((field as usize) < SEAT_WIDTH) {
-        seats[SEAT_WIDTH * s as usize + field as usize] = value;
+        seats[seat_place(s, field)] = value;
         return;
     }
-    put(seats, SEAT_WIDTH * s as usize + field as usize, value);
+    put(seats, seat_place(s, field), value);
 }
 
 // 0 in every word of a seat
@@ -151,6 +197,8 @@ pub fn clear_seat(seats: &mut [u32], s: u32)
         field += 1;
     }
 }
+
+// ---- the lengths
 
 pub fn node_count(nodes: &[u32]) -> usize
     ensures { λ r. ⌜ r ≡ nodeCountOf (now (nodes .entry)) ⌝ }

@@ -1,4 +1,5 @@
 -- `claims::release` meets its promise.
+use Rattle.shape.proofs.Tests.{now-sound}
 use Rattle.claims.proofs.Ways.{release-seat, release-past, release-damaged}
 use borrow.Author.Needs.{needs}
 use Rattle.claims.proofs.release.Statement.{statement}
@@ -11,7 +12,7 @@ seat-count-requires : tie.Need-seat-count-requires
 seat-count-requires c κs = search needs
 
 release-seat-requires : tie.Need-release-seat-requires
-release-seat-requires c κs = search needs
+release-seat-requires c κs = (search now-sound, search needs)
 
 same-length : tie.Need-same-length
 same-length c = search needs

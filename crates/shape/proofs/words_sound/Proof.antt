@@ -32,8 +32,8 @@ names-node-requires c κs = search needs
 returns-2 : tie.Need-returns-2
 returns-2 c = search head-not
 
-seats-sound-requires : tie.Need-seats-sound-requires
-seats-sound-requires c κs = search needs
+seats-and-counts-sound-requires : tie.Need-seats-and-counts-sound-requires
+seats-and-counts-sound-requires c κs = search needs
 
 returns-3 : tie.Need-returns-3
 returns-3 c = search seats-not
@@ -57,7 +57,7 @@ words-sound-spec =
     returns
     names-node-requires
     returns-2
-    seats-sound-requires
+    seats-and-counts-sound-requires
     returns-3
     list-ends-requires
     returns-4)

@@ -1,5 +1,6 @@
 -- `steps::leave` meets its promise.
 use Rattle.rules.specs.Steps.{leave}
+use Rattle.steps.proofs.Arms.{count-some}
 use borrow.Author.Needs.{needs}
 use Rattle.steps.proofs.leave.Statement.{statement}
 use Rattle.steps.proofs.leave.Tie as tie
@@ -7,11 +8,23 @@ use Rattle.steps.proofs.leave.Tie as tie
 seat-word-requires : tie.Need-seat-word-requires
 seat-word-requires c κs = search needs
 
+kind-of-requires : tie.Need-kind-of-requires
+kind-of-requires c κs = search needs
+
+count-word-requires : tie.Need-count-word-requires
+count-word-requires c κs = search needs
+
 put-node-requires : tie.Need-put-node-requires
 put-node-requires c κs = search needs
 
 clear-seat-requires : tie.Need-clear-seat-requires
 clear-seat-requires c κs = search needs
+
+sub-put-count : tie.Need-sub-put-count
+sub-put-count c = search count-some
+
+put-count-requires : tie.Need-put-count-requires
+put-count-requires c κs = search needs
 
 same-length : tie.Need-same-length
 same-length c = search needs
@@ -28,8 +41,12 @@ leave-spec =
     tie.close
     (tie.spec
     seat-word-requires
+    kind-of-requires
+    count-word-requires
     put-node-requires
     clear-seat-requires
+    sub-put-count
+    put-count-requires
     same-length
     same-length-2
     returns)

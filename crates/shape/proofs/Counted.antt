@@ -1,0 +1,84 @@
+-- The pass over the seats: those below a bound are sound, and the two counts say how many of them hold with a reader's claim and with a
+-- writer's. One law for each way through a turn, and one for each way out.
+use Prim.Native.Nat.{ℕ, _+_, _≤_, _<_}
+use mathlib.Core.Path.{_≡_, refl, sym, _∙_}
+use mathlib.Core.Bool.{Bool, true, false, not, _&&_}
+use mathlib.Core.List.{List, []}
+use mathlib.Core.Logic.{_≢_}
+use native.Mathlib.Omega.{arith}
+use native.Mathlib.Numerals.{add-one}
+use lib.Dec.{eqb}
+use borrow.Author.Tests.{not-true, not-false, eq-eqb, ne-eqb}
+use Rattle.rules.specs.Notation.{if_then_else_, _is_, all, count}
+use Rattle.rules.specs.Tables.{Tables, tables, nodeWord, seatWord, nodeCountOf, seatCountOf, kindAt, phaseAt, ownAt, countWord, phase, kind, own}
+use Rattle.rules.specs.Shape.{seatSound, holdsWith, holdersOfKind, countsFit, seatsSound}
+use Rattle.rules.proofs.Ground.Logic.{all-fails}
+use Rattle.rules.proofs.Laws.Shape.{name-small, seat-sound}
+use Rattle.shape.specs.Parts.{heldKind, seatsAndCountsSound}
+
+-- ---- a holder of sound shape has a node of its own, whose kind is read
+module _ (l t : List ℕ) (s p o : ℕ) (isOwn : o ≡ seatWord t s ownAt) (holds : p ≡ 5) (isPhase : p ≡ seatWord t s phaseAt) where
+  pub holder-some : seatSound (tables l t) s ≡ true → o ≢ 0
+  holder-some e z = let h = sym isPhase ∙ holds in seat-sound (tables l t) s e .owning (λ q. omega arith) (sym isOwn ∙ z)
+
+  pub holder-in : seatSound (tables l t) s ≡ true → o ≤ nodeCountOf l
+  holder-in e = rw isOwn (name-small (tables l t) (seatWord t s ownAt) (seat-sound (tables l t) s e .own-names))
+
+  pub holder-kind : (k : ℕ) → k ≡ nodeWord l o kindAt → k ≡ heldKind (tables l t) s
+  holder-kind k e = rw (eq-eqb (seatWord t s phaseAt) 5 (sym isPhase ∙ holds), ← isOwn) e
+
+pub holder-none : (l t : List ℕ) (s p : ℕ) → p ≡ seatWord t s phaseAt → p ≢ 5 → 0 ≡ heldKind (tables l t) s
+holder-none l t s p e d = rw (ne-eqb (seatWord t s phaseAt) 5 (λ q. d (e ∙ q)))
+
+-- after the test of a seat
+pub seat-fits : (l t : List ℕ) (s : ℕ) (b : Bool) → b ≡ seatSound (tables l t) s → not b ≡ false → seatSound (tables l t) s ≡ true
+seat-fits l t s b p e = sym p ∙ not-false b e
+
+-- ---- the seats below a bound
+pub record Counted (l t : List ℕ) (s readers writers : ℕ) : Type 0 where
+  pub below : all s (seatSound (tables l t)) ≡ true
+  pub reading : readers ≡ count s (holdsWith (tables l t) 1)
+  pub writing : writers ≡ count s (holdsWith (tables l t) 2)
+
+pub counted-none : (l t : List ℕ) → Counted l t 0 0 0
+unfolding all count
+counted-none l t = record { below = refl; reading = refl; writing = refl }
+
+-- a kind that is not 0 is held or not
+held-is : (t : Tables) (s k : ℕ) → k ≢ 0 → holdsWith t k s ≡ (heldKind t s is k)
+held-is t s k d = held (phase t s is 5)
+  where
+    held : (b : Bool) → (b && kind t (own t s) is k) ≡ ((if b then kind t (own t s) else 0) is k)
+    held true = refl
+    held false = sym (ne-eqb 0 k (λ e. d (sym e)))
+
+module _ (l t : List ℕ) (s readers writers : ℕ) where
+  module _ (k : ℕ) (isHeld : k ≡ heldKind (tables l t) s) (b : Bool) (isSeat : b ≡ seatSound (tables l t) s) (fits : not b ≡ false) (w : Counted l t s readers writers) where
+    more : (u v : ℕ) → u ≡ readers + (if k is 1 then 1 else 0) → v ≡ writers + (if k is 2 then 1 else 0) → Counted l t (s + 1) u v
+    unfolding all count
+    more u v p q = record {
+      below = rw (add-one s, w .below, ← isSeat) (not-false b fits);
+      reading = rw (add-one s, held-is (tables l t) s 1 (λ z. omega arith), ← isHeld, ← w .reading) p;
+      writing = rw (add-one s, held-is (tables l t) s 2 (λ z. omega arith), ← isHeld, ← w .writing) q;
+    }
+
+    pub counted-reader : k ≡ 1 → Counted l t (s + 1) (readers + 1) writers
+    counted-reader e = more (readers + 1) writers (rw e) (rw e (omega arith))
+
+    pub counted-writer : k ≡ 2 → Counted l t (s + 1) readers (writers + 1)
+    counted-writer e = more readers (writers + 1) (rw e (omega arith)) (rw e)
+
+    pub counted-other : k ≢ 1 → k ≢ 2 → Counted l t (s + 1) readers writers
+    counted-other d e = more readers writers (rw (ne-eqb k 1 d) (omega arith)) (rw (ne-eqb k 2 e) (omega arith))
+
+-- ---- the ways out
+pub seat-fails : (l t : List ℕ) (n s : ℕ) (b : Bool) → b ≡ seatSound (tables l t) s → not b ≡ true → s < n → n ≡ seatCountOf t → false ≡ seatsAndCountsSound (tables l t)
+unfolding seatsSound
+seat-fails l t n s b p q h e = rw (all-fails (seatCountOf t) s (seatSound (tables l t)) (rw e at h) (sym p ∙ not-true b q))
+
+pub all-counted : (l t : List ℕ) (n s readers writers x y : ℕ) → y ≡ countWord (tables l []) 2 → x ≡ countWord (tables l []) 1 → Counted l t s readers writers → n ≤ s → s ≤ n → n ≡ seatCountOf t
+    → (eqb x readers && eqb y writers) ≡ seatsAndCountsSound (tables l t)
+unfolding seatsSound countsFit holdersOfKind
+all-counted l t n s readers writers x y q p w h i e =
+    let z : s ≡ seatCountOf t = omega arith in
+    rw (← z, w .below, w .reading, w .writing, p, q)
