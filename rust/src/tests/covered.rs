@@ -4,7 +4,7 @@
 use crate::machine::{begin, board, fresh, link, place, step, Answer};
 use crate::machine::{END, HOLDING, KIND, MARK, MOST_SEATS, OWN, PHASE, ROW_WORDS, SEAT_WORDS, START};
 use crate::random::Random;
-use crate::tables::many_holders;
+use crate::tables::{many_holders, put_counts};
 use std::ops::Range;
 
 /// The covered frames of any sound tables.
@@ -117,6 +117,7 @@ fn small_tables(random: &mut Random) -> (Vec<u32>, Vec<u32>) {
             seat[OWN] = random.between(1, node_count);
         }
     }
+    put_counts(&mut nodes, &seats);
     (nodes, seats)
 }
 
