@@ -161,6 +161,25 @@ fn each_wrong_count_alone_is_refused_and_nothing_changes() {
 }
 
 #[test]
+fn the_tables_of_a_seed_are_what_their_names_say() {
+    let mut random = Random::new(1);
+    let mut tally = Tally::default();
+    for _ in 0..50 {
+        tally.count_round(&mut random);
+    }
+    for (name, _) in DAMAGES {
+        assert_eq!(tally.of(&format!("damage, {name}: damaged otherwise")), 50, "{name}");
+    }
+    for (name, _) in MISCOUNTS {
+        assert_eq!(tally.of(&format!("count, {name}: damaged by a count alone")), 50, "{name}");
+    }
+    assert_eq!([tally.of("sound words: sound"), tally.of("many holders: sound")], [500, 500]);
+    for name in ["readers holding at once", "writers holding at once"] {
+        assert!(tally.most(name) >= 20, "{name}");
+    }
+}
+
+#[test]
 fn fetch_and_free_count_are_what_the_rule_says() {
     let mut random = Random::new(3);
     let mut taken_out_first = 0;
