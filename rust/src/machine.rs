@@ -5,8 +5,8 @@
 use crate::nodeset::NodeSet;
 pub use crate::nodeset::MOST_NODES;
 
-/// "Nodes: one head word, then N nodes of five words: start, end, kind, next, mark." 02: "Keep the two counts, readers first,
-/// in two words after the head word, so the length becomes 3 + 5·N."
+/// "Nodes: one head word, then N nodes of five words: start, end, kind, next, mark." 02: "Keep the two counts, readers
+/// first, in two words after the head word, so the length becomes 3 + 5·N."
 pub const HEAD: usize = 0;
 pub const READERS: usize = 1;
 pub const WRITERS: usize = 2;
