@@ -82,8 +82,8 @@ impl Tally {
 
     /// Sees how many hold in sound tables.
     fn count_holding(&mut self, nodes: &[u32]) {
-        self.see("readers holding at once", nodes[READERS]);
-        self.see("writers holding at once", nodes[WRITERS]);
+        self.see("the most readers holding at once", nodes[READERS]);
+        self.see("the most writers holding at once", nodes[WRITERS]);
     }
 
     fn count_call(&mut self, nodes: &mut [u32], seats: &mut [u32], row: [u32; 5]) {

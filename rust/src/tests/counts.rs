@@ -7,7 +7,7 @@ use crate::script::{call, read_script};
 use crate::tables::{many_holders, sound_words, Tables};
 use crate::tests::layout::{counts_kept, counts_over_seats, place, word, KIND, MARK, OWN, PHASE, READERS};
 use crate::tests::layout::{SEAT_WORDS, WRITERS};
-use crate::tests::refused_by_every_call;
+use crate::tests::{refused_by_every_call, script_of};
 use std::collections::BTreeMap;
 
 fn assert_counted(nodes: &[u32], seats: &[u32], what: &str) {
@@ -28,11 +28,9 @@ pub fn counts_after_each_call(script: &[u8]) -> Vec<[u32; 2]> {
     .collect()
 }
 
-/// The counts along a history of bodies separated by `;`, two digits for each call: readers, then writers.
+/// The counts along a history, two digits for each call: readers, then writers.
 fn along(nodes: u32, seats: u32, bodies: &str) -> String {
-    let bodies: Vec<&str> = bodies.split("; ").collect();
-    let script = format!("{nodes} {seats} {}\n{}\n", bodies.len(), bodies.join("\n"));
-    let counts = counts_after_each_call(script.as_bytes());
+    let counts = counts_after_each_call(script_of(nodes, seats, bodies).as_bytes());
     counts.iter().map(|[readers, writers]| format!("{readers}{writers}")).collect::<Vec<String>>().join(" ")
 }
 

@@ -11,6 +11,12 @@ mod layout;
 mod scripts;
 mod tables;
 
+/// The script of bodies separated by `;` on N nodes and S seats.
+fn script_of(nodes: u32, seats: u32, bodies: &str) -> String {
+    let bodies: Vec<&str> = bodies.split("; ").collect();
+    format!("{nodes} {seats} {}\n{}\n", bodies.len(), bodies.join("\n"))
+}
+
 /// Every call but clear finds these tables damaged, and leaves all that it is lent as it was.
 fn refused_by_every_call(name: &str, nodes: &[u32], seats: &[u32]) {
     let library = library_of!(crate::library);

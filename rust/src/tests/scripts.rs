@@ -86,7 +86,7 @@ fn the_generated_scripts_reach_every_rule() {
     for refusal in refusals.iter().chain(&["2 of release", "7 of release"]) {
         assert!(tally.of(&format!("refusal {refusal}")) >= 10, "{refusal}");
     }
-    for name in ["readers holding at once", "writers holding at once"] {
+    for name in ["the most readers holding at once", "the most writers holding at once"] {
         assert!(tally.most(name) >= 30, "{name}");
     }
     for (flaw, _) in FLAWS {

@@ -174,7 +174,7 @@ fn the_tables_of_a_seed_are_what_their_names_say() {
         assert_eq!(tally.of(&format!("count, {name}: damaged by a count alone")), 50, "{name}");
     }
     assert_eq!([tally.of("sound words: sound"), tally.of("many holders: sound")], [500, 500]);
-    for name in ["readers holding at once", "writers holding at once"] {
+    for name in ["the most readers holding at once", "the most writers holding at once"] {
         assert!(tally.most(name) >= 20, "{name}");
     }
 }
