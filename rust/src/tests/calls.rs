@@ -47,7 +47,7 @@ fn all_hold(seat_count: u32) -> (Vec<u32>, Vec<u32>) {
     let (mut nodes, mut seats) = fresh(seat_count, seat_count);
     for seat in 0..seat_count {
         begin(&mut nodes, &mut seats, seat, seat, seat + 1, 2).unwrap();
-        while step(&mut nodes, &mut seats, seat) != Ok(Answer::Held) {}
+        while step(&mut nodes, &mut seats, seat).expect("the seat is under way") != Answer::Held {}
     }
     (nodes, seats)
 }

@@ -208,7 +208,7 @@ fn two_readers_and_a_writer() -> Tables {
     let (mut nodes, mut seats) = fresh(4, 4);
     for (seat, start, kind) in [(0, 0, 1), (1, 0, 1), (2, 20, 2)] {
         begin(&mut nodes, &mut seats, seat, start, start + 10, kind).expect("a node is free");
-        while step(&mut nodes, &mut seats, seat) != Ok(Answer::Held) {}
+        while step(&mut nodes, &mut seats, seat).expect("the seat is under way") != Answer::Held {}
     }
     (nodes, seats)
 }

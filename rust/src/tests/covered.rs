@@ -17,7 +17,7 @@ fn covered_by_readers(runs: &[Range<u32>]) -> u64 {
     let (mut nodes, mut seats) = fresh(runs.len() as u32, runs.len() as u32);
     for (seat, run) in (0..).zip(runs) {
         begin(&mut nodes, &mut seats, seat, run.start, run.end, 1).expect("a node is free");
-        while step(&mut nodes, &mut seats, seat) != Ok(Answer::Held) {}
+        while step(&mut nodes, &mut seats, seat).expect("the seat is under way") != Answer::Held {}
     }
     covered(&nodes, &seats)
 }
