@@ -3,7 +3,8 @@
  * `./install --prefix DIR` puts this header, the archive libsoodhiqune.a (x86-64 Linux) and soodhiqune.pc for pkg-config in place. Every
  * call takes any tables and any numbers and ends; a refused call changes nothing that it was lent. A table is lent as its address and
  * its number of 32-bit words:
- *   nodes   one head word, then N nodes of five words: start, end, kind, next, mark (N is 1 to 256)
+ *   nodes   the head word, how many readers hold and how many writers, then N nodes of five words: start, end, kind, next, mark (N is 1
+ *           to 256)
  *   seats   S seats of four words: phase, own, prev, cur (S is 1 to 64)
  *
  * What is asked of the caller:
@@ -26,7 +27,7 @@ extern "C" {
 
 #define SOODHIQUNE_MOST_NODES 256
 #define SOODHIQUNE_MOST_SEATS 64
-#define SOODHIQUNE_NODE_WORDS(nodes) (1 + 5 * (size_t)(nodes))
+#define SOODHIQUNE_NODE_WORDS(nodes) (SOODHIQUNE_BEFORE_NODES + 5 * (size_t)(nodes))
 #define SOODHIQUNE_SEAT_WORDS(seats) (4 * (size_t)(seats))
 #define SOODHIQUNE_ROW_WORDS(rows) (4 * (size_t)(rows))
 
@@ -40,6 +41,17 @@ extern "C" {
  * said here. The first use of memset or memcpy in a program may take more, while the C library finds it. */
 #define SOODHIQUNE_STACK_BYTES 2048
 #define SOODHIQUNE_SCRIPT_STACK_BYTES 98304
+
+/* ---- words of the node table before node 1. After every call that was not refused as damaged, nodes[SOODHIQUNE_HOLDING_READERS] is how
+ * many readers hold, and nodes[SOODHIQUNE_HOLDING_WRITERS] how many writers: to be read between calls, by a display after each message
+ * say; no call is needed, and nothing is walked. The calls keep them: a table with another number there is damaged. */
+
+enum soodhiqune_before_nodes {
+    SOODHIQUNE_HEAD,            /* the first node on the list, or 0 */
+    SOODHIQUNE_HOLDING_READERS,
+    SOODHIQUNE_HOLDING_WRITERS,
+    SOODHIQUNE_BEFORE_NODES     /* so many words stand before node 1 */
+};
 
 /* ---- words of a board's row r: rows[SOODHIQUNE_ROW_WORDS(r) + SOODHIQUNE_ROW_KIND] and the like */
 

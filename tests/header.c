@@ -1,6 +1,6 @@
-/* H1 of document 01, every refusal and the edges of what may be lent, through include/soodhiqune.h and the archive: that the header says
- * how each call is made, and that its names and sizes are those of the library. It is C99 and C++. Prints what differs, and a closing line
- * 'N passed, M failed'. */
+/* H1 of document 01, every refusal, how many hold, and the edges of what may be lent, through include/soodhiqune.h and the archive: that
+ * the header says how each call is made, and that its names and sizes are those of the library. It is C99 and C++. Prints what differs, and
+ * a closing line 'N passed, M failed'. */
 #include "../include/soodhiqune.h"
 
 #include <stdio.h>
@@ -56,12 +56,14 @@ static int accepts_lengths(size_t node_words, size_t seat_words)
 static void check_lengths(void)
 {
     const size_t node_words = SOODHIQUNE_NODE_WORDS(1), seat_words = SOODHIQUNE_SEAT_WORDS(1);
-    check("the numbers that document 01 says", SOODHIQUNE_NODE_WORDS(4) == 21 && SOODHIQUNE_SEAT_WORDS(3) == 12 &&
+    check("the numbers that documents 01 and 02 say", SOODHIQUNE_NODE_WORDS(4) == 23 && SOODHIQUNE_SEAT_WORDS(3) == 12 &&
           SOODHIQUNE_ROW_WORDS(2) == 8 && SOODHIQUNE_SCRIPT_NUMBERS == 5003 && SOODHIQUNE_BAD_SCRIPT == 10);
     check("the fewest", accepts_lengths(node_words, seat_words));
     check("the most", accepts_lengths(SOODHIQUNE_NODE_WORDS(SOODHIQUNE_MOST_NODES), SOODHIQUNE_SEAT_WORDS(SOODHIQUNE_MOST_SEATS)));
     check("a node too many", !accepts_lengths(SOODHIQUNE_NODE_WORDS(SOODHIQUNE_MOST_NODES + 1), seat_words));
     check("a seat too many", !accepts_lengths(node_words, SOODHIQUNE_SEAT_WORDS(SOODHIQUNE_MOST_SEATS + 1)));
+    check("no node", !accepts_lengths(SOODHIQUNE_BEFORE_NODES, seat_words));
+    check("a word too few before the nodes", !accepts_lengths(SOODHIQUNE_BEFORE_NODES - 1, seat_words));
     check("a word too few for the node", !accepts_lengths(node_words - 1, seat_words));
     check("a word too many for the node", !accepts_lengths(node_words + 1, seat_words));
     check("a word too few for the seat", !accepts_lengths(node_words, seat_words - 1));
@@ -159,6 +161,49 @@ static void check_covered(void)
     check("their shared frames are covered once", covered == 100);
 }
 
+static int holding(const uint32_t *table, uint32_t readers, uint32_t writers)
+{
+    return table[SOODHIQUNE_HOLDING_READERS] == readers && table[SOODHIQUNE_HOLDING_WRITERS] == writers;
+}
+
+/* a call refuses a table with these counts, and leaves them */
+static int damages(uint32_t *table, const uint32_t *four, uint32_t readers, uint32_t writers)
+{
+    table[SOODHIQUNE_HOLDING_READERS] = readers;
+    table[SOODHIQUNE_HOLDING_WRITERS] = writers;
+    return refuses(soodhiqune_free_count(table, SOODHIQUNE_NODE_WORDS(4), four, SOODHIQUNE_SEAT_WORDS(4)), SOODHIQUNE_DAMAGED) &&
+           holding(table, readers, writers);
+}
+
+/* what the wall display reads after each message: document 02's second request */
+static void check_counts(void)
+{
+    const uint32_t first[] = {0, 0}, second[] = {1, 1, 1}, third[] = {2, 2, 2, 2, 2, 2};
+    uint32_t table[SOODHIQUNE_NODE_WORDS(4)], four[SOODHIQUNE_SEAT_WORDS(4)];
+#define FOUR table, SOODHIQUNE_NODE_WORDS(4), four, SOODHIQUNE_SEAT_WORDS(4)
+    check("nobody holds in fresh tables", soodhiqune_clear(FOUR) == SOODHIQUNE_ACCEPTED && holding(table, 0, 0));
+    soodhiqune_begin(FOUR, 0, 0, 10, SOODHIQUNE_READS);
+    check("a claim that began does not hold", holding(table, 0, 0));
+    check("a reader holds", ran(soodhiqune_run(FOUR, ENTRIES(first), 9), 2, SOODHIQUNE_ACCEPTED) && holding(table, 1, 0));
+    soodhiqune_begin(FOUR, 1, 5, 10, SOODHIQUNE_READS);
+    check("two readers hold", ran(soodhiqune_run(FOUR, ENTRIES(second), 9), 3, SOODHIQUNE_ACCEPTED) && holding(table, 2, 0));
+    soodhiqune_begin(FOUR, 2, 20, 30, SOODHIQUNE_WRITES);
+    check("a writer is on its way", ran(soodhiqune_run(FOUR, ENTRIES(third), 5), 5, SOODHIQUNE_ACCEPTED) && holding(table, 2, 0));
+    check("the writer holds", answers(soodhiqune_step(FOUR, 2), SOODHIQUNE_HELD, 0) && holding(table, 2, 1));
+    check("a holder that steps is counted once", answers(soodhiqune_step(FOUR, 2), SOODHIQUNE_HELD, 0) && holding(table, 2, 1));
+    check("a refused call", refuses(soodhiqune_release(FOUR, 3), SOODHIQUNE_NOT_HOLDING) && holding(table, 2, 1));
+    check("a reader too many is damage", damages(table, four, 3, 1));
+    check("a reader too few is damage", damages(table, four, 1, 1));
+    check("a writer too many is damage", damages(table, four, 2, 2));
+    check("a writer too few is damage", damages(table, four, 2, 0));
+    check("the two the other way round are damage", damages(table, four, 1, 2));
+    table[SOODHIQUNE_HOLDING_READERS] = 2;
+    table[SOODHIQUNE_HOLDING_WRITERS] = 1;
+    check("a reader releases", answers(soodhiqune_release(FOUR, 0), SOODHIQUNE_OUT, 0) && holding(table, 1, 1));
+    check("the writer releases", answers(soodhiqune_release(FOUR, 2), SOODHIQUNE_OUT, 0) && holding(table, 1, 0));
+    check("cleared, nobody holds", soodhiqune_clear(FOUR) == SOODHIQUNE_ACCEPTED && holding(table, 0, 0));
+}
+
 static void check_scripts(void)
 {
     static uint32_t numbers[SOODHIQUNE_SCRIPT_NUMBERS];
@@ -211,6 +256,7 @@ int main(void)
     check_back();
     check_board();
     check_covered();
+    check_counts();
     check_scripts();
     check_null();
     printf("%d passed, %d failed\n", passed, failed);

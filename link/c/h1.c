@@ -1,5 +1,6 @@
 /* An example for C: H1 of document 01. Seat 0 claims frames 10 up to 20 and holds them; seat 1 claims 15 up to 25, waits, and holds once
- * seat 0 has released. Prints what `./play < scripts/h01.txt` prints, but for the list.
+ * seat 0 has released. Prints what `./play < scripts/h01.txt` prints, but for the list; then how many hold, as a display would show it
+ * after each message.
  *
  *     cc h1.c $(pkg-config --cflags --libs soodhiqune) -o h1      after ./install --prefix DIR, with DIR/lib/pkgconfig in PKG_CONFIG_PATH
  */
@@ -42,6 +43,12 @@ static int show_holders(void)
     return 0;
 }
 
+/* no call: the table has the numbers */
+static void show_display(void)
+{
+    printf("%" PRIu32 " read, %" PRIu32 " write\n", nodes[SOODHIQUNE_HOLDING_READERS], nodes[SOODHIQUNE_HOLDING_WRITERS]);
+}
+
 int main(void)
 {
     int message;
@@ -57,5 +64,9 @@ int main(void)
     for (message = 0; message < 4; message++) {
         say(soodhiqune_step(TABLES, 1));
     }
-    return show_holders();
+    if (show_holders() != 0) {
+        return 1;
+    }
+    show_display();
+    return 0;
 }

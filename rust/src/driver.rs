@@ -7,7 +7,7 @@ use crate::library::{Numbers, Printed};
 use crate::machine;
 use crate::random::Random;
 use crate::script::{read_script, BEGIN, STEP};
-use crate::tables::{any_words, damaged, many_holders, sound_words, Tables, DAMAGES};
+use crate::tables::{any_words, damaged, many_holders, miscounted, sound_words, Tables, DAMAGES, MISCOUNTS};
 
 /// The functions of one machine.
 #[derive(Clone, Copy)]
@@ -211,6 +211,10 @@ impl Driver {
     pub fn damages(&mut self, random: &mut Random) -> Result<(), Difference> {
         for damage in DAMAGES {
             let tables = damaged(random, damage);
+            self.every_call(random, tables)?;
+        }
+        for miscount in MISCOUNTS {
+            let tables = miscounted(random, miscount);
             self.every_call(random, tables)?;
         }
         Ok(())

@@ -5,9 +5,12 @@
 use crate::nodeset::NodeSet;
 pub use crate::nodeset::MOST_NODES;
 
-/// "Nodes: one head word, then N nodes of five words: start, end, kind, next, mark."
+/// "Nodes: one head word, then N nodes of five words: start, end, kind, next, mark." 02: "Keep the two counts, readers
+/// first, in two words after the head word, so the length becomes 3 + 5·N."
 pub const HEAD: usize = 0;
-pub const HEAD_WORDS: usize = 1;
+pub const READERS: usize = 1;
+pub const WRITERS: usize = 2;
+pub const BEFORE_NODES: usize = 3;
 pub const START: usize = 0;
 pub const END: usize = 1;
 pub const KIND: usize = 2;
@@ -37,8 +40,8 @@ pub const HOLDING: u32 = 5;
 pub const WITHDRAWN: u32 = 6;
 
 /// "Kind 1 reads, 2 writes."
-const READS: u32 = 1;
-const WRITES: u32 = 2;
+pub const READS: u32 = 1;
+pub const WRITES: u32 = 2;
 
 /// "A claim covers frames start up to but not including end."
 #[derive(Clone, Copy)]
@@ -69,7 +72,7 @@ fn refuse(number: u32, when: bool) -> Result<(), u32> {
 }
 
 fn node_count(nodes: &[u32]) -> usize {
-    (nodes.len() - HEAD_WORDS) / NODE_WORDS
+    (nodes.len() - BEFORE_NODES) / NODE_WORDS
 }
 
 fn seat_count(seats: &[u32]) -> usize {
@@ -78,7 +81,7 @@ fn seat_count(seats: &[u32]) -> usize {
 
 /// "Nodes are numbered 1 to N": 0 is no node and has no place.
 pub fn place(node: u32, field: usize) -> usize {
-    HEAD_WORDS + NODE_WORDS * (node as usize - 1) + field
+    BEFORE_NODES + NODE_WORDS * (node as usize - 1) + field
 }
 
 fn word(nodes: &[u32], node: u32, field: usize) -> u32 {
@@ -128,7 +131,8 @@ pub fn link(prev: u32) -> usize {
 
 /// "Lengths fit."
 fn lengths_fit(nodes: &[u32], seats: &[u32]) -> bool {
-    nodes.len() % NODE_WORDS == HEAD_WORDS
+    nodes.len() >= BEFORE_NODES
+        && (nodes.len() - BEFORE_NODES) % NODE_WORDS == 0
         && seats.len() % SEAT_WORDS == 0
         && (1..=MOST_NODES).contains(&node_count(nodes))
         && (1..=MOST_SEATS).contains(&seat_count(seats))
@@ -161,6 +165,26 @@ fn seat_is_sound(nodes: &[u32], count: usize, seat: &[u32]) -> bool {
     words_fit && seat[OWN] != 0 && seat[OWN..=CUR].iter().all(|&name| names_a_claim(nodes, count, name))
 }
 
+/// The seats in phase 5, with their numbers.
+fn holders(seats: &[u32]) -> impl Iterator<Item = (u32, &[u32])> {
+    (0..).zip(seats.chunks_exact(SEAT_WORDS)).filter(|(_, seat)| seat[PHASE] == HOLDING)
+}
+
+/// 02: "A table whose two words differ from the count is damaged": "the count over the seats", of those in phase 5, by the
+/// kind of the own node. It is asked of seats that are sound.
+fn counts_fit(nodes: &[u32], seats: &[u32]) -> bool {
+    let mut readers = 0;
+    let mut writers = 0;
+    for (_, seat) in holders(seats) {
+        if word(nodes, seat[OWN], KIND) == READS {
+            readers += 1;
+        } else {
+            writers += 1;
+        }
+    }
+    nodes[READERS] == readers && nodes[WRITERS] == writers
+}
+
 /// The nodes met by following next from a node, itself included; in a circle they never end.
 fn following(nodes: &[u32], first: u32) -> impl Iterator<Item = u32> + '_ {
     let node = |name: u32| if name == 0 { None } else { Some(name) };
@@ -184,14 +208,15 @@ fn sound(nodes: &[u32], seats: &[u32]) -> bool {
     }
     let count = node_count(nodes);
     names_a_claim(nodes, count, nodes[HEAD])
-        && nodes[HEAD_WORDS..].chunks_exact(NODE_WORDS).all(|node| node_is_sound(nodes, count, node))
+        && nodes[BEFORE_NODES..].chunks_exact(NODE_WORDS).all(|node| node_is_sound(nodes, count, node))
         && seats.chunks_exact(SEAT_WORDS).all(|seat| seat_is_sound(nodes, count, seat))
+        && counts_fit(nodes, seats)
         && list_ends(nodes)
 }
 
 /// Tables of N nodes and S seats as clear leaves them: "that table is fresh".
 pub fn fresh(nodes: u32, seats: u32) -> (Vec<u32>, Vec<u32>) {
-    (vec![0; HEAD_WORDS + NODE_WORDS * nodes as usize], vec![0; SEAT_WORDS * seats as usize])
+    (vec![0; BEFORE_NODES + NODE_WORDS * nodes as usize], vec![0; SEAT_WORDS * seats as usize])
 }
 
 // Fetch
@@ -318,8 +343,18 @@ fn insert(nodes: &mut [u32], seat: &mut Seat) {
     seat[CUR] = nodes[link(seat[PREV])];
 }
 
-/// "Hold: phase 5, prev and cur 0."
-fn hold(seat: &mut Seat) {
+/// The place of the count that the holder of a node is in: 02's "numbers of holding readers and holding writers".
+fn count_place(nodes: &[u32], own: u32) -> usize {
+    if word(nodes, own, KIND) == READS {
+        READERS
+    } else {
+        WRITERS
+    }
+}
+
+/// "Hold: phase 5, prev and cur 0." 02: "Clear, step and release keep [the two words] equal to the count over the seats."
+fn hold(nodes: &mut [u32], seat: &mut Seat) {
+    nodes[count_place(nodes, seat[OWN])] += 1;
     come_to(seat, HOLDING, 0);
 }
 
@@ -354,7 +389,7 @@ fn step_waiting(nodes: &[u32], seat: &mut Seat, phase: u32) {
 /// "Cur 0 or cur.start ≥ own.end: hold. cur marked: unlink. cur reads: pass as for +1. Else phase 4."
 fn step_validating_reader(nodes: &mut [u32], seat: &mut Seat) {
     if seat[CUR] == 0 || word(nodes, seat[CUR], START) >= word(nodes, seat[OWN], END) {
-        hold(seat);
+        hold(nodes, seat);
     } else if marked(nodes, seat[CUR]) {
         unlink(nodes, seat);
     } else if word(nodes, seat[CUR], KIND) == READS {
@@ -367,7 +402,7 @@ fn step_validating_reader(nodes: &mut [u32], seat: &mut Seat) {
 /// "Cur is own: hold. cur 0: withdraw. cur marked: unlink. cur.end ≤ own.start: pass. Else withdraw."
 fn step_validating_writer(nodes: &mut [u32], seat: &mut Seat) {
     if seat[CUR] == seat[OWN] {
-        hold(seat);
+        hold(nodes, seat);
     } else if seat[CUR] == 0 {
         withdraw(nodes, seat);
     } else if marked(nodes, seat[CUR]) {
@@ -431,12 +466,13 @@ pub fn step(nodes: &mut [u32], seats: &mut [u32], seat: u32) -> Result<Answer, u
     })
 }
 
-/// "Release: own is marked and the seat idle."
+/// "Release: own is marked and the seat idle." 02: it keeps the two words equal to the count.
 pub fn release(nodes: &mut [u32], seats: &mut [u32], seat: u32) -> Result<Answer, u32> {
     refuse(1, !sound(nodes, seats))?;
     let before = load_seat(seats, seat)?;
     refuse(7, before[PHASE] != HOLDING)?;
     nodes[place(before[OWN], MARK)] = 1;
+    nodes[count_place(nodes, before[OWN])] -= 1;
     store_seat(seats, seat, IDLE_SEAT);
     Ok(Answer::Out)
 }
@@ -488,10 +524,9 @@ fn covered_frames(rows: &[u32]) -> u64 {
 /// stay. It returns the row count and covered frames."
 pub fn board(nodes: &[u32], seats: &[u32], rows: &mut [u32]) -> Result<(u32, u64), u32> {
     refuse(1, !sound(nodes, seats))?;
-    let holders = || (0..).zip(seats.chunks_exact(SEAT_WORDS)).filter(|(_, seat)| seat[PHASE] == HOLDING);
-    let count = holders().count();
+    let count = holders(seats).count();
     refuse(9, rows.len() / ROW_WORDS < count)?;
-    for ((number, seat), row) in holders().zip(rows.chunks_exact_mut(ROW_WORDS)) {
+    for ((number, seat), row) in holders(seats).zip(rows.chunks_exact_mut(ROW_WORDS)) {
         let Claim { start, end, kind } = claim_of(nodes, seat[OWN]);
         row.copy_from_slice(&[number, start, end, kind]);
     }

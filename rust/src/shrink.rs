@@ -3,8 +3,9 @@
 
 use crate::driver::{outcome, Call, Case, Difference, Driver, Library};
 use crate::library::CONTENTS_WORDS;
-use crate::machine::{CUR, HEAD, HEAD_WORDS, NEXT, NODE_WORDS, OWN, ROW_WORDS, SEAT_WORDS};
+use crate::machine::{BEFORE_NODES, CUR, HEAD, NEXT, NODE_WORDS, OWN, ROW_WORDS, SEAT_WORDS};
 use crate::reading::reading;
+use crate::tables::counted_at;
 
 fn without<Word: Copy>(words: &[Word], from: usize, count: usize) -> Vec<Word> {
     [&words[..from], &words[from + count..]].concat()
@@ -15,9 +16,9 @@ fn without_node(case: &Case, index: usize) -> Case {
     let node = index as u32 + 1;
     let renamed = |name: u32| name - u32::from(name > node) - if name == node { name } else { 0 };
     let mut smaller = case.clone();
-    smaller.nodes = without(&case.nodes, HEAD_WORDS + NODE_WORDS * index, NODE_WORDS);
+    smaller.nodes = without(&case.nodes, BEFORE_NODES + NODE_WORDS * index, NODE_WORDS);
     smaller.nodes[HEAD] = renamed(smaller.nodes[HEAD]);
-    for words in smaller.nodes[HEAD_WORDS..].chunks_exact_mut(NODE_WORDS) {
+    for words in smaller.nodes[BEFORE_NODES..].chunks_exact_mut(NODE_WORDS) {
         words[NEXT] = renamed(words[NEXT]);
     }
     for words in smaller.seats.chunks_exact_mut(SEAT_WORDS) {
@@ -28,11 +29,15 @@ fn without_node(case: &Case, index: usize) -> Case {
     smaller
 }
 
-/// The table without one of its seats. Numbers of later seats fall by one.
+/// The table without one of its seats. Numbers of later seats fall by one, and so does the count that it is in: right counts
+/// stay right.
 fn without_seat(case: &Case, index: usize) -> Case {
     let renumber = |seat: &mut u32| *seat -= u32::from(*seat > index as u32);
     let mut smaller = case.clone();
     smaller.seats = without(&case.seats, SEAT_WORDS * index, SEAT_WORDS);
+    if let Some(at) = counted_at(&case.nodes, &case.seats[SEAT_WORDS * index..][..SEAT_WORDS]) {
+        smaller.nodes[at] = smaller.nodes[at].saturating_sub(1);
+    }
     match &mut smaller.call {
         Call::Begin { seat, .. } | Call::Step { seat } | Call::Release { seat } => renumber(seat),
         Call::Run { entries, .. } => entries.iter_mut().for_each(renumber),
@@ -111,7 +116,7 @@ impl<Differs: Fn(&Case) -> bool> Search<Differs> {
     /// Tries everything once, and says whether anything got smaller.
     fn pass(&mut self) -> bool {
         let mut taken = false;
-        for index in (0..self.smallest.nodes.len().saturating_sub(HEAD_WORDS) / NODE_WORDS).rev() {
+        for index in (0..self.smallest.nodes.len().saturating_sub(BEFORE_NODES) / NODE_WORDS).rev() {
             taken |= self.take(without_node(&self.smallest, index));
         }
         for index in (0..self.smallest.seats.len() / SEAT_WORDS).rev() {
@@ -200,7 +205,7 @@ fn table_text(words: &[u32], first: usize, width: usize) -> String {
 fn case_text(case: &Case, ours: &Library, theirs: &Library) -> String {
     let mut text = format!(
         "nodes   {}\nseats   {}\ncall    {:?}\n",
-        table_text(&case.nodes, HEAD_WORDS, NODE_WORDS),
+        table_text(&case.nodes, BEFORE_NODES, NODE_WORDS),
         table_text(&case.seats, 0, SEAT_WORDS),
         case.call
     );
@@ -208,7 +213,7 @@ fn case_text(case: &Case, ours: &Library, theirs: &Library) -> String {
         let after = outcome(library, case);
         let (nodes, seats) = (after.nodes.words(), after.seats.words());
         text += &format!("{name}: answer {} {}\n", after.answer >> 32, after.answer as u32);
-        text += &format!("  nodes {}\n", table_text(nodes, HEAD_WORDS, NODE_WORDS));
+        text += &format!("  nodes {}\n", table_text(nodes, BEFORE_NODES, NODE_WORDS));
         text += &format!("  seats {}\n", table_text(seats, 0, SEAT_WORDS));
         if let Call::Board { .. } = case.call {
             text += &format!("  rows  {}\n  covered {}\n", table_text(after.rows.words(), 0, ROW_WORDS), after.covered);

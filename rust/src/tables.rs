@@ -1,8 +1,9 @@
 //! Tables to compare machines on that no history need have reached: any words, sound words, and sound words with one clause
-//! of sound shape broken.
+//! of sound shape broken, that of the two counts in several ways.
 
 use crate::machine::*;
 use crate::random::Random;
+use std::collections::BTreeSet;
 
 pub type Tables = (Vec<u32>, Vec<u32>);
 
@@ -24,7 +25,38 @@ fn sizes(random: &mut Random) -> (u32, u32) {
     }
 }
 
-/// A table of any length and any words, mostly small ones so that some are sound.
+/// The place of the count that a seat is in, if it holds. Nothing is assumed of the tables: own may name nothing.
+pub fn counted_at(nodes: &[u32], seat: &[u32]) -> Option<usize> {
+    if seat[PHASE] != HOLDING || seat[OWN] == 0 {
+        return None;
+    }
+    match nodes.get(place(seat[OWN], KIND)) {
+        Some(&READS) => Some(READERS),
+        Some(&WRITES) => Some(WRITERS),
+        _ => None,
+    }
+}
+
+/// Counts the holders among these seats into the two words, if the table is long enough to have them.
+fn count_among<'a>(nodes: &mut [u32], seats: impl IntoIterator<Item = &'a [u32]>) {
+    if nodes.len() < BEFORE_NODES {
+        return;
+    }
+    nodes[READERS] = 0;
+    nodes[WRITERS] = 0;
+    for seat in seats {
+        if let Some(at) = counted_at(nodes, seat) {
+            nodes[at] += 1;
+        }
+    }
+}
+
+/// Makes the two counts right.
+pub fn put_counts(nodes: &mut [u32], seats: &[u32]) {
+    count_among(nodes, seats.chunks_exact(SEAT_WORDS));
+}
+
+/// A table of any length and any words, mostly small ones, and mostly right counts, so that some are sound.
 pub fn any_words(random: &mut Random) -> Tables {
     let (node_count, seat_count) = sizes(random);
     let (mut nodes, mut seats) = fresh(node_count, seat_count);
@@ -42,6 +74,9 @@ pub fn any_words(random: &mut Random) -> Tables {
         } else if !random.percent(zeros) {
             *word = random.between(0, largest);
         }
+    }
+    if random.percent(75) {
+        put_counts(&mut nodes, &seats);
     }
     (nodes, seats)
 }
@@ -115,6 +150,7 @@ fn sound_with(
     for (&phase, seat) in phases.iter().zip(seats.chunks_exact_mut(SEAT_WORDS)) {
         put_seat(random, phase, seat, &nodes, named);
     }
+    put_counts(&mut nodes, &seats);
     (nodes, seats)
 }
 
@@ -168,13 +204,14 @@ const ZERO_NODE: u32 = 5;
 
 type Damage = (&'static str, fn(&mut Random, &mut Vec<u32>, &mut Vec<u32>));
 
-/// Each clause of sound shape, broken alone.
+/// Each clause of sound shape but that of the counts, broken alone.
 pub const DAMAGES: &[Damage] = &[
     ("no words for nodes", |_, nodes, _| nodes.clear()),
-    ("no node", |_, nodes, _| nodes.truncate(HEAD_WORDS)),
+    ("a word too few before the nodes", |_, nodes, _| nodes.truncate(BEFORE_NODES - 1)),
+    ("no node", |_, nodes, _| nodes.truncate(BEFORE_NODES)),
     ("a word too few for the nodes", |_, nodes, _| nodes.truncate(nodes.len() - 1)),
     ("a word too many for the nodes", |_, nodes, _| nodes.push(0)),
-    ("257 nodes", |_, nodes, _| nodes.resize(HEAD_WORDS + NODE_WORDS * 257, 0)),
+    ("257 nodes", |_, nodes, _| nodes.resize(BEFORE_NODES + NODE_WORDS * 257, 0)),
     ("no seat", |_, _, seats| seats.clear()),
     ("a word too few for the seats", |_, _, seats| seats.truncate(seats.len() - 1)),
     ("a word too many for the seats", |_, _, seats| seats.push(0)),
@@ -225,9 +262,69 @@ pub const DAMAGES: &[Damage] = &[
     }),
 ];
 
-/// Sound tables with one damage.
+/// Sound tables with one damage. The counts are those of the tables as damaged, so that no second clause is broken.
 pub fn damaged(random: &mut Random, damage: &Damage) -> Tables {
     let (mut nodes, mut seats) = ample(random);
     damage.1(random, &mut nodes, &mut seats);
+    put_counts(&mut nodes, &seats);
     (nodes, seats)
+}
+
+/// The seats in a phase.
+fn seats_in(seats: &[u32], phase: u32) -> impl Iterator<Item = &[u32]> {
+    seats.chunks_exact(SEAT_WORDS).filter(move |seat| seat[PHASE] == phase)
+}
+
+/// One off a count, if there is one to take.
+fn take_one(count: &mut u32) {
+    *count = count.saturating_sub(1);
+}
+
+/// One of those counted at a place is counted at the other: the sum stays right.
+fn count_at_other(nodes: &mut [u32], from: usize, to: usize) {
+    if nodes[from] > 0 {
+        nodes[from] -= 1;
+        nodes[to] += 1;
+    }
+}
+
+type Miscount = (&'static str, fn(&mut [u32], &[u32]));
+
+/// Wrong counts, from right ones, while every other clause of sound shape holds. On some tables they come out right.
+pub const MISCOUNTS: &[Miscount] = &[
+    ("a reader too many", |nodes, _| nodes[READERS] += 1),
+    ("a reader too few", |nodes, _| take_one(&mut nodes[READERS])),
+    ("a writer too many", |nodes, _| nodes[WRITERS] += 1),
+    ("a writer too few", |nodes, _| take_one(&mut nodes[WRITERS])),
+    ("a reader counted as a writer", |nodes, _| count_at_other(nodes, READERS, WRITERS)),
+    ("a writer counted as a reader", |nodes, _| count_at_other(nodes, WRITERS, READERS)),
+    ("readers and writers swapped", |nodes, _| nodes.swap(READERS, WRITERS)),
+    ("4294967295 readers", |nodes, _| nodes[READERS] = u32::MAX),
+    ("4294967295 writers", |nodes, _| nodes[WRITERS] = u32::MAX),
+    ("256 readers too many", |nodes, _| nodes[READERS] += 256),
+    ("256 writers too many", |nodes, _| nodes[WRITERS] += 256),
+    ("nobody counted", |nodes, _| count_among(nodes, [])),
+    ("readers that wait are counted", |nodes, seats| {
+        nodes[READERS] += seats_in(seats, READER_WAITING).count() as u32;
+    }),
+    ("holders of marked nodes are not counted", |nodes, seats| {
+        let unmarked: Vec<&[u32]> = seats_in(seats, HOLDING).filter(|seat| !marked(nodes, seat[OWN])).collect();
+        count_among(nodes, unmarked);
+    }),
+    ("holders of one node are counted once", |nodes, seats| {
+        let mut owned = BTreeSet::new();
+        count_among(nodes, seats_in(seats, HOLDING).filter(|seat| owned.insert(seat[OWN])));
+    }),
+];
+
+/// Sound tables, with many holders or few, but for counts that are wrong in this way.
+pub fn miscounted(random: &mut Random, miscount: &Miscount) -> Tables {
+    loop {
+        let (mut nodes, seats) = if random.percent(70) { many_holders(random) } else { sound_words(random) };
+        let right = nodes.clone();
+        miscount.1(&mut nodes, &seats);
+        if nodes != right {
+            return (nodes, seats);
+        }
+    }
 }

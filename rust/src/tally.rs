@@ -1,16 +1,24 @@
-//! Counts of what scripts really reach: a mix that never meets a rule says nothing about it.
+//! Counts of what scripts and tables by seed really reach: a mix that never meets a rule says nothing about it.
 //! What happened in a call is told from the tables before and after it, as the second machine leaves them.
 
-use crate::machine::{self, Answer, CUR, HOLDING, MOST_SEATS, OWN, PHASE, PREV, ROW_WORDS, SEAT_WORDS};
-use crate::machine::{READER_WAITING, VALIDATING, WAITING_TO_ENTER, WALKING, WITHDRAWN};
+use crate::machine::{self, Answer, CUR, HOLDING, KIND, MOST_SEATS, OWN, PHASE, PREV, ROW_WORDS, SEAT_WORDS};
+use crate::machine::{READERS, READER_WAITING, READS, VALIDATING, WAITING_TO_ENTER, WALKING, WITHDRAWN, WRITERS};
+use crate::random::Random;
 use crate::script::{call, read_script, BEGIN};
+use crate::tables::{any_words, damaged, many_holders, miscounted, put_counts, sound_words};
+use crate::tables::{Tables, DAMAGES, MISCOUNTS};
 use std::collections::{BTreeMap, BTreeSet};
 use std::ops::Range;
 
 #[derive(Default)]
 pub struct Tally {
     counts: BTreeMap<String, u64>,
-    longest_list: usize,
+    /// the most that was seen of something at once
+    most: BTreeMap<&'static str, u32>,
+}
+
+fn reads(nodes: &[u32], seat: &[u32]) -> bool {
+    nodes[machine::place(seat[OWN], KIND)] == READS
 }
 
 /// What a step from one seat state to another was, by the names of the document.
@@ -26,7 +34,8 @@ fn step_name(nodes: &[u32], before: &[u32], after: &[u32]) -> &'static str {
         (WAITING_TO_ENTER, WALKING) => "step: wait in phase 2 is over",
         (WAITING_TO_ENTER, _) => "step: waits on in phase 2",
         (VALIDATING, READER_WAITING) => "step: reader begins to wait in phase 4",
-        (VALIDATING, HOLDING) => "step: hold",
+        (VALIDATING, HOLDING) if reads(nodes, before) => "step: hold of a reader",
+        (VALIDATING, HOLDING) => "step: hold of a writer",
         (VALIDATING, WITHDRAWN) => "step: withdrawal",
         (VALIDATING, _) if was_marked(before[CUR]) => "step: unlink while validating",
         (VALIDATING, _) => "step: pass while validating",
@@ -66,25 +75,37 @@ impl Tally {
         *self.counts.entry(name.into()).or_insert(0) += 1;
     }
 
+    fn see(&mut self, name: &'static str, number: u32) {
+        let most = self.most.entry(name).or_insert(0);
+        *most = number.max(*most);
+    }
+
+    /// Sees how many hold in sound tables.
+    fn count_holding(&mut self, nodes: &[u32]) {
+        self.see("the most readers holding at once", nodes[READERS]);
+        self.see("the most writers holding at once", nodes[WRITERS]);
+    }
+
     fn count_call(&mut self, nodes: &mut [u32], seats: &mut [u32], row: [u32; 5]) {
         let (nodes_before, seats_before) = (nodes.to_vec(), seats.to_vec());
         let answer = call(nodes, seats, row);
         let call_name = ["begin", "step", "release"][row[0] as usize - 1];
-        let place = SEAT_WORDS * row[1] as usize;
-        match answer {
-            Err(refusal) => return self.count(format!("refusal {refusal} of {call_name}")),
-            Ok(Answer::Node(_)) => self.count("begin"),
-            Ok(Answer::Out) => self.count("release"),
-            Ok(_) => {
-                let before = &seats_before[place..][..SEAT_WORDS];
-                self.count(step_name(&nodes_before, before, &seats[place..][..SEAT_WORDS]));
-            }
+        if let Err(refusal) = answer {
+            return self.count(format!("refusal {refusal} of {call_name}"));
         }
-        let fetched = row[0] == BEGIN || seats_before[place + PHASE] == WITHDRAWN;
+        let place = SEAT_WORDS * row[1] as usize;
+        let (before, after) = (&seats_before[place..][..SEAT_WORDS], &seats[place..][..SEAT_WORDS]);
+        self.count(match answer {
+            Ok(Answer::Node(_)) => "begin",
+            Ok(Answer::Out) if reads(&nodes_before, before) => "release of a reader",
+            Ok(Answer::Out) => "release of a writer",
+            _ => step_name(&nodes_before, before, after),
+        });
+        let fetched = row[0] == BEGIN || before[PHASE] == WITHDRAWN;
         if fetched && machine::listed(&nodes_before).ne(machine::listed(nodes)) {
             self.count("fetch that takes marked nodes out");
         }
-        self.longest_list = self.longest_list.max(machine::listed(nodes).count());
+        self.count_holding(nodes);
     }
 
     /// Counts how the holders of sound tables meet.
@@ -119,23 +140,59 @@ impl Tally {
             Err(_) => return self.count("bad, a later line"),
         };
         let (mut nodes, mut seats) = machine::fresh(script.nodes, script.seats);
-        let longest_before = std::mem::take(&mut self.longest_list);
+        let mut longest = 0;
         for &row in &script.rows[..script.count as usize] {
             self.count_call(&mut nodes, &mut seats, row);
+            longest = longest.max(machine::listed(&nodes).count());
         }
         self.count_board(&nodes, &seats);
-        if self.longest_list > 30 {
+        if longest > 30 {
             self.count("script with a list longer than 30");
         }
-        self.longest_list = self.longest_list.max(longest_before);
+        self.see("nodes in the longest list", longest as u32);
+    }
+
+    /// Counts what is wrong with tables of a name: a table is damaged by a count alone if right counts make it sound.
+    fn count_tables(&mut self, name: &str, (nodes, seats): Tables) {
+        let sound = |nodes: &[u32]| machine::free_count(nodes, &seats).is_ok();
+        let mut counted = nodes.clone();
+        put_counts(&mut counted, &seats);
+        if sound(&nodes) {
+            self.count(format!("{name}: sound"));
+            self.count_holding(&nodes);
+        } else if sound(&counted) {
+            self.count(format!("{name}: damaged by a count alone"));
+        } else {
+            self.count(format!("{name}: damaged otherwise"));
+        }
+    }
+
+    /// Counts the tables of a round: some of each family, and one for each damage and each wrong count.
+    pub fn count_round(&mut self, random: &mut Random) {
+        for _ in 0..10 {
+            self.count_tables("any words", any_words(random));
+            self.count_tables("sound words", sound_words(random));
+            self.count_tables("many holders", many_holders(random));
+        }
+        for damage in DAMAGES {
+            self.count_tables(&format!("damage, {}", damage.0), damaged(random, damage));
+        }
+        for miscount in MISCOUNTS {
+            self.count_tables(&format!("count, {}", miscount.0), miscounted(random, miscount));
+        }
     }
 
     pub fn of(&self, name: &str) -> u64 {
         self.counts.get(name).copied().unwrap_or(0)
     }
 
+    /// The most that was seen of something at once.
+    pub fn most(&self, name: &str) -> u32 {
+        self.most.get(name).copied().unwrap_or(0)
+    }
+
     pub fn text(&self) -> String {
-        let lines: Vec<String> = self.counts.iter().map(|(name, count)| format!("{count:>8}  {name}\n")).collect();
-        format!("{}{:>8}  nodes in the longest list\n", lines.concat(), self.longest_list)
+        let counts = self.counts.iter().map(|(name, count)| format!("{count:>8}  {name}\n"));
+        counts.chain(self.most.iter().map(|(name, most)| format!("{most:>8}  {name}\n"))).collect()
     }
 }

@@ -10,6 +10,15 @@ pub const MOST_NODES: usize = 256;
 /// S is 1 to this.
 pub const MOST_SEATS: usize = 64;
 
+/// `nodes[HOLDING_READERS]` is how many readers hold, after every call that did not find the tables damaged: a word to be read between
+/// calls, and kept by them. A table with another number there is damaged.
+pub const HOLDING_READERS: usize = 1;
+/// `nodes[HOLDING_WRITERS]` is how many writers hold, likewise.
+pub const HOLDING_WRITERS: usize = 2;
+
+/// The head, the two counts of holders, and then node 1.
+const BEFORE_NODES: usize = 3;
+
 const ROW_WORDS: usize = std::mem::size_of::<Row>() / std::mem::size_of::<u32>();
 
 /// Where a script's rows start among its numbers, and how many numbers a row has.
@@ -24,7 +33,7 @@ pub const PRINTED_BYTES: usize = 32768;
 
 /// How many words a table of so many nodes has.
 pub const fn node_words(nodes: usize) -> usize {
-    1 + 5 * nodes
+    BEFORE_NODES + 5 * nodes
 }
 
 /// How many words a table of so many seats has.

@@ -1,7 +1,7 @@
 //! A pair of tables that belong together, with the calls as methods.
 
 use crate::answers::{Answer, Ran, Refused, Row};
-use crate::lent::{self, node_words, seat_words, MOST_NODES, MOST_SEATS};
+use crate::lent::{self, node_words, seat_words, HOLDING_READERS, HOLDING_WRITERS, MOST_NODES, MOST_SEATS};
 use std::ops::Range;
 
 /// The node table and the seat table of one sheet.
@@ -70,6 +70,21 @@ impl Tables {
         let shown = lent::board(&self.nodes, &self.seats, &mut rows)?;
         rows.truncate(shown.rows);
         Ok(Board { rows, covered: shown.covered })
+    }
+
+    /// How many readers hold: a word that the calls keep, so that nothing is walked. Of tables that a call finds damaged it says nothing.
+    pub fn holding_readers(&self) -> u32 {
+        self.kept(HOLDING_READERS)
+    }
+
+    /// How many writers hold, likewise.
+    pub fn holding_writers(&self) -> u32 {
+        self.kept(HOLDING_WRITERS)
+    }
+
+    /// Tables of any words may be too short to have it: they are damaged, and nobody holds.
+    fn kept(&self, word: usize) -> u32 {
+        self.nodes.get(word).copied().unwrap_or(0)
     }
 
     /// How many nodes are free.

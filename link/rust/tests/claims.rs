@@ -1,6 +1,6 @@
-//! H1 of document 01 through tables that are owned and through lent ones, and the edges of run and board.
+//! H1 of document 01 through tables that are owned and through lent ones, how many hold, and the edges of run and board.
 
-use soodhiqune::lent::{self, node_words, seat_words};
+use soodhiqune::lent::{self, node_words, seat_words, HOLDING_READERS, HOLDING_WRITERS};
 use soodhiqune::{Answer, Board, Kind, Ran, Refused, Row, Shown, Tables};
 
 const SEAT_1_HOLDS: Row = Row { seat: 1, start: 15, end: 25, kind: 2 };
@@ -61,6 +61,35 @@ fn a_frame_that_two_readers_hold_is_covered_once() {
     assert_eq!((board.rows.len(), board.covered), (2, 100));
 }
 
+/// The holding readers and the holding writers, by the methods; by the constants they are the same.
+fn holding(tables: &Tables) -> [u32; 2] {
+    let counts = [tables.holding_readers(), tables.holding_writers()];
+    assert_eq!(counts, [HOLDING_READERS, HOLDING_WRITERS].map(|word| tables.words().0[word]));
+    counts
+}
+
+#[test]
+fn how_many_hold_is_known_after_every_call() {
+    let mut tables = Tables::new(4, 4).unwrap();
+    assert_eq!(holding(&tables), [0, 0]);
+    for (seat, frames, kind, then) in
+        [(0, 0..10, Kind::Reads, [1, 0]), (1, 5..10, Kind::Reads, [2, 0]), (2, 20..30, Kind::Writes, [2, 1])]
+    {
+        let before = holding(&tables);
+        tables.begin(seat, frames, kind).unwrap();
+        assert_eq!(holding(&tables), before);
+        while tables.step(seat).unwrap() != Answer::Held {
+            assert_eq!(holding(&tables), before);
+        }
+        assert_eq!(holding(&tables), then);
+    }
+    assert_eq!((tables.step(2), holding(&tables)), (Ok(Answer::Held), [2, 1]), "a holder counts once");
+    assert_eq!((tables.release(3), holding(&tables)), (Err(Refused::NotHolding), [2, 1]));
+    assert_eq!((tables.release(0), holding(&tables)), (Ok(Answer::Out), [1, 1]));
+    assert_eq!((tables.release(2), holding(&tables)), (Ok(Answer::Out), [1, 0]));
+    assert_eq!((tables.clear(), holding(&tables)), (Ok(()), [0, 0]));
+}
+
 #[test]
 fn run_stops_at_its_end_its_budget_and_a_refused_entry() {
     let mut tables = h1();
@@ -83,7 +112,7 @@ fn a_writer_that_meets_a_reader_goes_back() {
     tables.begin(2, 5..20, Kind::Reads).unwrap();
     tables.begin(3, 15..20, Kind::Writes).unwrap();
     tables.run(&[3, 3, 2, 2, 3, 2, 2, 3], 9);
-    assert_eq!(tables.step(3), Ok(Answer::Back));
+    assert_eq!((tables.step(3), holding(&tables)), (Ok(Answer::Back), [2, 0]));
 }
 
 #[test]

@@ -1,6 +1,6 @@
 //! Each refusal of a call on tables, met; and that it changes nothing.
 
-use soodhiqune::lent::{self, node_words, seat_words, MOST_NODES, MOST_SEATS};
+use soodhiqune::lent::{self, node_words, seat_words, HOLDING_READERS, HOLDING_WRITERS, MOST_NODES, MOST_SEATS};
 use soodhiqune::{Answer, Kind, Ran, Refused, Row, Tables};
 
 /// One node, which seat 0 holds; seat 1 is idle.
@@ -46,8 +46,9 @@ fn all_find_damage(nodes: Vec<u32>, seats: Vec<u32>) {
 
 #[test]
 fn a_table_of_a_wrong_size_is_refused_by_every_call() {
-    let (node, seat) = (node_words(1), seat_words(1));
-    let wrong_nodes = [0, node_words(0), node - 1, node + 1, node_words(MOST_NODES + 1)].map(|nodes| (nodes, seat));
+    let (no_node, node, seat) = (node_words(0), node_words(1), seat_words(1));
+    let wrong_nodes =
+        [0, no_node - 1, no_node, node - 1, node + 1, node_words(MOST_NODES + 1)].map(|nodes| (nodes, seat));
     let wrong_seats = [0, seat - 1, seat + 1, seat_words(MOST_SEATS + 1)].map(|seats| (node, seats));
     for (nodes, seats) in wrong_nodes.into_iter().chain(wrong_seats) {
         all_find_damage(vec![0; nodes], vec![0; seats]);
@@ -65,6 +66,26 @@ fn a_table_of_a_wrong_size_is_refused_by_every_call() {
 fn damaged_words_are_refused_by_every_call() {
     all_find_damage(vec![7; node_words(4)], vec![0; seat_words(3)]);
     all_find_damage(vec![0; node_words(4)], vec![7; seat_words(3)]);
+}
+
+#[test]
+fn wrong_counts_of_holders_are_refused_by_every_call() {
+    let held = seat_0_holds();
+    let (nodes, seats) = held.words();
+    assert_eq!((held.holding_readers(), held.holding_writers()), (0, 1));
+    for (readers, writers) in [(1, 1), (0, 0), (0, 2), (1, 0), (u32::MAX, 1), (0, u32::MAX)] {
+        let mut miscounted = nodes.to_vec();
+        miscounted[HOLDING_READERS] = readers;
+        miscounted[HOLDING_WRITERS] = writers;
+        all_find_damage(miscounted, seats.to_vec());
+    }
+    assert!(held.free_count().is_ok());
+}
+
+#[test]
+fn tables_too_short_for_counts_have_none() {
+    let tables = Tables::from_words(vec![7], Vec::new());
+    assert_eq!((tables.holding_readers(), tables.holding_writers()), (0, 0));
 }
 
 #[test]

@@ -3,7 +3,7 @@
 //! `cost` alone lists the operations. MACHINE is second, or proved with the feature of that name.
 
 use second::driver::{make, Call, Case, Library};
-use second::machine::{self, Answer, HEAD, MARK, NODE_WORDS, START};
+use second::machine::{self, Answer, BEFORE_NODES, HEAD, MARK, NODE_WORDS, START};
 use second::random::Random;
 use std::process::exit;
 
@@ -108,7 +108,7 @@ impl Bench {
     fn full(mut self, mark: u32) -> Bench {
         let mut last_listed = machine::listed(&self.nodes).last().unwrap_or(0);
         let unused = machine::listed(&self.nodes).count() as u32 + 1;
-        for node in unused..=((self.nodes.len() - 1) / NODE_WORDS) as u32 {
+        for node in unused..=((self.nodes.len() - BEFORE_NODES) / NODE_WORDS) as u32 {
             self.nodes[machine::link(last_listed)] = node;
             self.nodes[machine::place(node, START)..=machine::place(node, MARK)]
                 .copy_from_slice(&[10_000, 10_005, WRITES, 0, mark]);

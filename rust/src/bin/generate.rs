@@ -1,12 +1,14 @@
-//! generate SEED COUNT [DIRECTORY | --tally]: writes the scripts 0 to COUNT − 1 of a seed into a directory, or counts what
-//! they reach. With neither, prints the script COUNT of the seed.
+//! generate SEED COUNT [DIRECTORY | --tally | --tables]: writes the scripts 0 to COUNT − 1 of a seed into a directory, or
+//! counts what they reach, or what COUNT rounds of tables of the seed are. With none of these, prints the script COUNT of
+//! the seed.
 
 use second::generate::script;
+use second::random::Random;
 use second::tally::Tally;
 use std::io::Write;
 
 fn number(argument: Option<&String>) -> u64 {
-    argument.and_then(|digits| digits.parse().ok()).expect("generate SEED COUNT [DIRECTORY | --tally]")
+    argument.and_then(|digits| digits.parse().ok()).expect("generate SEED COUNT [DIRECTORY | --tally | --tables]")
 }
 
 fn main() -> std::io::Result<()> {
@@ -19,6 +21,12 @@ fn main() -> std::io::Result<()> {
             for (flaw, bytes) in (0..count).map(|number| script(seed, number)) {
                 tally.count_script(flaw, &bytes);
             }
+            print!("{}", tally.text());
+        }
+        Some("--tables") => {
+            let mut tally = Tally::default();
+            let mut random = Random::new(seed);
+            (0..count).for_each(|_| tally.count_round(&mut random));
             print!("{}", tally.text());
         }
         Some(directory) => {

@@ -31,7 +31,8 @@ fn lengths_that_do_not_fit_are_refused() {
     let node_words = |count| fresh(count, 0).0.len();
     let seat_words = |count| fresh(0, count).1.len();
     let (one, seat) = (node_words(1), seat_words(1));
-    let wrong_nodes = [0, node_words(0), one - 1, one + 1, node_words(257)].map(|nodes| (nodes, seat));
+    let no_node = node_words(0);
+    let wrong_nodes = [0, 1, no_node - 1, no_node, one - 1, one + 1, node_words(257)].map(|nodes| (nodes, seat));
     let wrong_seats = [0, seat - 1, seat + 1, seat_words(65)].map(|seats| (one, seats));
     for (nodes, seats) in wrong_nodes.into_iter().chain(wrong_seats) {
         assert_eq!(clear(&mut vec![7; nodes], &mut vec![7; seats]), Err(1), "{nodes} {seats}");
@@ -46,7 +47,7 @@ fn all_hold(seat_count: u32) -> (Vec<u32>, Vec<u32>) {
     let (mut nodes, mut seats) = fresh(seat_count, seat_count);
     for seat in 0..seat_count {
         begin(&mut nodes, &mut seats, seat, seat, seat + 1, 2).unwrap();
-        while step(&mut nodes, &mut seats, seat) != Ok(Answer::Held) {}
+        while step(&mut nodes, &mut seats, seat).expect("the seat is under way") != Answer::Held {}
     }
     (nodes, seats)
 }

@@ -4,7 +4,7 @@
 use crate::machine::{begin, board, fresh, link, place, step, Answer};
 use crate::machine::{END, HOLDING, KIND, MARK, MOST_SEATS, OWN, PHASE, ROW_WORDS, SEAT_WORDS, START};
 use crate::random::Random;
-use crate::tables::many_holders;
+use crate::tables::{many_holders, put_counts};
 use std::ops::Range;
 
 /// The covered frames of any sound tables.
@@ -17,7 +17,7 @@ fn covered_by_readers(runs: &[Range<u32>]) -> u64 {
     let (mut nodes, mut seats) = fresh(runs.len() as u32, runs.len() as u32);
     for (seat, run) in (0..).zip(runs) {
         begin(&mut nodes, &mut seats, seat, run.start, run.end, 1).expect("a node is free");
-        while step(&mut nodes, &mut seats, seat) != Ok(Answer::Held) {}
+        while step(&mut nodes, &mut seats, seat).expect("the seat is under way") != Answer::Held {}
     }
     covered(&nodes, &seats)
 }
@@ -117,6 +117,7 @@ fn small_tables(random: &mut Random) -> (Vec<u32>, Vec<u32>) {
             seat[OWN] = random.between(1, node_count);
         }
     }
+    put_counts(&mut nodes, &seats);
     (nodes, seats)
 }
 

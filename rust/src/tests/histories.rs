@@ -1,14 +1,17 @@
 //! The histories H1 to H11 of document 01, with covered frames as 02 counts them, and one more.
 
 use crate::script::play;
+use crate::tests::counts::counts_after_each_call;
+use crate::tests::script_of;
 
-/// Plays bodies separated by `;` on N nodes and S seats, and gives the answers and the closing lines separated by `;`.
+/// Plays bodies separated by `;` on N nodes and S seats, and gives the answers and the closing lines separated by `;`. After
+/// each call the counts of holders are right.
 fn played(nodes: u32, seats: u32, bodies: &str) -> String {
-    let bodies: Vec<&str> = bodies.split("; ").collect();
-    let script = format!("{nodes} {seats} {}\n{}\n", bodies.len(), bodies.join("\n"));
+    let script = script_of(nodes, seats, bodies);
+    counts_after_each_call(script.as_bytes());
     let text = play(script.as_bytes());
     let mut lines: Vec<String> = text.lines().map(str::to_string).collect();
-    for (number, line) in (1..=bodies.len()).zip(&mut lines) {
+    for (number, line) in (1..=bodies.split("; ").count()).zip(&mut lines) {
         *line = line.strip_prefix(&format!("{number} ")).expect("the number of the call").to_string();
     }
     lines.join("; ")

@@ -67,13 +67,16 @@ fn the_generated_scripts_reach_every_rule() {
         "step: pass while validating",
         "step: unlink while walking",
         "step: unlink while validating",
-        "step: hold",
+        "step: hold of a reader",
+        "step: hold of a writer",
         "step: of a holder",
         "step: withdrawal",
         "step: fetch after withdrawal, the same node",
         "step: fetch after withdrawal, another node",
         "fetch that takes marked nodes out",
         "script with a list longer than 30",
+        "release of a reader",
+        "release of a writer",
     ];
     let refusals =
         ["2 of begin", "3 of begin", "4 of begin", "5 of begin", "8 of begin", "2 of step", "6 of step", "8 of step"];
@@ -82,6 +85,9 @@ fn the_generated_scripts_reach_every_rule() {
     }
     for refusal in refusals.iter().chain(&["2 of release", "7 of release"]) {
         assert!(tally.of(&format!("refusal {refusal}")) >= 10, "{refusal}");
+    }
+    for name in ["the most readers holding at once", "the most writers holding at once"] {
+        assert!(tally.most(name) >= 30, "{name}");
     }
     for (flaw, _) in FLAWS {
         assert!(tally.of(&format!("script: {flaw}")) >= 3, "{flaw}");

@@ -1,35 +1,13 @@
-//! The machine on tables that no history need have reached, against slow renderings of the same sentences of document 01.
+//! The machine on tables that no history need have reached, against slow renderings of the same sentences of documents 01
+//! and 02.
 
-use crate::driver::{outcome, Call, Case};
-use crate::library_of;
 use crate::machine::{begin, free_count, listed, run, step, Answer};
 use crate::random::Random;
-use crate::tables::{any_words, damaged, many_holders, sound_words, DAMAGES};
+use crate::tables::{any_words, damaged, many_holders, miscounted, put_counts, sound_words, DAMAGES, MISCOUNTS};
 use crate::tally::Tally;
-use crate::tests::BOARDS;
-
-// Where each word stands, as the document says it: not the machine's constants, so that a wrong one is seen.
-const HEAD: usize = 0;
-const WORDS_BEFORE_NODES: usize = 1;
-const NODE_WORDS: usize = 5;
-const START: usize = 0;
-const END: usize = 1;
-const KIND: usize = 2;
-const NEXT: usize = 3;
-const MARK: usize = 4;
-const SEAT_WORDS: usize = 4;
-const PHASE: usize = 0;
-const OWN: usize = 1;
-const PREV: usize = 2;
-const CUR: usize = 3;
-
-fn place(node: u32, field: usize) -> usize {
-    WORDS_BEFORE_NODES + NODE_WORDS * (node as usize - 1) + field
-}
-
-fn word(nodes: &[u32], node: u32, field: usize) -> u32 {
-    nodes[place(node, field)]
-}
+use crate::tests::layout::{counts_kept, counts_over_seats, place, word, CUR, END, HEAD, KIND, MARK, NEXT, NODE_WORDS};
+use crate::tests::layout::{OWN, PHASE, PREV, SEAT_WORDS, START, WORDS_BEFORE_NODES};
+use crate::tests::{refused_by_every_call, BOARDS};
 
 fn node_count(nodes: &[u32]) -> usize {
     nodes.len().saturating_sub(WORDS_BEFORE_NODES) / NODE_WORDS
@@ -55,10 +33,11 @@ fn is_sound(nodes: &[u32], seats: &[u32]) -> bool {
     let named = |name: u32| name == 0 || (name <= count && [1, 2].contains(&word(nodes, name, KIND)));
     let nodes_fit = (1..=count).all(|node| {
         let [start, end, kind, next, mark] = [START, END, KIND, NEXT, MARK].map(|field| word(nodes, node, field));
-        [start, end, kind, next, mark] == [0; 5] || ([1, 2].contains(&kind) && start < end && named(next) && mark <= 1)
+        let zeros = nodes[place(node, 0)..][..NODE_WORDS].iter().all(|&word| word == 0);
+        zeros || ([1, 2].contains(&kind) && start < end && named(next) && mark <= 1)
     });
     let seats_fit = seats.chunks(SEAT_WORDS).all(|seat| match seat[PHASE] {
-        0 => names(seat) == [0; 3],
+        0 => seat.iter().all(|&word| word == 0),
         phase => {
             phase <= 6
                 && seat[OWN] != 0
@@ -67,7 +46,7 @@ fn is_sound(nodes: &[u32], seats: &[u32]) -> bool {
                 && (![2, 4].contains(&phase) || seat[CUR] != 0)
         }
     });
-    if !nodes_fit || !seats_fit || !named(nodes[HEAD]) {
+    if !nodes_fit || !seats_fit || !named(nodes[HEAD]) || counts_kept(nodes) != counts_over_seats(nodes, seats) {
         return false;
     }
     let mut met = nodes[HEAD];
@@ -162,29 +141,41 @@ fn many_holders_meet_in_every_way() {
 
 #[test]
 fn each_damage_alone_is_refused_and_nothing_changes() {
-    let library = library_of!(crate::library);
     let mut random = Random::new(2);
     for damage in DAMAGES.iter().cycle().take(20 * DAMAGES.len()) {
         let (nodes, seats) = damaged(&mut random, damage);
         assert!(!is_sound(&nodes, &seats), "{}", damage.0);
-        let calls = [
-            Call::Begin { seat: 0, start: 0, end: 1, kind: 1 },
-            Call::Step { seat: 0 },
-            Call::Release { seat: 0 },
-            Call::Board { rows: vec![7; 256] },
-            Call::FreeCount,
-        ];
-        for call in calls {
-            let after = outcome(&library, &Case { nodes: nodes.clone(), seats: seats.clone(), call });
-            assert_eq!(
-                (after.answer, after.nodes.words(), after.seats.words()),
-                (1, &nodes[..], &seats[..]),
-                "{}",
-                damage.0
-            );
-            assert!(after.rows.words().iter().all(|&word| word == 7));
-        }
-        assert_eq!(run(&mut nodes.clone(), &mut seats.clone(), &[0], 9), (0, 1), "{}", damage.0);
+        refused_by_every_call(damage.0, &nodes, &seats);
+    }
+}
+
+#[test]
+fn each_wrong_count_alone_is_refused_and_nothing_changes() {
+    let mut random = Random::new(8);
+    for miscount in MISCOUNTS.iter().cycle().take(60 * MISCOUNTS.len()) {
+        let (mut nodes, seats) = miscounted(&mut random, miscount);
+        refused_by_every_call(miscount.0, &nodes, &seats);
+        put_counts(&mut nodes, &seats);
+        assert!(is_sound(&nodes, &seats), "{}", miscount.0);
+    }
+}
+
+#[test]
+fn the_tables_of_a_seed_are_what_their_names_say() {
+    let mut random = Random::new(1);
+    let mut tally = Tally::default();
+    for _ in 0..50 {
+        tally.count_round(&mut random);
+    }
+    for (name, _) in DAMAGES {
+        assert_eq!(tally.of(&format!("damage, {name}: damaged otherwise")), 50, "{name}");
+    }
+    for (name, _) in MISCOUNTS {
+        assert_eq!(tally.of(&format!("count, {name}: damaged by a count alone")), 50, "{name}");
+    }
+    assert_eq!([tally.of("sound words: sound"), tally.of("many holders: sound")], [500, 500]);
+    for name in ["the most readers holding at once", "the most writers holding at once"] {
+        assert!(tally.most(name) >= 20, "{name}");
     }
 }
 
