@@ -13,26 +13,15 @@ use Rattle.rules.specs.Notation.{if_then_else_, _is_, all, count}
 use Rattle.rules.specs.Tables.{Tables, tables, nodeWord, seatWord, nodeCountOf, seatCountOf, kindAt, phaseAt, ownAt, countWord, phase, kind, own}
 use Rattle.rules.specs.Shape.{seatSound, holdsWith, holdersOfKind, countsFit, seatsSound}
 use Rattle.rules.proofs.Ground.Logic.{all-fails}
-use Rattle.rules.proofs.Laws.Shape.{name-small, seat-sound}
 use Rattle.shape.specs.Parts.{heldKind, seatsAndCountsSound}
 
--- ---- a holder of sound shape has a node of its own, whose kind is read
-module _ (l t : List ℕ) (s p o : ℕ) (isOwn : o ≡ seatWord t s ownAt) (holds : p ≡ 5) (isPhase : p ≡ seatWord t s phaseAt) where
-  pub holder-some : seatSound (tables l t) s ≡ true → o ≢ 0
-  holder-some e z = let h = sym isPhase ∙ holds in seat-sound (tables l t) s e .owning (λ q. omega arith) (sym isOwn ∙ z)
+-- ---- the kind of the claim that a seat holds with
+module _ (l t : List ℕ) (s p : ℕ) (isPhase : p ≡ seatWord t s phaseAt) where
+  pub holder-kind : (o k : ℕ) → k ≡ nodeWord l o kindAt → o ≡ seatWord t s ownAt → p ≡ 5 → k ≡ heldKind (tables l t) s
+  holder-kind o k e q h = rw (eq-eqb (seatWord t s phaseAt) 5 (sym isPhase ∙ h), ← q) e
 
-  pub holder-in : seatSound (tables l t) s ≡ true → o ≤ nodeCountOf l
-  holder-in e = rw isOwn (name-small (tables l t) (seatWord t s ownAt) (seat-sound (tables l t) s e .own-names))
-
-  pub holder-kind : (k : ℕ) → k ≡ nodeWord l o kindAt → k ≡ heldKind (tables l t) s
-  holder-kind k e = rw (eq-eqb (seatWord t s phaseAt) 5 (sym isPhase ∙ holds), ← isOwn) e
-
-pub holder-none : (l t : List ℕ) (s p : ℕ) → p ≡ seatWord t s phaseAt → p ≢ 5 → 0 ≡ heldKind (tables l t) s
-holder-none l t s p e d = rw (ne-eqb (seatWord t s phaseAt) 5 (λ q. d (e ∙ q)))
-
--- after the test of a seat
-pub seat-fits : (l t : List ℕ) (s : ℕ) (b : Bool) → b ≡ seatSound (tables l t) s → not b ≡ false → seatSound (tables l t) s ≡ true
-seat-fits l t s b p e = sym p ∙ not-false b e
+  pub holder-none : p ≢ 5 → 0 ≡ heldKind (tables l t) s
+  holder-none d = rw (ne-eqb (seatWord t s phaseAt) 5 (λ e. d (isPhase ∙ e)))
 
 -- ---- the seats below a bound
 pub record Counted (l t : List ℕ) (s readers writers : ℕ) : Type 0 where

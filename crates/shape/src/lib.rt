@@ -134,13 +134,12 @@ fn seat_sound(nodes: &[u32], seats: &[u32], n: u32, s: u32) -> bool
 // the kind of the claim that a seat holds with, 0 if it holds with none
 fn held_kind(nodes: &[u32], seats: &[u32], s: u32) -> u32
     requires { ⌜ s < seatCountOf (now seats) ⌝ }
-    requires { ⌜ seatSound (tables (now nodes) (now seats)) s ≡ true ⌝ }
     ensures { λ r. ⌜ r ≡ heldKind (tables (now (nodes .entry)) (now (seats .entry))) s ⌝ }
 {
     let phase = words::seat_word_within(seats, s, words::PHASE);
     if phase == 5 {
         let own = words::seat_word_within(seats, s, words::OWN);
-        return words::node_word_within(nodes, own, words::KIND);
+        return words::node_word(nodes, own, words::KIND);
     }
     0
 }

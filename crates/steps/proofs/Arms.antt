@@ -37,9 +37,9 @@ pub before-is : (n t : List ℕ) (s o c e x : ℕ) → x ≡ nodeWord n o startA
 unfolding endsBefore
 before-is n t s o c e x px pe pc po = rw (px, pe, pc, po)
 
--- ---- the counts: in sound tables one more and one less are 32-bit numbers, one less at a seat that holds
-pub count-more-fits : (n t : List ℕ) (k x : ℕ) → x ≡ countWord (tables n []) k → sound (tables n t) ≡ true → Fits w32 (x + 1)
-count-more-fits n t k x e z = let h : x ≤ 64 = rw e (count-few (tables n t) z k) in record { fits = omega arith }
+-- ---- the counts: in sound tables a few more fit, and one less at a seat that holds
+pub count-fits : (n t : List ℕ) (k x m : ℕ) → x ≡ countWord (tables n []) k → sound (tables n t) ≡ true → m ≤ 64 → Fits w32 (x + m)
+count-fits n t k x m e z i = let h : x ≤ 64 = rw e (count-few (tables n t) z k) in record { fits = omega arith }
 
 pub count-some : (n t : List ℕ) (s k x : ℕ) → x ≡ countWord (tables n []) k → k ≡ kindOf (tables n t) s → sound (tables n t) ≡ true → s < seatCountOf t → phase (tables n t) s ≡ 5 → 1 ≤ x
 count-some n t s k x e q z h p = rw (e, q) (holder-counts (tables n t) z s h p)

@@ -1,5 +1,5 @@
 -- `shape::held_kind` meets its promise.
-use Rattle.shape.proofs.Counted.{holder-some, holder-in, holder-kind, holder-none}
+use Rattle.shape.proofs.Counted.{holder-kind, holder-none}
 use borrow.Author.Needs.{needs}
 use Rattle.shape.proofs.held_kind.Statement.{statement}
 use Rattle.shape.proofs.held_kind.Tie as tie
@@ -10,8 +10,8 @@ seat-word-within-requires c κs = search needs
 seat-word-within-requires-2 : tie.Need-seat-word-within-requires-2
 seat-word-within-requires-2 c κs = search needs
 
-node-word-within-requires : tie.Need-node-word-within-requires
-node-word-within-requires c κs = (search holder-some, (search holder-in, search needs))
+node-word-requires : tie.Need-node-word-requires
+node-word-requires c κs = search needs
 
 returns : tie.Need-returns
 returns c = search holder-kind
@@ -25,6 +25,6 @@ held-kind-spec =
     (tie.spec
     seat-word-within-requires
     seat-word-within-requires-2
-    node-word-within-requires
+    node-word-requires
     returns
     returns-2)

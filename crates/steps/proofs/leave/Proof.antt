@@ -21,7 +21,7 @@ clear-seat-requires : tie.Need-clear-seat-requires
 clear-seat-requires c κs = search needs
 
 sub-put-count : tie.Need-sub-put-count
-sub-put-count c = search count-some
+sub-put-count c = search (count-some, needs)
 
 put-count-requires : tie.Need-put-count-requires
 put-count-requires c κs = search needs
