@@ -2,7 +2,7 @@
 use Prim.Native.Nat.{_-_, _≤_}
 use native.Mathlib.Omega.{arith}
 use borrow.Author.Needs.{needs}
-use Rattle.shape.proofs.Counted.{Counted, counted-none, counted-reader, counted-writer, counted-other, seat-fails, all-counted}
+use Rattle.shape.proofs.Counted.{Counted, counted-none, counted-reader, counted-writer, counted-other, seat-fits, seat-fails, all-counted}
 use Rattle.shape.proofs.seats_and_counts_sound.Statement.{statement}
 use Rattle.shape.proofs.seats_and_counts_sound.Tie as tie
 
@@ -22,7 +22,7 @@ returns : tie.Need-returns Inv-loop μ-loop
 returns c = search seat-fails
 
 held-kind-requires : tie.Need-held-kind-requires Inv-loop μ-loop
-held-kind-requires c κs = search needs
+held-kind-requires c κs = (search needs, search seat-fits)
 
 add-s : tie.Need-add-s Inv-loop μ-loop
 add-s c = omega arith
