@@ -8,7 +8,7 @@ use mathlib.Core.Logic.{_≢_}
 use native.Mathlib.Omega.{arith}
 use native.Mathlib.Numerals.{add-one}
 use lib.Dec.{eqb}
-use borrow.Author.Tests.{not-true, not-false, eq-eqb, ne-eqb}
+use borrow.Author.Tests.{not-true, not-false, eqb-true, ne-eqb}
 use Rattle.rules.specs.Notation.{if_then_else_, _is_, all, count}
 use Rattle.rules.specs.Tables.{Tables, tables, nodeWord, seatWord, nodeCountOf, seatCountOf, kindAt, phaseAt, ownAt, countWord, phase, kind, own}
 use Rattle.rules.specs.Shape.{seatSound, holdsWith, holdersOfKind, countsFit, seatsSound}
@@ -16,19 +16,25 @@ use Rattle.rules.proofs.Ground.Logic.{all-fails}
 use Rattle.rules.proofs.Laws.Shape.{name-small, seat-sound}
 use Rattle.shape.specs.Parts.{heldKind, seatsAndCountsSound}
 
+pub is-holder : (t : List ℕ) (s p : ℕ) → p ≡ seatWord t s phaseAt → eqb p 5 ≡ (seatWord t s phaseAt is 5)
+is-holder t s p e = rw e
+
 -- ---- a holder of sound shape has a node of its own, whose kind is read
-module _ (l t : List ℕ) (s p o : ℕ) (isOwn : o ≡ seatWord t s ownAt) (holds : p ≡ 5) (isPhase : p ≡ seatWord t s phaseAt) where
-  pub holder-some : seatSound (tables l t) s ≡ true → o ≢ 0
-  holder-some e z = let h = sym isPhase ∙ holds in seat-sound (tables l t) s e .owning (λ q. omega arith) (sym isOwn ∙ z)
+module _ (l t : List ℕ) (s : ℕ) (b : Bool) (isHolder : b ≡ (seatWord t s phaseAt is 5)) where
+  pub holder-none : b ≡ false → 0 ≡ heldKind (tables l t) s
+  holder-none e = rw (sym isHolder ∙ e)
 
-  pub holder-in : seatSound (tables l t) s ≡ true → o ≤ nodeCountOf l
-  holder-in e = rw isOwn (name-small (tables l t) (seatWord t s ownAt) (seat-sound (tables l t) s e .own-names))
+  module _ (holds : b ≡ true) (o : ℕ) (isOwn : o ≡ seatWord t s ownAt) where
+    pub holder-some : seatSound (tables l t) s ≡ true → o ≢ 0
+    holder-some e z =
+        let h = eqb-true (seatWord t s phaseAt) 5 (sym isHolder ∙ holds) in
+        seat-sound (tables l t) s e .owning (λ q. omega arith) (sym isOwn ∙ z)
 
-  pub holder-kind : (k : ℕ) → k ≡ nodeWord l o kindAt → k ≡ heldKind (tables l t) s
-  holder-kind k e = rw (eq-eqb (seatWord t s phaseAt) 5 (sym isPhase ∙ holds), ← isOwn) e
+    pub holder-in : seatSound (tables l t) s ≡ true → o ≤ nodeCountOf l
+    holder-in e = rw isOwn (name-small (tables l t) (seatWord t s ownAt) (seat-sound (tables l t) s e .own-names))
 
-pub holder-none : (l t : List ℕ) (s p : ℕ) → p ≡ seatWord t s phaseAt → p ≢ 5 → 0 ≡ heldKind (tables l t) s
-holder-none l t s p e d = rw (ne-eqb (seatWord t s phaseAt) 5 (λ q. d (e ∙ q)))
+    pub holder-kind : (k : ℕ) → k ≡ nodeWord l o kindAt → k ≡ heldKind (tables l t) s
+    holder-kind k e = rw (sym isHolder ∙ holds, ← isOwn) e
 
 -- after the test of a seat
 pub seat-fits : (l t : List ℕ) (s : ℕ) (b : Bool) → b ≡ seatSound (tables l t) s → not b ≡ false → seatSound (tables l t) s ≡ true

@@ -3,7 +3,8 @@ ghost use mathlib.Core.Path.{_≡_};
 ghost use mathlib.Core.Bool.{true};
 ghost use mathlib.Core.List.{[]};
 ghost use Prim.Native.Nat.{_<_, _≤_};
-ghost use Rattle.rules.specs.Tables.{tables, nodeCountOf, seatCountOf};
+ghost use Rattle.rules.specs.Notation.{_is_};
+ghost use Rattle.rules.specs.Tables.{tables, nodeCountOf, seatCountOf, phase};
 ghost use Rattle.rules.specs.Shape.{nodesFit, lengthsFit, isKind, names, nodeSound, seatSound, nodesSound, sound};
 ghost use Rattle.shape.specs.Parts.{busySound, waitingSound, restingSound, heldKind, seatsAndCountsSound, listEnds};
 
@@ -131,14 +132,20 @@ fn seat_sound(nodes: &[u32], seats: &[u32], n: u32, s: u32) -> bool
     }
 }
 
-// the kind of the claim that a seat holds with, 0 if it holds with none
+fn holds(seats: &[u32], s: u32) -> bool
+    requires { ⌜ s < seatCountOf (now seats) ⌝ }
+    ensures { λ r. ⌜ r ≡ (phase (tables [] (now (seats .entry))) s is 5) ⌝ }
+{
+    words::seat_word_within(seats, s, words::PHASE) == 5
+}
+
+// the kind of the claim that a sound seat holds with, 0 if it holds with none
 fn held_kind(nodes: &[u32], seats: &[u32], s: u32) -> u32
     requires { ⌜ s < seatCountOf (now seats) ⌝ }
     requires { ⌜ seatSound (tables (now nodes) (now seats)) s ≡ true ⌝ }
     ensures { λ r. ⌜ r ≡ heldKind (tables (now (nodes .entry)) (now (seats .entry))) s ⌝ }
 {
-    let phase = words::seat_word_within(seats, s, words::PHASE);
-    if phase == 5 {
+    if holds(seats, s) {
         let own = words::seat_word_within(seats, s, words::OWN);
         return words::node_word_within(nodes, own, words::KIND);
     }

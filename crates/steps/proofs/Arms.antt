@@ -1,6 +1,6 @@
 -- The step rules as one law for each way through the code: n and t are the node and the seat table before, n′ and t′ after. The
 -- premises are what the code learned on its way, the last first.
-use Prim.Native.Nat.{ℕ, _+_, _≤_, _<_}
+use Prim.Native.Nat.{ℕ, _+_, _-_, _≤_, _<_}
 use mathlib.Core.Path.{_≡_, refl, sym, ap, _∙_}
 use mathlib.Core.Bool.{Bool, true, false, not, _&&_, _||_}
 use mathlib.Core.List.{List, []}
@@ -12,14 +12,14 @@ use mir.Syntax.{w32}
 use mir.Val.{Fits, ofZ, toZ}
 use native.Mathlib.Omega.{arith}
 use borrow.Author.Tests.{eq-eqb, ne-eqb}
-use Rattle.rules.specs.Tables.{Tables, tables, seatCountOf, nodeWord, linkWord, seatWord, putSeat, kindAt, markAt, startAt, endAt, phaseAt, ownAt, prevAt, curAt, countWord, phase}
+use Rattle.rules.specs.Tables.{Tables, tables, seatWidth, seatCountOf, nodeWord, putNode, linkWord, seatWord, putSeat, clearWords, kindAt, markAt, startAt, endAt, phaseAt, ownAt, prevAt, curAt, countWord, setCount, phase}
 use Rattle.rules.specs.Shape.{sound}
 use Rattle.rules.specs.Comparison.{claimOf, compare}
 use Rattle.rules.specs.Answers.{Answer, on, wait, held, back, Done, done, answerOf, answered}
-use Rattle.rules.specs.Steps.{moveTo, joined, unlink, pass, linkIn, startValidating, lookAgain, insert, kindOf, hold, withdraw, walking, waitingToEnter, readerValidating, writerValidating, validating, readerWaiting}
+use Rattle.rules.specs.Steps.{moveTo, joined, unlink, pass, linkIn, startValidating, lookAgain, insert, kindOf, hold, withdraw, leave, walking, waitingToEnter, readerValidating, writerValidating, validating, readerWaiting}
 use Rattle.rules.proofs.Laws.Counts.{count-few, holder-counts}
 use Rattle.comparison.proofs.Signs.{compare-fits, at-zero, below-zero, above-zero}
-use Rattle.steps.specs.Parts.{skip, skipAndLink, walkByComparison, wakeTo, isPast, readOn, endsBefore, writeOn}
+use Rattle.steps.specs.Parts.{skip, skipAndLink, walkByComparison, wakeTo, isPast, readOn, endsBefore, writeOn, markAndClear}
 
 -- ---- tests
 pub joined-is : (n t : List ℕ) (s v c m x : ℕ) → x ≡ linkWord n v → m ≡ nodeWord n v markAt → c ≡ seatWord t s curAt → v ≡ seatWord t s prevAt
@@ -37,12 +37,30 @@ pub before-is : (n t : List ℕ) (s o c e x : ℕ) → x ≡ nodeWord n o startA
 unfolding endsBefore
 before-is n t s o c e x px pe pc po = rw (px, pe, pc, po)
 
--- ---- the counts: in sound tables one more and one less are 32-bit numbers, one less at a seat that holds
-pub count-more-fits : (n t : List ℕ) (k x : ℕ) → x ≡ countWord (tables n []) k → sound (tables n t) ≡ true → Fits w32 (x + 1)
-count-more-fits n t k x e z = let h : x ≤ 64 = rw e (count-few (tables n t) z k) in record { fits = omega arith }
+-- ---- the counts: in sound tables a few more fit, and one less at a seat that holds
+pub count-fits : (n t : List ℕ) (k x m : ℕ) → x ≡ countWord (tables n []) k → sound (tables n t) ≡ true → m ≤ 64 → Fits w32 (x + m)
+count-fits n t k x m e z i = let h : x ≤ 64 = rw e (count-few (tables n t) z k) in record { fits = omega arith }
 
 pub count-some : (n t : List ℕ) (s k x : ℕ) → x ≡ countWord (tables n []) k → k ≡ kindOf (tables n t) s → sound (tables n t) ≡ true → s < seatCountOf t → phase (tables n t) s ≡ 5 → 1 ≤ x
 count-some n t s k x e q z h p = rw (e, q) (holder-counts (tables n t) z s h p)
+
+-- ---- hold, withdraw and release
+pub hold-is : (n n′ t t′ : List ℕ) (s k x : ℕ) → n′ ≡ setCount (tables n []) k (x + 1) .nodes → t′ ≡ moveTo (tables [] t) s 5 0 0 .seats → x ≡ countWord (tables n []) k → k ≡ kindOf (tables n t) s
+    → tables n′ t′ ≡ hold (tables n t) s
+unfolding hold
+hold-is n n′ t t′ s k x p q e i = rw (p, q, e, i)
+
+pub withdraw-is : (n n′ t t′ : List ℕ) (s o : ℕ) → t′ ≡ moveTo (tables [] t) s 6 0 0 .seats → n′ ≡ putNode n o markAt 1 → o ≡ seatWord t s ownAt → tables n′ t′ ≡ withdraw (tables n t) s
+unfolding withdraw
+withdraw-is n n′ t t′ s o q p i = rw (p, q, i)
+
+pub clear-is : (n n′ t t′ : List ℕ) (s o : ℕ) → t′ ≡ clearWords seatWidth t s → n′ ≡ putNode n o markAt 1 → o ≡ seatWord t s ownAt → tables n′ t′ ≡ markAndClear (tables n t) s
+clear-is n n′ t t′ s o q p i = rw (p, q, i)
+
+pub leave-is : (n n₁ n′ t t′ : List ℕ) (s k x : ℕ) → n′ ≡ setCount (tables n₁ []) k (x - 1) .nodes → tables n₁ t′ ≡ markAndClear (tables n t) s → x ≡ countWord (tables n []) k → k ≡ kindOf (tables n t) s
+    → tables n′ t′ ≡ leave (tables n t) s
+unfolding leave
+leave-is n n₁ n′ t t′ s k x p q e i = rw (p, e, i) (ap (λ u. setCount u (kindOf (tables n t) s) (countWord (tables n t) (kindOf (tables n t) s) - 1)) q)
 
 -- ---- by whether prev is joined to cur
 module _ (n t t′ : List ℕ) (s : ℕ) (b : Bool) (isJoined : b ≡ joined (tables n t) s) where

@@ -2,7 +2,7 @@
 use Prim.Native.Nat.{ℕ}
 use mathlib.Core.Bool.{Bool, _||_}
 use Rattle.rules.specs.Notation.{if_then_else_, _is_, _≤?_}
-use Rattle.rules.specs.Tables.{Tables, start, end, marked, next, own, prev, cur, setLink, setPhase, setCur}
+use Rattle.rules.specs.Tables.{Tables, start, end, marked, next, own, prev, cur, setLink, setMark, setPhase, setCur, clearSeat}
 use Rattle.rules.specs.Comparison.{claimOf, reads, compare, byComparison}
 use Rattle.rules.specs.Steps.{unlink, pass, insert, withdraw}
 
@@ -42,3 +42,7 @@ writeOn t s =
     if marked t (cur t s) then unlink t s
     else if end t (cur t s) ≤? start t (own t s) then pass t s
     else withdraw t s
+
+-- of release
+abbrev pub markAndClear : Tables → ℕ → Tables
+markAndClear t s = clearSeat (setMark t (own t s) 1) s

@@ -339,18 +339,26 @@ pub fn step_reader_waiting(nodes: &[u32], seats: &mut [u32], s: u32) -> Reply
     answer(seats, s)
 }
 
-// ---- release, of a seat that holds
+// ---- release
 
+// own is marked and the seat idle
+fn mark_and_clear(nodes: &mut [u32], seats: &mut [u32], s: u32)
+    ensures { λ r. ⌜ tables (now (nodes .exit)) (now (seats .exit)) ≡ part.markAndClear (tables (now (nodes .entry)) (now (seats .entry))) s ⌝ }
+{
+    let own = words::seat_word(seats, s, words::OWN);
+    words::put_node(nodes, own, words::MARK, 1);
+    words::clear_seat(seats, s);
+}
+
+// of a seat that holds
 pub fn leave(nodes: &mut [u32], seats: &mut [u32], s: u32)
     requires { ⌜ sound (tables (now nodes) (now seats)) ≡ true ⌝ }
     requires { ⌜ s < seatCountOf (now seats) ⌝ }
     requires { ⌜ phase (tables (now nodes) (now seats)) s ≡ 5 ⌝ }
     ensures { λ r. ⌜ tables (now (nodes .exit)) (now (seats .exit)) ≡ rule.leave (tables (now (nodes .entry)) (now (seats .entry))) s ⌝ }
 {
-    let own = words::seat_word(seats, s, words::OWN);
     let kind = kind_of(nodes, seats, s);
     let count = words::count_word(nodes, kind);
-    words::put_node(nodes, own, words::MARK, 1);
-    words::clear_seat(seats, s);
+    mark_and_clear(nodes, seats, s);
     words::put_count(nodes, kind, count - 1);
 }

@@ -1,14 +1,14 @@
 -- `shape::held_kind` meets its promise.
-use Rattle.shape.proofs.Counted.{holder-some, holder-in, holder-kind, holder-none}
+use Rattle.shape.proofs.Counted.{holder-none, holder-some, holder-in, holder-kind}
 use borrow.Author.Needs.{needs}
 use Rattle.shape.proofs.held_kind.Statement.{statement}
 use Rattle.shape.proofs.held_kind.Tie as tie
 
+holds-requires : tie.Need-holds-requires
+holds-requires c κs = search needs
+
 seat-word-within-requires : tie.Need-seat-word-within-requires
 seat-word-within-requires c κs = search needs
-
-seat-word-within-requires-2 : tie.Need-seat-word-within-requires-2
-seat-word-within-requires-2 c κs = search needs
 
 node-word-within-requires : tie.Need-node-word-within-requires
 node-word-within-requires c κs = (search holder-some, (search holder-in, search needs))
@@ -22,9 +22,4 @@ returns-2 c = search holder-none
 pub held-kind-spec : {M : Type 1} → statement M
 held-kind-spec =
     tie.close
-    (tie.spec
-    seat-word-within-requires
-    seat-word-within-requires-2
-    node-word-within-requires
-    returns
-    returns-2)
+    (tie.spec holds-requires seat-word-within-requires node-word-within-requires returns returns-2)

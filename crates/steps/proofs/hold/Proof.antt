@@ -1,6 +1,5 @@
 -- `steps::hold` meets its promise.
-use Rattle.rules.specs.Steps.{hold}
-use Rattle.steps.proofs.Arms.{count-more-fits}
+use Rattle.steps.proofs.Arms.{hold-is, count-fits}
 use borrow.Author.Needs.{needs}
 use Rattle.steps.proofs.hold.Statement.{statement}
 use Rattle.steps.proofs.hold.Tie as tie
@@ -15,7 +14,7 @@ move-to-requires : tie.Need-move-to-requires
 move-to-requires c κs = search needs
 
 add-put-count : tie.Need-add-put-count
-add-put-count c = search count-more-fits
+add-put-count c = search (count-fits, needs)
 
 put-count-requires : tie.Need-put-count-requires
 put-count-requires c κs = search needs
@@ -27,8 +26,7 @@ same-length-2 : tie.Need-same-length-2
 same-length-2 c = search needs
 
 returns : tie.Need-returns
-unfolding hold
-returns c = cc
+returns c = search hold-is
 
 pub hold-spec : {M : Type 1} → statement M
 hold-spec =

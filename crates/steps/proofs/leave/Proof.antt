@@ -1,12 +1,8 @@
 -- `steps::leave` meets its promise.
-use Rattle.rules.specs.Steps.{leave}
-use Rattle.steps.proofs.Arms.{count-some}
+use Rattle.steps.proofs.Arms.{leave-is, count-some}
 use borrow.Author.Needs.{needs}
 use Rattle.steps.proofs.leave.Statement.{statement}
 use Rattle.steps.proofs.leave.Tie as tie
-
-seat-word-requires : tie.Need-seat-word-requires
-seat-word-requires c κs = search needs
 
 kind-of-requires : tie.Need-kind-of-requires
 kind-of-requires c κs = search needs
@@ -14,14 +10,11 @@ kind-of-requires c κs = search needs
 count-word-requires : tie.Need-count-word-requires
 count-word-requires c κs = search needs
 
-put-node-requires : tie.Need-put-node-requires
-put-node-requires c κs = search needs
-
-clear-seat-requires : tie.Need-clear-seat-requires
-clear-seat-requires c κs = search needs
+mark-and-clear-requires : tie.Need-mark-and-clear-requires
+mark-and-clear-requires c κs = search needs
 
 sub-put-count : tie.Need-sub-put-count
-sub-put-count c = search count-some
+sub-put-count c = search (count-some, needs)
 
 put-count-requires : tie.Need-put-count-requires
 put-count-requires c κs = search needs
@@ -33,18 +26,15 @@ same-length-2 : tie.Need-same-length-2
 same-length-2 c = search needs
 
 returns : tie.Need-returns
-unfolding leave
-returns c = cc
+returns c = search leave-is
 
 pub leave-spec : {M : Type 1} → statement M
 leave-spec =
     tie.close
     (tie.spec
-    seat-word-requires
     kind-of-requires
     count-word-requires
-    put-node-requires
-    clear-seat-requires
+    mark-and-clear-requires
     sub-put-count
     put-count-requires
     same-length

@@ -1,5 +1,5 @@
 -- `steps::withdraw` meets its promise.
-use Rattle.rules.specs.Steps.{withdraw}
+use Rattle.steps.proofs.Arms.{withdraw-is}
 use borrow.Author.Needs.{needs}
 use Rattle.steps.proofs.withdraw.Statement.{statement}
 use Rattle.steps.proofs.withdraw.Tie as tie
@@ -20,8 +20,7 @@ same-length-2 : tie.Need-same-length-2
 same-length-2 c = search needs
 
 returns : tie.Need-returns
-unfolding withdraw
-returns c = cc
+returns c = search withdraw-is
 
 pub withdraw-spec : {M : Type 1} → statement M
 withdraw-spec =
