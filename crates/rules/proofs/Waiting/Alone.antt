@@ -9,6 +9,7 @@ use borrow.Author.Tests.{eq-eqb, ne-eqb}
 use Rattle.rules.specs.Tables.{Tables, nodeWidth, nextAt, phaseAt, ownAt, prevAt, curAt, nodeWord, mark, link, next, phase, own, prev, cur, setLink, setPhase}
 use Rattle.rules.specs.Reach.{lowestFree, Reach}
 use Rattle.rules.specs.Fetch.{takenOut}
+use Rattle.rules.specs.Answers.{answered}
 use Rattle.rules.specs.Steps.{joined, walking, waitingToEnter, validating, readerWaiting, stepByPhase}
 use Rattle.rules.specs.Calls.{step}
 use Rattle.rules.specs.Play.{stepCall, call}
@@ -44,25 +45,20 @@ module _ {N S : ℕ} (s : ℕ) (s-in : s < S) {t : Tables} (g : Reached N S t) w
   accepted d = step-is t s (reached-sound g) (rw (seat-count t S (good g .aside .seats-long)) s-in) d
 
   module _ (P : Tables → Type 0) where
+    by-rule : {u : Tables} → phase t s ≢ 0 → stepByPhase t s ≡ answered u s → (Reached N S u → P u) → P (step t s .after)
+    by-rule d e f = let q = accepted d in rw (q, e) (f (rw (q, e) at (step-reached g s)))
+
     pub after-1 : phase t s ≡ 1 → ((u : Tables) → Walking t s u → Reached N S u → P u) → P (step t s .after)
-    after-1 e f =
-        let q = accepted (omega arith) in
-        rw (q, by-phase-1 t s e) (f (walking t s) (walks t s) (rw (q, by-phase-1 t s e) at (step-reached g s)))
+    after-1 e f = by-rule (omega arith) (by-phase-1 t s e) (f (walking t s) (walks t s))
 
     pub after-2 : phase t s ≡ 2 → ((u : Tables) → Waking t s 1 u → Reached N S u → P u) → P (step t s .after)
-    after-2 e f =
-        let q = accepted (omega arith) in
-        rw (q, by-phase-2 t s e) (f (waitingToEnter t s) (wakes-to-walk t s) (rw (q, by-phase-2 t s e) at (step-reached g s)))
+    after-2 e f = by-rule (omega arith) (by-phase-2 t s e) (f (waitingToEnter t s) (wakes-to-walk t s))
 
     pub after-3 : phase t s ≡ 3 → ((u : Tables) → Validating t s u → Reached N S u → P u) → P (step t s .after)
-    after-3 e f =
-        let q = accepted (omega arith) in
-        rw (q, by-phase-3 t s e) (f (validating t s) (validates t s) (rw (q, by-phase-3 t s e) at (step-reached g s)))
+    after-3 e f = by-rule (omega arith) (by-phase-3 t s e) (f (validating t s) (validates t s))
 
     pub after-4 : phase t s ≡ 4 → ((u : Tables) → Waking t s 3 u → Reached N S u → P u) → P (step t s .after)
-    after-4 e f =
-        let q = accepted (omega arith) in
-        rw (q, by-phase-4 t s e) (f (readerWaiting t s) (wakes-to-validate t s) (rw (q, by-phase-4 t s e) at (step-reached g s)))
+    after-4 e f = by-rule (omega arith) (by-phase-4 t s e) (f (readerWaiting t s) (wakes-to-validate t s))
 
 -- ---- what an unlink does, whether it takes the node out or only goes past it
 pub record Unlinked (t u : Tables) (s : ℕ) : Type 0 where
