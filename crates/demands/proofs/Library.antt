@@ -81,8 +81,13 @@ pub board-fits : {t : Tables} {rows after : List ℕ} {n covered : ℕ} → In32
     → covered ≤ 4294967295
 board-fits {t} words m = rw (board-covers m .1) (covers.fits t words)
 
--- ---- the two counts, of any tables: after a call that was not refused as damaged each word is the number of seats that hold with its kind,
--- and the call moved them by its own seat alone
+-- ---- the two counts, of any tables: clear makes them 0; after a call that was not refused as damaged each word is the number of seats that hold
+-- with its kind, and the call moved them by its own seat alone
+pub clear-counts : {t u : Tables} → ClearMade t 0 u → (readers u ≡ 0) × (writers u ≡ 0)
+clear-counts {t} m =
+    let e = made-clear m in
+    rw (ap (λ (x : Done ℕ). x .after) e) (many.cleared t (sym (ap (λ (x : Done ℕ). x .answer) e)))
+
 pub counts-right : {t u : Tables} {c : Call} {a : Answer} → CallMade t c a u → a ≢ refused 1 → CountsRight u
 counts-right {t} {c = c} m d =
     let e = made-call m in

@@ -6,10 +6,11 @@ use mathlib.Core.Bool.{true, false}
 use mathlib.Core.List.{List}
 use mathlib.Core.Logic.{_≢_}
 use lib.ListN.{length}
-use Rattle.rules.specs.Tables.{Tables, readers, writers, countWord, seatCount, fresh}
+use Rattle.rules.specs.Tables.{Tables, readers, writers, countWord, seatCount}
 use Rattle.rules.specs.Shape.{sound}
 use Rattle.rules.specs.Answers.{refused, done}
 use Rattle.rules.specs.Steps.{kindOf}
+use Rattle.rules.specs.Calls.{clear}
 use Rattle.rules.specs.Run.{run}
 use Rattle.rules.specs.Board.{holders}
 use Rattle.rules.specs.Play.{Call, call, seatOf}
@@ -43,9 +44,12 @@ pub at-most-64 : (t : Tables) → sound t ≡ true → readers t + writers t ≤
 at-most-64 = laws.at-most-64
 
 -- ---- who keeps them so
--- "Clear .."
-pub nobody-holds : (N S : ℕ) → (readers (fresh N S) ≡ 0) × (writers (fresh N S) ≡ 0)
-nobody-holds = frames.fresh-words
+-- "Clear ..": it makes both 0, and nobody holds
+pub cleared : (t : Tables) → clear t .answer ≡ 0 → (readers (clear t .after) ≡ 0) × (writers (clear t .after) ≡ 0)
+cleared t e = frames.clear-words t e
+
+pub cleared-right : (t : Tables) → clear t .answer ≡ 0 → CountsRight (clear t .after)
+cleared-right t e = laws.as-right (frames.clear-counts t e)
 
 -- ".. step and release keep them", and begin: one that is accepted leaves them right, whatever sound tables it finds; one that is refused leaves
 -- them as found

@@ -14,7 +14,7 @@ pub record CountsRight (t : Tables) : Type 0 where
   pub of-writers : writers t ≡ holdersOfKind t 2
 
 -- from t to u, by a call for seat s: it held before and holds now, or neither, and both words stay; or it comes to hold, and the word of its
--- kind is one more; or it gives up what it held, and that word is one less. No other word of the two changes.
+-- kind is one more; or it gives up what it held, and that word is one less. The other of the two then stays.
 pub data CountsMove (s : ℕ) (t u : Tables) : Type 0 where
   stay : (Holds t s → Holds u s) → (Holds u s → Holds t s) → ((k : ℕ) → countWord u k ≡ countWord t k) → CountsMove s t u
   one-more : (Holds t s → ⊥) → Holds u s → countWord u (kindOf t s) ≡ countWord t (kindOf t s) + 1

@@ -48,7 +48,7 @@ insert t s =
     if joined t s then startValidating (linkIn t s) s
     else lookAgain t s
 
--- the kind of a seat's claim, whose holders' count it moves
+-- the kind of a seat's claim, by which it counts
 abbrev pub kindOf : Tables → ℕ → ℕ
 kindOf t s = kind t (own t s)
 

@@ -26,7 +26,7 @@ readersAt = 1
 abbrev pub writersAt : ℕ
 writersAt = 2
 
--- of the holders with a claim of this kind: "Kind 1 reads, 2 writes."
+-- which of the two counts a holder's claim is in, by its kind: "Kind 1 reads, 2 writes."
 abbrev pub countAt : ℕ → ℕ
 countAt k = if k is 1 then readersAt else writersAt
 

@@ -3,20 +3,20 @@
 -- on damaged ones changes nothing.
 use Prim.Native.Nat.{ℕ, _+_, _-_, _≤_, _<_}
 use mathlib.Core.Path.{_≡_, refl, sym, ap, _∙_}
-use mathlib.Core.Bool.{Bool, true, false}
+use mathlib.Core.Bool.{Bool, true, false, not}
 use mathlib.Core.List.{List}
 use mathlib.Core.Logic.{_≢_, _⊎_, inl, inr}
 use native.Mathlib.Omega.{arith}
 use lib.ListN.{length}
 use borrow.Author.Tests.{eq-eqb, ne-eqb}
 use Rattle.rules.specs.Notation.{if_then_else_, _is_}
-use Rattle.rules.specs.Tables.{Tables, beforeNodes, seatCount, phaseAt, ownAt, kindAt, markAt, readersAt, writersAt, readers, writers, countAt, countWord, phase, own, setMark, clearSeat, fresh}
+use Rattle.rules.specs.Tables.{Tables, beforeNodes, nodeCount, seatCount, phaseAt, ownAt, kindAt, markAt, readersAt, writersAt, readers, writers, countAt, countWord, phase, own, setMark, clearSeat, fresh}
 use Rattle.rules.specs.Comparison.{Claim}
-use Rattle.rules.specs.Shape.{holdsWith, holdersOfKind, sound}
+use Rattle.rules.specs.Shape.{lengthsFit, holdsWith, holdersOfKind, sound}
 use Rattle.rules.specs.Fetch.{Fetched, writeClaim, takeNode, takenOut}
 use Rattle.rules.specs.Answers.{Answer, refused, Done, done}
 use Rattle.rules.specs.Steps.{moveTo, kindOf, hold, leave, refetched}
-use Rattle.rules.specs.Calls.{begun}
+use Rattle.rules.specs.Calls.{clear, begun}
 use Rattle.rules.specs.Play.{Call, beginCall, stepCall, releaseCall, call, seatOf}
 use Rattle.rules.specs.Run.{run}
 use Rattle.rules.specs.Reached.{Reached}
@@ -229,8 +229,14 @@ counts-unless-damaged t c d =
     (λ e. absurd (d (ap (λ (x : Done Answer). x .answer) (table-refused t c 1 (damaged e)))))
 
 -- ---- in fresh tables nobody holds
-pub fresh-words : (N S : ℕ) → (readers (fresh N S) ≡ 0) × (writers (fresh N S) ≡ 0)
-fresh-words N S = (fresh-top N S readersAt, fresh-top N S writersAt)
+clear-makes-fresh : (t : Tables) → clear t .answer ≡ 0 → clear t .after ≡ fresh (nodeCount t) (seatCount t)
+unfolding clear
+clear-makes-fresh t =
+    branch (λ (d : Done ℕ). d .answer ≡ 0 → d .after ≡ fresh (nodeCount t) (seatCount t)) (not (lengthsFit t)) (λ e q. absurd (omega arith)) (λ e q. refl)
+
+pub clear-words : (t : Tables) → clear t .answer ≡ 0 → (readers (clear t .after) ≡ 0) × (writers (clear t .after) ≡ 0)
+clear-words t e =
+    rw (clear-makes-fresh t e) (fresh-top (nodeCount t) (seatCount t) readersAt, fresh-top (nodeCount t) (seatCount t) writersAt)
 
 fresh-counts : (N S : ℕ) → Counts (fresh N S)
 unfolding holdersOfKind
@@ -238,6 +244,9 @@ fresh-counts N S k kd =
     let t = fresh N S in
     let nobody : (s : ℕ) → holdsWith t k s ≡ false = λ s. rw (fresh-seat-word N S s phaseAt) in
     fresh-top N S (countAt k) ∙ sym (count-gap 0 (seatCount t) (holdsWith t k) (omega arith) (λ s h l. nobody s) ∙ count-none (holdsWith t k))
+
+pub clear-counts : (t : Tables) → clear t .answer ≡ 0 → Counts (clear t .after)
+clear-counts t e = rw (clear-makes-fresh t e) (fresh-counts (nodeCount t) (seatCount t))
 
 pub reached-counts : {N S : ℕ} {t : Tables} → Reached N S t → Counts t
 reached-counts {N} {S} r = reached-has Counts counts-kept (fresh-counts N S) r
