@@ -3,15 +3,15 @@
 use Prim.Native.Nat.{ℕ, _+_, _≤_, _<_}
 use mathlib.Core.Path.{_≡_, refl, sym, _∙_}
 use mathlib.Core.Bool.{Bool, true, false, not, _&&_}
-use mathlib.Core.List.{List, []}
+use mathlib.Core.List.{List}
 use mathlib.Core.Logic.{_≢_}
 use native.Mathlib.Omega.{arith}
 use native.Mathlib.Numerals.{add-one}
 use lib.Dec.{eqb}
 use borrow.Author.Tests.{not-true, not-false, eqb-true, ne-eqb}
 use Rattle.rules.specs.Notation.{if_then_else_, _is_, all, count}
-use Rattle.rules.specs.Tables.{Tables, tables, nodeWord, seatWord, nodeCountOf, seatCountOf, kindAt, phaseAt, ownAt, countWord, phase, kind, own}
-use Rattle.rules.specs.Shape.{seatSound, holdsWith, holdersOfKind, countsFit, seatsSound}
+use Rattle.rules.specs.Tables.{Tables, tables, nodeWord, seatWord, nodeCountOf, seatCountOf, kindAt, phaseAt, ownAt, phase, kind, own}
+use Rattle.rules.specs.Shape.{seatSound, holdsWith, holdersOfKind, seatsSound}
 use Rattle.rules.proofs.Ground.Logic.{all-fails}
 use Rattle.rules.proofs.Laws.Shape.{name-small, seat-sound}
 use Rattle.shape.specs.Parts.{heldKind, seatsAndCountsSound}
@@ -78,13 +78,12 @@ module _ (l t : List ℕ) (s readers writers : ℕ) where
     counted-other d e = more readers writers (rw (ne-eqb k 1 d) (omega arith)) (rw (ne-eqb k 2 e) (omega arith))
 
 -- ---- the ways out
-pub seat-fails : (l t : List ℕ) (n s : ℕ) (b : Bool) → b ≡ seatSound (tables l t) s → not b ≡ true → s < n → n ≡ seatCountOf t → false ≡ seatsAndCountsSound (tables l t)
+pub seat-fails : (l t : List ℕ) (n s x y : ℕ) (b : Bool) → b ≡ seatSound (tables l t) s → not b ≡ true → s < n → n ≡ seatCountOf t → false ≡ seatsAndCountsSound (tables l t) x y
 unfolding seatsSound
-seat-fails l t n s b p q h e = rw (all-fails (seatCountOf t) s (seatSound (tables l t)) (rw e at h) (sym p ∙ not-true b q))
+seat-fails l t n s x y b p q h e = rw (all-fails (seatCountOf t) s (seatSound (tables l t)) (rw e at h) (sym p ∙ not-true b q))
 
-pub all-counted : (l t : List ℕ) (n s readers writers x y : ℕ) → y ≡ countWord (tables l []) 2 → x ≡ countWord (tables l []) 1 → Counted l t s readers writers → n ≤ s → s ≤ n → n ≡ seatCountOf t
-    → (eqb x readers && eqb y writers) ≡ seatsAndCountsSound (tables l t)
-unfolding seatsSound countsFit holdersOfKind
-all-counted l t n s readers writers x y q p w h i e =
+pub all-counted : (l t : List ℕ) (n s readers writers x y : ℕ) → Counted l t s readers writers → n ≤ s → s ≤ n → n ≡ seatCountOf t → (eqb x readers && eqb y writers) ≡ seatsAndCountsSound (tables l t) x y
+unfolding seatsSound holdersOfKind
+all-counted l t n s readers writers x y w h i e =
     let z : s ≡ seatCountOf t = omega arith in
-    rw (← z, w .below, w .reading, w .writing, p, q)
+    rw (← z, w .below, w .reading, w .writing)

@@ -1,2 +1,3 @@
+pub mod Part
 pub mod Tests
 pub mod Counted

@@ -7,14 +7,18 @@ use Prim.Native.Nat.{ℕ, zero, suc, _+_, _-_, _≤_, _<_}
 use native.Mathlib.Omega.{arith}
 use native.Mathlib.Numerals.{add-one}
 use lib.Dec.{eqb, leb, ltb}
+use lib.ListN.{length, drop}
 use borrow.Author.Tests.{not-true, not-false, eq-eqb, ne-eqb, eqb-true, eqb-false, ltb-true, ltb-false, le-leb, lt-leb}
 use Rattle.rules.specs.Notation.{all}
-use Rattle.rules.specs.Tables.{Tables, tables, nodeWord, linkWord, seatWord, nodeCountOf, seatCountOf, startAt, endAt, kindAt, markAt, phaseAt, ownAt, prevAt, curAt}
-use Rattle.rules.specs.Shape.{nodesFit, seatsFit, lengthsFit, isKind, zeroNode, claimNode, names, nodeSound, isPhase, zeroSeat, idleOrOwning, restingAtZero, waitingAtCur, seatSound, endsWithin, nodesSound, sound}
+use Rattle.rules.specs.Tables.{Tables, tables, beforeNodes, countWord, nodeWord, linkWord, seatWord, nodeCountOf, seatCountOf, startAt, endAt, kindAt, markAt, phaseAt, ownAt, prevAt, curAt}
+use Rattle.rules.specs.Shape.{nodesFit, seatsFit, lengthsFit, isKind, zeroNode, claimNode, names, nodeSound, isPhase, zeroSeat, idleOrOwning, restingAtZero, waitingAtCur, seatSound, countsFit, endsWithin, nodesSound, seatsSound, sound}
 use Rattle.rules.proofs.Ground.Logic.{either, or-case, or-neither, and-left, all-fails}
 use Rattle.rules.proofs.Laws.Words.{link-past}
 use Rattle.rules.proofs.Laws.Shape.{nodes-fit, named, name-of, name-small, lengths-fit}
 use Rattle.rules.proofs.Laws.NodesAlone.{ends-alone, nodes-alone}
+use Rattle.words.specs.Parts.{withZeros}
+use Rattle.words.proofs.Places.{same-count}
+use Rattle.shape.proofs.Part.{same-names, same-nodes, same-seats, same-holders}
 use Rattle.shape.specs.Parts.{busySound, waitingSound, restingSound, seatsAndCountsSound, listEnds}
 
 pub lengths-is : (l t : List ℕ) (u v : Bool) → u ≡ nodesFit (tables l []) → v ≡ seatsFit (tables [] t) → (u && v) ≡ lengthsFit (tables l t)
@@ -277,30 +281,44 @@ nodes-of-fit l t e = and-left (nodesFit (tables l [])) (seatsFit (tables l t)) e
 pub ends-all : (l : List ℕ) (n a : ℕ) → n ≡ nodeCountOf l → a ≡ linkWord l 0 → endsWithin n (tables l []) a ≡ listEnds (tables l [])
 ends-all l n a p q = rw (p, q)
 
--- ---- the whole
-module _ (l t : List ℕ) (fit : lengthsFit (tables l t) ≡ true) where
-  pub nodes-not : (b : Bool) → b ≡ nodesSound (tables l []) → not b ≡ true → false ≡ sound (tables l t)
-  unfolding sound
-  nodes-not b p e = rw (fit, ← nodes-alone l t, sym p ∙ not-true b e)
+pub long-enough : (l t : List ℕ) → lengthsFit (tables l t) ≡ true → beforeNodes ≤ length l
+long-enough l t e = let h = lengths-fit (tables l t) e .nodes-length in omega arith
 
-  module _ (b : Bool) (isNodes : b ≡ nodesSound (tables l [])) (some : not b ≡ false) where
-    nodes-are : nodesSound (tables l t) ≡ true
-    nodes-are = sym (nodes-alone l t) ∙ sym isNodes ∙ not-false b some
+-- ---- the whole, from what is found of the part from node 1 on
+module _ (l t p : List ℕ) (isPart : p ≡ drop beforeNodes l) where
+  pub counts-part : (n : ℕ) → n ≡ nodeCountOf l → n ≡ nodeCountOf (withZeros p)
+  counts-part n e = rw isPart (e ∙ sym (same-count l))
 
-    module _ (h : ℕ) (isHead : h ≡ linkWord l 0) where
-      pub head-not : (c : Bool) → c ≡ names (tables l []) h → not c ≡ true → false ≡ sound (tables l t)
+  module _ (fit : lengthsFit (tables l t) ≡ true) (b : Bool) (isNodes : b ≡ nodesSound (tables (withZeros p) [])) where
+    nodes-are : nodesSound (tables l t) ≡ b
+    nodes-are = sym (nodes-alone l t) ∙ sym (same-nodes l) ∙ sym (rw isPart at isNodes)
+
+    pub nodes-not : not b ≡ true → false ≡ sound (tables l t)
+    unfolding sound
+    nodes-not e = rw (fit, nodes-are, not-true b e)
+
+    module _ (some : not b ≡ false) (h : ℕ) (isHead : h ≡ linkWord l 0) (c : Bool) (isNamed : c ≡ names (tables (withZeros p) []) h) where
+      head-is : names (tables l []) h ≡ c
+      head-is = sym (same-names l h) ∙ sym (rw isPart at isNamed)
+
+      pub head-not : not c ≡ true → false ≡ sound (tables l t)
       unfolding sound names
-      head-not c p e = rw (fit, nodes-are, ← isHead, sym p ∙ not-true c e)
+      head-not e = rw (fit, nodes-are, not-false b some, ← isHead, head-is, not-true c e)
 
-      module _ (c : Bool) (isNamed : c ≡ names (tables l []) h) (found : not c ≡ false) where
-        pub seats-not : (d : Bool) → d ≡ seatsAndCountsSound (tables l t) → not d ≡ true → false ≡ sound (tables l t)
-        unfolding sound names
-        seats-not d p e = rw (fit, nodes-are, ← isHead, sym isNamed ∙ not-false c found, sym p ∙ not-true d e)
+      module _ (found : not c ≡ false) (x y : ℕ) (isWriters : y ≡ countWord (tables l []) 2) (isReaders : x ≡ countWord (tables l []) 1)
+          (d : Bool) (isSeats : d ≡ seatsAndCountsSound (tables (withZeros p) t) x y) where
+        seats-are : (seatsSound (tables l t) && countsFit (tables l t)) ≡ d
+        unfolding countsFit
+        seats-are = rw (← isReaders, ← isWriters, ← same-seats l t, ← same-holders l t 1, ← same-holders l t 2) (sym (rw isPart at isSeats))
 
-        pub words-are : (d r : Bool) → r ≡ listEnds (tables l []) → d ≡ seatsAndCountsSound (tables l t) → not d ≡ false → r ≡ sound (tables l t)
+        pub seats-not : not d ≡ true → false ≡ sound (tables l t)
         unfolding sound names
-        words-are d r q p e =
-            rw (fit, nodes-are, ← isHead, sym isNamed ∙ not-false c found, sym p ∙ not-false d e, ← ends-alone (nodeCountOf l) l t h, isHead) q
+        seats-not e = rw (fit, nodes-are, not-false b some, ← isHead, head-is, not-false c found, seats-are, not-true d e)
+
+        pub words-are : (r : Bool) → r ≡ listEnds (tables l []) → not d ≡ false → r ≡ sound (tables l t)
+        unfolding sound names
+        words-are r q e =
+            rw (fit, nodes-are, not-false b some, ← isHead, head-is, not-false c found, seats-are, not-false d e, ← ends-alone (nodeCountOf l) l t h, isHead) q
 
 pub sound-not : (l t : List ℕ) (b : Bool) → b ≡ lengthsFit (tables l t) → b ≡ false → false ≡ sound (tables l t)
 unfolding sound

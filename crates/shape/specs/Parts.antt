@@ -4,7 +4,7 @@ use Prim.Native.Nat.{ℕ}
 use mathlib.Core.Bool.{Bool, not, _&&_}
 use Rattle.rules.specs.Notation.{if_then_else_, _is_}
 use Rattle.rules.specs.Tables.{Tables, nodeCount, kind, head, phase, own}
-use Rattle.rules.specs.Shape.{names, seatsSound, countsFit, endsWithin}
+use Rattle.rules.specs.Shape.{names, seatsSound, holdersOfKind, endsWithin}
 
 -- in any phase but 0
 abbrev pub busySound : Tables → ℕ → ℕ → ℕ → Bool
@@ -22,9 +22,9 @@ restingSound t own prev cur = not (own is 0) && prev is 0 && cur is 0 && names t
 abbrev pub heldKind : Tables → ℕ → ℕ
 heldKind t s = if phase t s is 5 then kind t (own t s) else 0
 
--- each seat is sound, and the two words are the numbers of those who hold
-abbrev pub seatsAndCountsSound : Tables → Bool
-seatsAndCountsSound t = seatsSound t && countsFit t
+-- each seat is sound, and two words are the numbers of those who hold, readers and writers
+abbrev pub seatsAndCountsSound : Tables → ℕ → ℕ → Bool
+seatsAndCountsSound t readers writers = seatsSound t && (readers is holdersOfKind t 1 && writers is holdersOfKind t 2)
 
 -- "from the head, 0 is met after at most N nodes"
 abbrev pub listEnds : Tables → Bool

@@ -1,4 +1,5 @@
 // The test for damage: sound shape, in one pass over each table. Lengths are tested first, so that every word of a node or seat is there.
+// Nodes are read in the part of their table from node 1 on, where no place hangs on how many words stand before it.
 ghost use mathlib.Core.Path.{_≡_};
 ghost use mathlib.Core.Bool.{true};
 ghost use mathlib.Core.List.{[]};
@@ -6,6 +7,7 @@ ghost use Prim.Native.Nat.{_<_, _≤_};
 ghost use Rattle.rules.specs.Notation.{_is_};
 ghost use Rattle.rules.specs.Tables.{tables, nodeCountOf, seatCountOf, phase};
 ghost use Rattle.rules.specs.Shape.{nodesFit, lengthsFit, isKind, names, nodeSound, seatSound, nodesSound, sound};
+ghost use Rattle.words.specs.Parts.{withZeros};
 ghost use Rattle.shape.specs.Parts.{busySound, waitingSound, restingSound, heldKind, seatsAndCountsSound, listEnds};
 
 pub fn lengths_fit(nodes: &[u32], seats: &[u32]) -> bool
@@ -22,10 +24,12 @@ pub fn is_kind(k: u32) -> bool
     (k == 1) | (k == 2)
 }
 
-// 0, or a node of kind 1 or 2, where n is N
-fn names_node(nodes: &[u32], n: u32, a: u32) -> bool
-    requires { ⌜ n ≡ nodeCountOf (now nodes) ⌝ }
-    ensures { λ r. ⌜ r ≡ names (tables (now (nodes .entry)) []) a ⌝ }
+// ---- the nodes, in that part, and the seats beside it; n is N
+
+// 0, or a node of kind 1 or 2
+fn names_node(part: &[u32], n: u32, a: u32) -> bool
+    requires { ⌜ n ≡ nodeCountOf (withZeros (now part)) ⌝ }
+    ensures { λ r. ⌜ r ≡ names (tables (withZeros (now (part .entry))) []) a ⌝ }
 {
     if a == 0 {
         return true;
@@ -33,39 +37,39 @@ fn names_node(nodes: &[u32], n: u32, a: u32) -> bool
     if n < a {
         return false;
     }
-    let kind = words::node_word_within(nodes, a, words::KIND);
+    let kind = words::part_word(part, a, words::KIND);
     is_kind(kind)
 }
 
 // A node of kind 0 is all zeros; any other is a claim.
-fn node_sound(nodes: &[u32], n: u32, a: u32) -> bool
-    requires { ⌜ n ≡ nodeCountOf (now nodes) ⌝ }
+fn node_sound(part: &[u32], n: u32, a: u32) -> bool
+    requires { ⌜ n ≡ nodeCountOf (withZeros (now part)) ⌝ }
     requires { ⌜ (a ≡ 0 → ⊥) ⌝ }
     requires { ⌜ a ≤ n ⌝ }
-    ensures { λ r. ⌜ r ≡ nodeSound (tables (now (nodes .entry)) []) a ⌝ }
+    ensures { λ r. ⌜ r ≡ nodeSound (tables (withZeros (now (part .entry))) []) a ⌝ }
 {
-    let start = words::node_word_within(nodes, a, words::START);
-    let end = words::node_word_within(nodes, a, words::END);
-    let kind = words::node_word_within(nodes, a, words::KIND);
-    let next = words::next_within(nodes, a);
-    let mark = words::node_word_within(nodes, a, words::MARK);
+    let start = words::part_word(part, a, words::START);
+    let end = words::part_word(part, a, words::END);
+    let kind = words::part_word(part, a, words::KIND);
+    let next = words::part_next(part, a);
+    let mark = words::part_word(part, a, words::MARK);
     if kind == 0 {
         return (start == 0) & (end == 0) & (next == 0) & (mark == 0);
     }
-    if !names_node(nodes, n, next) {
+    if !names_node(part, n, next) {
         return false;
     }
     let claim = is_kind(kind);
     claim & (start < end) & (mark <= 1)
 }
 
-fn nodes_sound(nodes: &[u32], n: u32) -> bool
-    requires { ⌜ n ≡ nodeCountOf (now nodes) ⌝ }
-    ensures { λ r. ⌜ r ≡ nodesSound (tables (now (nodes .entry)) []) ⌝ }
+fn nodes_sound(part: &[u32], n: u32) -> bool
+    requires { ⌜ n ≡ nodeCountOf (withZeros (now part)) ⌝ }
+    ensures { λ r. ⌜ r ≡ nodesSound (tables (withZeros (now (part .entry))) []) ⌝ }
 {
     let mut i: u32 = 0;
     while i < n {
-        if node_sound(nodes, n, i + 1) {
+        if node_sound(part, n, i + 1) {
             i += 1;
         } else {
             return false;
@@ -75,49 +79,49 @@ fn nodes_sound(nodes: &[u32], n: u32) -> bool
 }
 
 // own names a node, and prev and cur are each 0 or name one
-fn busy_sound(nodes: &[u32], n: u32, own: u32, prev: u32, cur: u32) -> bool
-    requires { ⌜ n ≡ nodeCountOf (now nodes) ⌝ }
-    ensures { λ r. ⌜ r ≡ busySound (tables (now (nodes .entry)) []) own prev cur ⌝ }
+fn busy_sound(part: &[u32], n: u32, own: u32, prev: u32, cur: u32) -> bool
+    requires { ⌜ n ≡ nodeCountOf (withZeros (now part)) ⌝ }
+    ensures { λ r. ⌜ r ≡ busySound (tables (withZeros (now (part .entry))) []) own prev cur ⌝ }
 {
     if own == 0 {
         return false;
     }
-    if !names_node(nodes, n, own) {
+    if !names_node(part, n, own) {
         return false;
     }
-    if !names_node(nodes, n, prev) {
+    if !names_node(part, n, prev) {
         return false;
     }
-    names_node(nodes, n, cur)
+    names_node(part, n, cur)
 }
 
 // in phases 2 and 4
-fn waiting_sound(nodes: &[u32], n: u32, own: u32, prev: u32, cur: u32) -> bool
-    requires { ⌜ n ≡ nodeCountOf (now nodes) ⌝ }
-    ensures { λ r. ⌜ r ≡ waitingSound (tables (now (nodes .entry)) []) own prev cur ⌝ }
+fn waiting_sound(part: &[u32], n: u32, own: u32, prev: u32, cur: u32) -> bool
+    requires { ⌜ n ≡ nodeCountOf (withZeros (now part)) ⌝ }
+    ensures { λ r. ⌜ r ≡ waitingSound (tables (withZeros (now (part .entry))) []) own prev cur ⌝ }
 {
     if cur == 0 {
         return false;
     }
-    busy_sound(nodes, n, own, prev, cur)
+    busy_sound(part, n, own, prev, cur)
 }
 
 // in phases 5 and 6: of three names, only own is left to look up
-fn resting_sound(nodes: &[u32], n: u32, own: u32, prev: u32, cur: u32) -> bool
-    requires { ⌜ n ≡ nodeCountOf (now nodes) ⌝ }
-    ensures { λ r. ⌜ r ≡ restingSound (tables (now (nodes .entry)) []) own prev cur ⌝ }
+fn resting_sound(part: &[u32], n: u32, own: u32, prev: u32, cur: u32) -> bool
+    requires { ⌜ n ≡ nodeCountOf (withZeros (now part)) ⌝ }
+    ensures { λ r. ⌜ r ≡ restingSound (tables (withZeros (now (part .entry))) []) own prev cur ⌝ }
 {
     if (own == 0) | !(prev == 0) | !(cur == 0) {
         return false;
     }
-    names_node(nodes, n, own)
+    names_node(part, n, own)
 }
 
 // An idle seat is all zeros; any other is held to what its phase allows.
-fn seat_sound(nodes: &[u32], seats: &[u32], n: u32, s: u32) -> bool
-    requires { ⌜ n ≡ nodeCountOf (now nodes) ⌝ }
+fn seat_sound(part: &[u32], seats: &[u32], n: u32, s: u32) -> bool
+    requires { ⌜ n ≡ nodeCountOf (withZeros (now part)) ⌝ }
     requires { ⌜ s < seatCountOf (now seats) ⌝ }
-    ensures { λ r. ⌜ r ≡ seatSound (tables (now (nodes .entry)) (now (seats .entry))) s ⌝ }
+    ensures { λ r. ⌜ r ≡ seatSound (tables (withZeros (now (part .entry))) (now (seats .entry))) s ⌝ }
 {
     let phase = words::seat_word_within(seats, s, words::PHASE);
     let own = words::seat_word_within(seats, s, words::OWN);
@@ -125,9 +129,9 @@ fn seat_sound(nodes: &[u32], seats: &[u32], n: u32, s: u32) -> bool
     let cur = words::seat_word_within(seats, s, words::CUR);
     match phase {
         0 => (own == 0) & (prev == 0) & (cur == 0),
-        1 | 3 => busy_sound(nodes, n, own, prev, cur),
-        2 | 4 => waiting_sound(nodes, n, own, prev, cur),
-        5 | 6 => resting_sound(nodes, n, own, prev, cur),
+        1 | 3 => busy_sound(part, n, own, prev, cur),
+        2 | 4 => waiting_sound(part, n, own, prev, cur),
+        5 | 6 => resting_sound(part, n, own, prev, cur),
         7..=4294967295 => false,
     }
 }
@@ -140,42 +144,51 @@ fn holds(seats: &[u32], s: u32) -> bool
 }
 
 // the kind of the claim that a sound seat holds with, 0 if it holds with none
-fn held_kind(nodes: &[u32], seats: &[u32], s: u32) -> u32
+fn held_kind(part: &[u32], seats: &[u32], s: u32) -> u32
     requires { ⌜ s < seatCountOf (now seats) ⌝ }
-    requires { ⌜ seatSound (tables (now nodes) (now seats)) s ≡ true ⌝ }
-    ensures { λ r. ⌜ r ≡ heldKind (tables (now (nodes .entry)) (now (seats .entry))) s ⌝ }
+    requires { ⌜ seatSound (tables (withZeros (now part)) (now seats)) s ≡ true ⌝ }
+    ensures { λ r. ⌜ r ≡ heldKind (tables (withZeros (now (part .entry))) (now (seats .entry))) s ⌝ }
 {
     if holds(seats, s) {
         let own = words::seat_word_within(seats, s, words::OWN);
-        return words::node_word_within(nodes, own, words::KIND);
+        return words::part_word(part, own, words::KIND);
     }
     0
 }
 
-// Each seat is sound, and the two words are the numbers of those who hold. They are counted in the pass that tests the seats, whose words
-// are then at hand: counting them in a pass of its own costs twice as much.
-fn seats_and_counts_sound(nodes: &[u32], seats: &[u32], n: u32, count: u32) -> bool
-    requires { ⌜ n ≡ nodeCountOf (now nodes) ⌝ }
+// Each seat is sound, and the two words, readers and writers, are the numbers of those who hold. They are counted in the pass that tests the
+// seats, whose words are then at hand: counting them in a pass of its own costs twice as much.
+fn seats_and_counts_sound(
+    part: &[u32],
+    seats: &[u32],
+    n: u32,
+    count: u32,
+    readers: u32,
+    writers: u32,
+) -> bool
+    requires { ⌜ n ≡ nodeCountOf (withZeros (now part)) ⌝ }
     requires { ⌜ count ≡ seatCountOf (now seats) ⌝ }
-    ensures { λ r. ⌜ r ≡ seatsAndCountsSound (tables (now (nodes .entry)) (now (seats .entry))) ⌝ }
+    ensures { λ r. ⌜ r ≡ seatsAndCountsSound (tables (withZeros (now (part .entry))) (now (seats .entry))) readers writers ⌝ }
 {
-    let mut readers: u32 = 0;
-    let mut writers: u32 = 0;
+    let mut reading: u32 = 0;
+    let mut writing: u32 = 0;
     let mut s: u32 = 0;
     while s < count {
-        if !seat_sound(nodes, seats, n, s) {
+        if !seat_sound(part, seats, n, s) {
             return false;
         }
-        let kind = held_kind(nodes, seats, s);
+        let kind = held_kind(part, seats, s);
         s += 1;
         if kind == 1 {
-            readers += 1;
+            reading += 1;
         } else if kind == 2 {
-            writers += 1;
+            writing += 1;
         }
     }
-    (words::count_word(nodes, 1) == readers) & (words::count_word(nodes, 2) == writers)
+    (readers == reading) & (writers == writing)
 }
+
+// ---- the whole
 
 // From the head, 0 is met after at most N nodes. Nothing is asked of the words: a next past the last node reads 0 and ends the list.
 pub fn list_ends(nodes: &[u32]) -> bool
@@ -203,13 +216,16 @@ fn words_sound(nodes: &[u32], seats: &[u32]) -> bool
     let n = words::node_count(nodes) as u32;
     let count = words::seat_count(seats) as u32;
     let head = words::link(nodes, 0);
-    if !nodes_sound(nodes, n) {
+    let readers = words::count_word(nodes, 1);
+    let writers = words::count_word(nodes, 2);
+    let part = words::from_first_node(nodes);
+    if !nodes_sound(part, n) {
         return false;
     }
-    if !names_node(nodes, n, head) {
+    if !names_node(part, n, head) {
         return false;
     }
-    if !seats_and_counts_sound(nodes, seats, n, count) {
+    if !seats_and_counts_sound(part, seats, n, count, readers, writers) {
         return false;
     }
     list_ends(nodes)

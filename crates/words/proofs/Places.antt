@@ -8,11 +8,13 @@ use mathlib.Core.Logic.{_≢_}
 use native.Mathlib.Omega.{arith}
 use native.Mathlib.Numerals.{add-one}
 use borrow.Author.Tests.{ne-eqb, leb-true, le-leb, ltb-true}
-use lib.ListN.{getD, set, length}
-use Rattle.rules.specs.Tables.{tables, beforeNodes, nodeWidth, seatWidth, nodeCountOf, seatCountOf, headAt, readersAt, writersAt, countAt, nextAt, nodeWord, putNode, linkWord, putLink, countWord, setCount, seatWord, putSeat, clearWords}
+use lib.ListN.{getD, set, length, take, drop, length-append, length-drop}
+use lib.Seq.{take-all, getD-append-add, getD-drop}
+use Rattle.rules.specs.Tables.{tables, beforeNodes, nodeWidth, seatWidth, nodeCountOf, seatCountOf, headAt, readersAt, writersAt, countAt, nextAt, nodeWord, putNode, linkWord, putLink, countWord, setCount, seatWord, putSeat, clearWords, zeros}
 use Rattle.rules.specs.Shape.{nodesFit, seatsFit}
 use Rattle.rules.proofs.Ground.Logic.{same, and-left, and-right}
 use Rattle.rules.proofs.Laws.Words.{link-node, put-link-node}
+use Rattle.words.specs.Parts.{withZeros}
 
 -- ---- a node's word at its place
 at-place : (m f p : ℕ) → p ≡ beforeNodes + nodeWidth * (suc m - 1) + f → p ≡ beforeNodes + nodeWidth * m + f
@@ -32,6 +34,43 @@ store-node l l′ (suc m) f p v e q z = rw (at-place m f p q) at e
 pub node-in : (l : List ℕ) (a f p : ℕ) → p ≡ beforeNodes + nodeWidth * (a - 1) + f → a ≢ 0 → a ≤ nodeCountOf l → f < nodeWidth → p < length l
 unfolding nodeCountOf
 node-in l a f p e z h i = omega arith
+
+-- ---- a node's word in the part from node 1 on
+with-zeros-at : (l : List ℕ) (p : ℕ) → getD (withZeros l) (beforeNodes + p) 0 ≡ getD l p 0
+unfolding withZeros
+with-zeros-at l p = getD-append-add (zeros beforeNodes) l p 0
+
+with-zeros-length : (l : List ℕ) → length (withZeros l) ≡ beforeNodes + length l
+unfolding withZeros
+with-zeros-length l = length-append (zeros beforeNodes) l
+
+pub read-part : (l : List ℕ) (a f p r : ℕ) → r ≡ getD l p 0 → p ≡ nodeWidth * (a - 1) + f → a ≢ 0 → r ≡ nodeWord (withZeros l) a f
+read-part l a f p r e q z = read-node (withZeros l) a f (beforeNodes + p) r (e ∙ sym (with-zeros-at l p)) (omega arith) z
+
+pub part-in : (l : List ℕ) (a f p : ℕ) → p ≡ nodeWidth * (a - 1) + f → a ≢ 0 → a ≤ nodeCountOf (withZeros l) → f < nodeWidth → p < length l
+part-in l a f p e z h i =
+    let w = with-zeros-length l in
+    let q = node-in (withZeros l) a f (beforeNodes + p) (omega arith) z h i in
+    omega arith
+
+-- a slice's part to its end
+pub to-the-end : (l : List ℕ) → take (length l - beforeNodes) (drop beforeNodes l) ≡ drop beforeNodes l
+to-the-end l = take-all (length l - beforeNodes) (drop beforeNodes l) (let d = length-drop beforeNodes l in omega arith)
+
+-- ---- what is said of the part of a table is said of the table
+pub same-node : (l : List ℕ) (a f : ℕ) → nodeWord (withZeros (drop beforeNodes l)) a f ≡ nodeWord l a f
+unfolding nodeWord
+same-node l zero f = refl
+same-node l (suc m) f =
+    let e : beforeNodes + nodeWidth * m + f ≡ beforeNodes + (nodeWidth * m + f) = omega arith in
+    rw e (with-zeros-at (drop beforeNodes l) (nodeWidth * m + f) ∙ getD-drop beforeNodes l (nodeWidth * m + f) 0)
+
+pub same-next : (l : List ℕ) (a : ℕ) → a ≢ 0 → linkWord (withZeros (drop beforeNodes l)) a ≡ linkWord l a
+same-next l a z = link-node (withZeros (drop beforeNodes l)) a z ∙ same-node l a nextAt ∙ sym (link-node l a z)
+
+pub same-count : (l : List ℕ) → nodeCountOf (withZeros (drop beforeNodes l)) ≡ nodeCountOf l
+unfolding nodeCountOf
+same-count l = let w = with-zeros-length (drop beforeNodes l) in let d = length-drop beforeNodes l in omega arith
 
 -- ---- links
 pub read-head : (l : List ℕ) (a r : ℕ) → a ≡ 0 → r ≡ getD l headAt 0 → r ≡ linkWord l a

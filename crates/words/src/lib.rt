@@ -1,11 +1,12 @@
 // The words of the two tables: the only code that knows where a word stands. Each read and each store is total, as its definition is:
 // a read past the end is 0, a store past the end does nothing, and node 0 has only zeros but for its link, the head.
 ghost use mathlib.Core.Path.{_≡_};
-ghost use lib.ListN.{getD, set};
+ghost use lib.ListN.{length, getD, set, drop};
 ghost use mathlib.Core.List.{[]};
 ghost use Rattle.rules.specs.Tables.{tables, countAt, beforeNodes, nodeWidth, seatWidth, nodeWord, putNode, linkWord, putLink, countWord, setCount, seatWord, putSeat, clearWords, nodeCountOf, seatCountOf, zeros};
 ghost use Prim.Native.Nat.{_+_, _-_, _*_, _<_, _≤_};
 ghost use Rattle.rules.specs.Shape.{nodesFit, seatsFit};
+ghost use Rattle.words.specs.Parts.{withZeros};
 
 // Where the words of a node stand in it.
 pub const START: u32 = 0;
@@ -41,13 +42,22 @@ const SEAT_WIDTH: usize = 4;
 
 // ---- where a word stands: nothing else adds up a place. Each is told to be small, so that no caller has to show that a place fits.
 
-// of a node that is not 0; node 1 is the first
+// of a node that is not 0, in the part from node 1 on
+fn part_place(a: u32, field: u32) -> usize
+    requires { ⌜ (a ≡ 0 → ⊥) ⌝ }
+    ensures place { λ r. ⌜ r ≡ nodeWidth * (a - 1) + field ⌝ }
+    ensures small { λ r. ⌜ r < 30064771072 ⌝ }
+{
+    NODE_WIDTH * (a - 1) as usize + field as usize
+}
+
+// and in the whole table
 fn node_place(a: u32, field: u32) -> usize
     requires { ⌜ (a ≡ 0 → ⊥) ⌝ }
     ensures place { λ r. ⌜ r ≡ beforeNodes + nodeWidth * (a - 1) + field ⌝ }
     ensures small { λ r. ⌜ r < 34359738368 ⌝ }
 {
-    BEFORE_NODES + NODE_WIDTH * (a - 1) as usize + field as usize
+    BEFORE_NODES + part_place(a, field)
 }
 
 // of a seat
@@ -140,6 +150,35 @@ pub fn put_link(nodes: &mut [u32], a: u32, value: u32)
         return;
     }
     put_node(nodes, a, NEXT, value);
+}
+
+// ---- the words of the nodes in the part from node 1 on, where no place hangs on how many words stand before it
+
+pub fn from_first_node(nodes: &[u32]) -> &[u32]
+    requires { ⌜ beforeNodes ≤ length (now nodes) ⌝ }
+    ensures { λ r. ⌜ now r ≡ drop beforeNodes (now (nodes .entry)) ⌝ }
+{
+    let before = BEFORE_NODES;
+    &nodes[before..]
+}
+
+// a word of a node that the part has
+pub fn part_word(part: &[u32], a: u32, field: u32) -> u32
+    requires { ⌜ (a ≡ 0 → ⊥) ⌝ }
+    requires { ⌜ a ≤ nodeCountOf (withZeros (now part)) ⌝ }
+    requires { ⌜ field < nodeWidth ⌝ }
+    ensures { λ r. ⌜ r ≡ nodeWord (withZeros (now (part .entry))) a field ⌝ }
+{
+    part[part_place(a, field)]
+}
+
+// and its next
+pub fn part_next(part: &[u32], a: u32) -> u32
+    requires { ⌜ (a ≡ 0 → ⊥) ⌝ }
+    requires { ⌜ a ≤ nodeCountOf (withZeros (now part)) ⌝ }
+    ensures { λ r. ⌜ r ≡ linkWord (withZeros (now (part .entry))) a ⌝ }
+{
+    part_word(part, a, NEXT)
 }
 
 // ---- the two counts: how many hold with a claim of this kind

@@ -10,8 +10,8 @@ holds-requires c κs = search needs
 seat-word-within-requires : tie.Need-seat-word-within-requires
 seat-word-within-requires c κs = search needs
 
-node-word-within-requires : tie.Need-node-word-within-requires
-node-word-within-requires c κs = (search holder-some, (search holder-in, search needs))
+part-word-requires : tie.Need-part-word-requires
+part-word-requires c κs = (search holder-some, (search holder-in, search needs))
 
 returns : tie.Need-returns
 returns c = search holder-kind
@@ -22,4 +22,4 @@ returns-2 c = search holder-none
 pub held-kind-spec : {M : Type 1} → statement M
 held-kind-spec =
     tie.close
-    (tie.spec holds-requires seat-word-within-requires node-word-within-requires returns returns-2)
+    (tie.spec holds-requires seat-word-within-requires part-word-requires returns returns-2)

@@ -10,8 +10,8 @@ returns c = search names-zero
 returns-2 : tie.Need-returns-2
 returns-2 c = search names-past
 
-node-word-within-requires : tie.Need-node-word-within-requires
-node-word-within-requires c κs = search needs
+part-word-requires : tie.Need-part-word-requires
+part-word-requires c κs = search needs
 
 is-kind-requires : tie.Need-is-kind-requires
 is-kind-requires c κs = search needs
@@ -21,4 +21,4 @@ returns-3 c = search names-kind
 
 pub names-node-spec : {M : Type 1} → statement M
 names-node-spec =
-    tie.close (tie.spec returns returns-2 node-word-within-requires is-kind-requires returns-3)
+    tie.close (tie.spec returns returns-2 part-word-requires is-kind-requires returns-3)

@@ -4,20 +4,20 @@ use borrow.Author.Needs.{needs}
 use Rattle.shape.proofs.node_sound.Statement.{statement}
 use Rattle.shape.proofs.node_sound.Tie as tie
 
-node-word-within-requires : tie.Need-node-word-within-requires
-node-word-within-requires c κs = search needs
+part-word-requires : tie.Need-part-word-requires
+part-word-requires c κs = search needs
 
-node-word-within-requires-2 : tie.Need-node-word-within-requires-2
-node-word-within-requires-2 c κs = search needs
+part-word-requires-2 : tie.Need-part-word-requires-2
+part-word-requires-2 c κs = search needs
 
-node-word-within-requires-3 : tie.Need-node-word-within-requires-3
-node-word-within-requires-3 c κs = search needs
+part-word-requires-3 : tie.Need-part-word-requires-3
+part-word-requires-3 c κs = search needs
 
-next-within-requires : tie.Need-next-within-requires
-next-within-requires c κs = search needs
+part-next-requires : tie.Need-part-next-requires
+part-next-requires c κs = search needs
 
-node-word-within-requires-4 : tie.Need-node-word-within-requires-4
-node-word-within-requires-4 c κs = search needs
+part-word-requires-4 : tie.Need-part-word-requires-4
+part-word-requires-4 c κs = search needs
 
 returns : tie.Need-returns
 returns c = search node-zero
@@ -38,11 +38,11 @@ pub node-sound-spec : {M : Type 1} → statement M
 node-sound-spec =
     tie.close
     (tie.spec
-    node-word-within-requires
-    node-word-within-requires-2
-    node-word-within-requires-3
-    next-within-requires
-    node-word-within-requires-4
+    part-word-requires
+    part-word-requires-2
+    part-word-requires-3
+    part-next-requires
+    part-word-requires-4
     returns
     names-node-requires
     returns-2

@@ -4,15 +4,16 @@ use Prim.Native.Nat.{_+_, _-_, _≤_}
 use mathlib.Core.Path.{_≡_, refl}
 use native.Mathlib.Omega.{arith}
 use borrow.Author.Needs.{needs}
+use Rattle.words.specs.Parts.{withZeros}
 use Rattle.shape.proofs.Tests.{nodesBelow, nodes-none, nodes-more, nodes-fail, nodes-all}
 use Rattle.shape.proofs.nodes_sound.Statement.{statement}
 use Rattle.shape.proofs.nodes_sound.Tie as tie
 
 abbrev Inv-loop : tie.InvT-loop
-Inv-loop nodes n i₀ i = (i ≤ n) × (nodesBelow nodes i ≡ true)
+Inv-loop part n i₀ i = (i ≤ n) × (nodesBelow (withZeros part) i ≡ true)
 
 abbrev μ-loop : tie.MeasureT-loop
-μ-loop nodes n i₀ i = n - i
+μ-loop part n i₀ i = n - i
 
 loop-holds : tie.Need-loop-holds Inv-loop μ-loop
 loop-holds c = (omega arith, nodes-none _)

@@ -2,15 +2,16 @@
 use Prim.Native.Nat.{_-_, _≤_}
 use native.Mathlib.Omega.{arith}
 use borrow.Author.Needs.{needs}
+use Rattle.words.specs.Parts.{withZeros}
 use Rattle.shape.proofs.Counted.{Counted, counted-none, counted-reader, counted-writer, counted-other, seat-fits, seat-fails, all-counted}
 use Rattle.shape.proofs.seats_and_counts_sound.Statement.{statement}
 use Rattle.shape.proofs.seats_and_counts_sound.Tie as tie
 
 abbrev Inv-loop : tie.InvT-loop
-Inv-loop nodes seats n count readers₀ writers₀ s₀ readers writers s = (s ≤ count) × (readers ≤ s) × (writers ≤ s) × Counted nodes seats s readers writers
+Inv-loop part seats n count readers writers reading₀ writing₀ s₀ reading writing s = (s ≤ count) × (reading ≤ s) × (writing ≤ s) × Counted (withZeros part) seats s reading writing
 
 abbrev μ-loop : tie.MeasureT-loop
-μ-loop nodes seats n count readers₀ writers₀ s₀ readers writers s = count - s
+μ-loop part seats n count readers writers reading₀ writing₀ s₀ reading writing s = count - s
 
 loop-holds : tie.Need-loop-holds Inv-loop μ-loop
 loop-holds c = (omega arith, omega arith, omega arith, counted-none _ _)
@@ -27,8 +28,8 @@ held-kind-requires c κs = (search needs, search seat-fits)
 add-s : tie.Need-add-s Inv-loop μ-loop
 add-s c = omega arith
 
-add-readers : tie.Need-add-readers Inv-loop μ-loop
-add-readers c = omega arith
+add-reading : tie.Need-add-reading Inv-loop μ-loop
+add-reading c = omega arith
 
 loop-less : tie.Need-loop-less Inv-loop μ-loop
 loop-less c = omega arith
@@ -36,8 +37,8 @@ loop-less c = omega arith
 loop-again : tie.Need-loop-again Inv-loop μ-loop
 loop-again c = (omega arith, omega arith, omega arith, search counted-reader)
 
-add-writers : tie.Need-add-writers Inv-loop μ-loop
-add-writers c = omega arith
+add-writing : tie.Need-add-writing Inv-loop μ-loop
+add-writing c = omega arith
 
 loop-less-2 : tie.Need-loop-less-2 Inv-loop μ-loop
 loop-less-2 c = omega arith
@@ -50,12 +51,6 @@ loop-less-3 c = omega arith
 
 loop-again-3 : tie.Need-loop-again-3 Inv-loop μ-loop
 loop-again-3 c = (omega arith, omega arith, omega arith, search counted-other)
-
-count-word-requires : tie.Need-count-word-requires Inv-loop μ-loop
-count-word-requires c κs = search needs
-
-count-word-requires-2 : tie.Need-count-word-requires-2 Inv-loop μ-loop
-count-word-requires-2 c κs = search needs
 
 returns-2 : tie.Need-returns-2 Inv-loop μ-loop
 returns-2 c = search all-counted
@@ -71,14 +66,12 @@ seats-and-counts-sound-spec =
     returns
     held-kind-requires
     add-s
-    add-readers
+    add-reading
     loop-less
     loop-again
-    add-writers
+    add-writing
     loop-less-2
     loop-again-2
     loop-less-3
     loop-again-3
-    count-word-requires
-    count-word-requires-2
     returns-2)

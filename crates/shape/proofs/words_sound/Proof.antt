@@ -1,6 +1,6 @@
 -- `shape::words_sound` meets its promise.
 use native.Mathlib.Omega.{arith}
-use Rattle.shape.proofs.Tests.{few-nodes, few-seats, nodes-not, head-not, seats-not, words-are, nodes-of-fit}
+use Rattle.shape.proofs.Tests.{few-nodes, few-seats, long-enough, counts-part, nodes-not, head-not, seats-not, words-are, nodes-of-fit}
 use borrow.Author.Needs.{needs}
 use Rattle.shape.proofs.words_sound.Statement.{statement}
 use Rattle.shape.proofs.words_sound.Tie as tie
@@ -20,20 +20,29 @@ cast-count c = omega (arith, few-seats _ _ _ (c .seat-count .ensures) (c .before
 link-requires : tie.Need-link-requires
 link-requires c κs = search needs
 
+count-word-requires : tie.Need-count-word-requires
+count-word-requires c κs = search needs
+
+count-word-requires-2 : tie.Need-count-word-requires-2
+count-word-requires-2 c κs = search needs
+
+from-first-node-requires : tie.Need-from-first-node-requires
+from-first-node-requires c κs = search long-enough
+
 nodes-sound-requires : tie.Need-nodes-sound-requires
-nodes-sound-requires c κs = search needs
+nodes-sound-requires c κs = search counts-part
 
 returns : tie.Need-returns
 returns c = search nodes-not
 
 names-node-requires : tie.Need-names-node-requires
-names-node-requires c κs = search needs
+names-node-requires c κs = search counts-part
 
 returns-2 : tie.Need-returns-2
 returns-2 c = search head-not
 
 seats-and-counts-sound-requires : tie.Need-seats-and-counts-sound-requires
-seats-and-counts-sound-requires c κs = search needs
+seats-and-counts-sound-requires c κs = (search counts-part, search needs)
 
 returns-3 : tie.Need-returns-3
 returns-3 c = search seats-not
@@ -53,6 +62,9 @@ words-sound-spec =
     seat-count-requires
     cast-count
     link-requires
+    count-word-requires
+    count-word-requires-2
+    from-first-node-requires
     nodes-sound-requires
     returns
     names-node-requires
