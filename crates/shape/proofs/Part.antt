@@ -1,22 +1,16 @@
 -- What the tests say of the part of the node table from node 1 on is what they say of the table: each looks at nodes alone, and none at the
 -- words before node 1.
-use Prim.Native.Nat.{ℕ, zero, suc, _+_}
-use mathlib.Core.Path.{_≡_, refl}
-use mathlib.Core.Bool.{Bool}
+use Prim.Native.Nat.{ℕ, _+_}
+use mathlib.Core.Path.{_≡_}
 use mathlib.Core.List.{List, []}
 use native.Mathlib.Omega.{arith}
 use lib.ListN.{drop}
-use Rattle.rules.specs.Notation.{all}
 use Rattle.rules.specs.Tables.{tables, beforeNodes, linkWord, seatWord, nodeCountOf, seatCountOf, startAt, endAt, kindAt, markAt, ownAt, prevAt, curAt}
 use Rattle.rules.specs.Shape.{zeroNode, claimNode, names, nodeSound, isPhase, zeroSeat, idleOrOwning, restingAtZero, waitingAtCur, seatSound, holdsWith, holdersOfKind, nodesSound, seatsSound}
+use Rattle.rules.proofs.Ground.Logic.{all-alike}
 use Rattle.rules.proofs.Ground.Counting.{count-alike}
 use Rattle.words.specs.Parts.{withZeros}
 use Rattle.words.proofs.Places.{same-node, same-next, same-count}
-
-all-alike : (n : ℕ) (p q : ℕ → Bool) → ((j : ℕ) → p j ≡ q j) → all n p ≡ all n q
-unfolding all
-all-alike zero p q h = refl
-all-alike (suc n) p q h = rw (all-alike n p q h, h n)
 
 module _ (l : List ℕ) where
   pub same-names : (a : ℕ) → names (tables (withZeros (drop beforeNodes l)) []) a ≡ names (tables l []) a

@@ -4,7 +4,7 @@ use Prim.Native.Nat.{ℕ, _+_, _-_, _≤_, _<_}
 use mathlib.Core.Path.{_≡_, refl, sym, ap, _∙_}
 use mathlib.Core.Bool.{Bool, true, false, not, _&&_, _||_}
 use mathlib.Core.List.{List, []}
-use mathlib.Core.Logic.{_≢_, _⊎_, inl, inr, ⊎-elim}
+use mathlib.Core.Logic.{_≢_, _⊎_, inl, inr}
 use lib.Dec.{leb, eqb}
 use lib.IntN.{ℤ, pos}
 use lib.Signed.{ltZ}
@@ -15,7 +15,7 @@ use borrow.Author.Tests.{eq-eqb, ne-eqb}
 use Rattle.rules.specs.Tables.{Tables, tables, seatWidth, seatCountOf, nodeWord, putNode, linkWord, seatWord, putSeat, clearWords, kindAt, markAt, startAt, endAt, phaseAt, ownAt, prevAt, curAt, countWord, setCount, phase}
 use Rattle.rules.specs.Shape.{sound}
 use Rattle.rules.specs.Comparison.{claimOf, compare}
-use Rattle.rules.specs.Answers.{Answer, on, wait, held, back, Done, done, answerOf, answered}
+use Rattle.rules.specs.Answers.{Answer, on, wait, held, back, done, answerOf, answered}
 use Rattle.rules.specs.Steps.{moveTo, joined, unlink, pass, linkIn, startValidating, lookAgain, insert, kindOf, hold, withdraw, leave, walking, waitingToEnter, readerValidating, writerValidating, validating, readerWaiting}
 use Rattle.rules.proofs.Laws.Counts.{count-few, holder-counts}
 use Rattle.comparison.proofs.Signs.{compare-fits, at-zero, below-zero, above-zero}

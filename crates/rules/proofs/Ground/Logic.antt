@@ -109,6 +109,11 @@ all-of (suc n) p f = and-both (all n p) (p n) (all-of n p (λ i h. f i (omega ar
 pub all-fails : (n i : ℕ) (p : ℕ → Bool) → i < n → p i ≡ false → all n p ≡ false
 all-fails n i p h e = not-of (all n p) (λ a. clash (p i) (all-at n i p a h) e)
 
+pub all-alike : (n : ℕ) (p q : ℕ → Bool) → ((i : ℕ) → p i ≡ q i) → all n p ≡ all n q
+unfolding all
+all-alike zero p q h = refl
+all-alike (suc n) p q h = rw (all-alike n p q h, h n)
+
 pub any-none : (n i : ℕ) (p : ℕ → Bool) → any n p ≡ false → i < n → p i ≡ false
 unfolding any
 any-none zero i p e h = absurd (omega arith)
