@@ -13,7 +13,7 @@ use lib.Seq.{take-all, getD-append-add, getD-drop}
 use Rattle.rules.specs.Tables.{tables, beforeNodes, nodeWidth, seatWidth, nodeCountOf, seatCountOf, headAt, readersAt, writersAt, countAt, nextAt, nodeWord, putNode, linkWord, putLink, countWord, setCount, seatWord, putSeat, clearWords, zeros}
 use Rattle.rules.specs.Shape.{nodesFit, seatsFit}
 use Rattle.rules.proofs.Ground.Logic.{same, and-left, and-right}
-use Rattle.rules.proofs.Laws.Words.{link-node, put-link-node}
+use Rattle.rules.proofs.Laws.Words.{link-node, put-link-node, seat-within}
 use Rattle.words.specs.Parts.{withZeros}
 
 -- ---- a node's word at its place
@@ -109,10 +109,13 @@ pub store-seat : (l l′ : List ℕ) (s f p v : ℕ) → l′ ≡ set l p v → 
 unfolding putSeat
 store-seat l l′ s f p v e q = rw q at e
 
--- a word of a seat that the table has
-pub seat-in : (l : List ℕ) (s f p : ℕ) → p ≡ seatWidth * s + f → s < seatCountOf l → f < seatWidth → p < length l
+-- S seats take no more words than there are, so a seat that the table has has all of its words there
+pub seats-within : (l : List ℕ) (n : ℕ) → n ≡ seatCountOf l → seatWidth * n ≤ length l
 unfolding seatCountOf
-seat-in l s f p e h i = omega arith
+seats-within l n e = omega arith
+
+pub seat-in : (l : List ℕ) (s f p : ℕ) → p ≡ seatWidth * s + f → s < seatCountOf l → f < seatWidth → p < length l
+seat-in l s f p e h i = let b = seat-within s (seatCountOf l) h in let w = seats-within l (seatCountOf l) refl in omega arith
 
 -- ---- the words of a seat, one after the other
 pub clear-none : (l : List ℕ) (s : ℕ) → l ≡ clearWords 0 l s
@@ -130,10 +133,6 @@ clear-all l m s f p h i = let e : f ≡ seatWidth = omega arith in rw e at p
 pub nodes-within : (l : List ℕ) (n : ℕ) → n ≡ nodeCountOf l → nodeWidth * n ≤ length l
 unfolding nodeCountOf
 nodes-within l n e = omega arith
-
-pub seats-within : (l : List ℕ) (n : ℕ) → n ≡ seatCountOf l → seatWidth * n ≤ length l
-unfolding seatCountOf
-seats-within l n e = omega arith
 
 -- a seat that the table has, and a word that a seat has
 module _ (l : List ℕ) (s f n : ℕ) (isCount : n ≡ seatCountOf l) (has : (ltb s n && ltb f seatWidth) ≡ true) where

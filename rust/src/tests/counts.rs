@@ -5,6 +5,7 @@ use crate::machine::{begin, board, clear, free_count, fresh, release, run, step,
 use crate::random::Random;
 use crate::script::{call, read_script};
 use crate::tables::{many_holders, sound_words, Tables};
+use crate::tests::histories::{History, H1, H11, H2, H3, H4, H5, H6, H7, H8, H9, THEN_H10};
 use crate::tests::layout::{counts_kept, counts_over_seats, place, word, KIND, MARK, OWN, PHASE, READERS};
 use crate::tests::layout::{SEAT_WORDS, WRITERS};
 use crate::tests::{refused_by_every_call, script_of};
@@ -29,52 +30,41 @@ pub fn counts_after_each_call(script: &[u8]) -> Vec<[u32; 2]> {
 }
 
 /// The counts along a history, two digits for each call: readers, then writers.
-fn along(nodes: u32, seats: u32, bodies: &str) -> String {
+fn along((nodes, seats, bodies): History) -> String {
     let counts = counts_after_each_call(script_of(nodes, seats, bodies).as_bytes());
     counts.iter().map(|[readers, writers]| format!("{readers}{writers}")).collect::<Vec<String>>().join(" ")
 }
 
 #[test]
 fn h1_a_writer_that_waits_counts_once_it_holds() {
-    assert_eq!(
-        along(4, 3, "b 0 10 20 2; s 0; s 0; b 1 15 25 2; s 1; r 0; s 1; s 1; s 1; s 1"),
-        "00 00 01 01 01 00 00 00 00 01"
-    );
+    assert_eq!(along(H1), "00 00 01 01 01 00 00 00 00 01");
 }
 
 #[test]
 fn h2_two_writers_and_h3_one() {
-    assert_eq!(along(4, 4, "b 0 10 20 2; s 0; s 0; b 1 20 30 2; s 1; s 1; s 1; s 1"), "00 00 01 01 01 01 01 02");
-    assert_eq!(along(4, 4, "b 0 10 20 2; s 0; s 0; b 1 19 30 2; s 1; s 1"), "00 00 01 01 01 01");
+    assert_eq!(along(H2), "00 00 01 01 01 01 01 02");
+    assert_eq!(along(H3), "00 00 01 01 01 01");
 }
 
 #[test]
 fn h4_and_h5_two_readers() {
-    assert_eq!(
-        along(4, 4, "b 0 0 100 1; s 0; s 0; b 1 50 60 1; s 1; s 1; s 1; b 2 70 80 2; s 2"),
-        "00 00 10 10 10 10 20 20 20"
-    );
-    assert_eq!(along(4, 4, "b 0 5 9 1; s 0; s 0; b 1 5 9 1; s 1; s 1; s 1"), "00 00 10 10 10 10 20");
+    assert_eq!(along(H4), "00 00 10 10 10 10 20 20 20");
+    assert_eq!(along(H5), "00 00 10 10 10 10 20");
 }
 
 #[test]
 fn h6_to_h8_and_h11_what_is_released_or_refused_does_not_count() {
-    assert_eq!(along(1, 4, "b 0 0 10 2; s 0; s 0; r 0; b 0 0 10 2"), "00 00 01 00 00");
-    assert_eq!(along(1, 4, "b 0 0 10 2; s 0; s 0; b 1 0 10 2"), "00 00 01 01");
-    assert_eq!(along(2, 4, "b 0 0 10 2; s 0; s 0; b 1 0 10 2; s 1; r 0; b 0 0 10 2"), "00 00 01 01 01 00 00");
-    assert_eq!(along(4, 4, "b 0 7 7 2; b 0 0 4294967295 2"), "00 00");
+    assert_eq!(along(H6), "00 00 01 00 00");
+    assert_eq!(along(H7), "00 00 01 01");
+    assert_eq!(along(H8), "00 00 01 01 01 00 00");
+    assert_eq!(along(H11), "00 00");
 }
 
 /// Seat 2 waits in phase 4 before it holds, and seat 3 goes back and begins anew: the one counts once, the other never.
 #[test]
 fn h9_and_h10_a_reader_that_waited_counts_once_and_a_withdrawal_not_at_all() {
     assert_eq!(
-        along(
-            8,
-            4,
-            "b 0 1 10 1; s 0; s 0; b 1 12 14 1; s 1; s 1; s 1; b 2 5 20 1; b 3 15 20 2; \
-             s 3; s 3; s 2; s 2; s 3; s 2; s 2; s 3; s 3; s 2; s 2; s 2; s 3; s 3; s 3"
-        ),
+        along((H9.0, H9.1, &format!("{}; {THEN_H10}", H9.2))),
         "00 00 10 10 10 10 20 20 20 20 20 20 20 20 20 20 20 20 20 20 30 30 30 30"
     );
 }
@@ -83,7 +73,7 @@ fn h9_and_h10_a_reader_that_waited_counts_once_and_a_withdrawal_not_at_all() {
 #[test]
 fn a_reader_and_a_writer_are_counted_apart() {
     assert_eq!(
-        along(4, 4, "b 0 0 9 1; s 0; s 0; b 1 20 30 2; s 1; s 1; s 1; s 1; s 0; s 1; b 0 0 9 1; r 0; r 0; r 1"),
+        along((4, 4, "b 0 0 9 1; s 0; s 0; b 1 20 30 2; s 1; s 1; s 1; s 1; s 0; s 1; b 0 0 9 1; r 0; r 0; r 1")),
         "00 00 10 10 10 10 10 11 11 11 11 01 01 00"
     );
 }
