@@ -1,12 +1,16 @@
 -- The small histories of document 01, H1 to H11, as one statement over the group, proved by computing with the rules; beside them the
--- examples of requests (i) and (ii) of document 02, and two of our own, for the faults that H1 to H11 do not tell apart.
+-- examples of requests (i) to (iii) of document 02, and two of our own, for the faults that H1 to H11 do not tell apart.
 use Prim.Native.Nat.{ℕ}
 use mathlib.Core.Path.{_≡_, refl}
+use mathlib.Core.Bool.{true, false}
 use mathlib.Core.List.{List, [], _∷_, map}
-use Rattle.rules.specs.Tables.{Tables, fresh, readers, writers, head, own}
+use Rattle.rules.specs.Tables.{Tables, tables, fresh, readers, writers, title, head, own}
 use Rattle.rules.specs.Comparison.{claim}
+use Rattle.rules.specs.Shape.{sound}
 use Rattle.rules.specs.Reach.{listOf}
-use Rattle.rules.specs.Answers.{Answer, node, out, on, wait, held, back, refused}
+use Rattle.rules.specs.Answers.{Answer, node, out, on, wait, held, back, refused, done}
+use Rattle.rules.specs.Calls.{clear}
+use Rattle.rules.specs.FreeCount.{counted, freeCount}
 use Rattle.rules.specs.Board.{holders, coveredBy, filled, shown, board}
 use Rattle.rules.specs.Play.{Call, beginCall, stepCall, releaseCall, Turn, trace, afterAll, ascii, play}
 use Rattle.rules.specs.declared.Row.{Row}
@@ -25,6 +29,10 @@ r seat = releaseCall seat
 abbrev row : ℕ → ℕ → ℕ → ℕ → Row
 row seat first end kind = record { seat = seat; first = first; end = end; kind = kind }
 
+-- "the histories take 4,294,967,295"
+abbrev cleared : ℕ → ℕ → Tables
+cleared N S = fresh N S 4294967295
+
 -- the answers of the calls, in order
 abbrev answers : Tables → List Call → List Answer
 answers t calls = map (λ (turn : Turn). turn .did .answer) (trace t calls)
@@ -32,7 +40,7 @@ answers t calls = map (λ (turn : Turn). turn .did .answer) (trace t calls)
 -- ---- H1: the script above
 abbrev pub H1 : Type 0
 H1 =
-    play (ascii "4 3 10\nb 0 10 20 2\ns 0\ns 0\nb 1 15 25 2\ns 1\nr 0\ns 1\ns 1\ns 1\ns 1\n")
+    play (ascii "4 3 10 4294967295\nb 0 10 20 2\ns 0\ns 0\nb 1 15 25 2\ns 1\nr 0\ns 1\ns 1\ns 1\ns 1\n")
     ≡ ascii "1 node 1\n2 on\n3 held\n4 node 2\n5 wait 1\n6 out\n7 on\n8 on\n9 on\n10 held\nlist 2\nhold 1 15 25 2\ncovered 10\n"
 
 -- ---- H2: writers 10..20 and 20..30 both hold
@@ -41,12 +49,12 @@ H2calls = b 0 10 20 2 ∷ s 0 ∷ s 0 ∷ b 1 20 30 2 ∷ s 1 ∷ s 1 ∷ s 1 �
 
 abbrev pub H2 : Type 0
 H2 =
-    (answers (fresh 4 4) H2calls ≡ node 1 ∷ on ∷ held ∷ node 2 ∷ on ∷ on ∷ on ∷ held ∷ [])
-    × (holders (afterAll (fresh 4 4) H2calls) ≡ row 0 10 20 2 ∷ row 1 20 30 2 ∷ [])
+    (answers (cleared 4 4) H2calls ≡ node 1 ∷ on ∷ held ∷ node 2 ∷ on ∷ on ∷ on ∷ held ∷ [])
+    × (holders (afterAll (cleared 4 4) H2calls) ≡ row 0 10 20 2 ∷ row 1 20 30 2 ∷ [])
 
 -- ---- H3: with writer 10..20 held, writer 19..30 waits
 abbrev pub H3 : Type 0
-H3 = answers (fresh 4 4) (b 0 10 20 2 ∷ s 0 ∷ s 0 ∷ b 1 19 30 2 ∷ s 1 ∷ []) ≡ node 1 ∷ on ∷ held ∷ node 2 ∷ wait 1 ∷ []
+H3 = answers (cleared 4 4) (b 0 10 20 2 ∷ s 0 ∷ s 0 ∷ b 1 19 30 2 ∷ s 1 ∷ []) ≡ node 1 ∷ on ∷ held ∷ node 2 ∷ wait 1 ∷ []
 
 -- ---- H4: readers 0..100 and 50..60 both hold; a writer 70..80 waits at the first
 abbrev pub H4calls : List Call
@@ -54,8 +62,8 @@ H4calls = b 0 0 100 1 ∷ s 0 ∷ s 0 ∷ b 1 50 60 1 ∷ s 1 ∷ s 1 ∷ s 1 �
 
 abbrev pub H4 : Type 0
 H4 =
-    (answers (fresh 4 4) H4calls ≡ node 1 ∷ on ∷ held ∷ node 2 ∷ on ∷ on ∷ held ∷ node 3 ∷ wait 1 ∷ [])
-    × (holders (afterAll (fresh 4 4) H4calls) ≡ row 0 0 100 1 ∷ row 1 50 60 1 ∷ [])
+    (answers (cleared 4 4) H4calls ≡ node 1 ∷ on ∷ held ∷ node 2 ∷ on ∷ on ∷ held ∷ node 3 ∷ wait 1 ∷ [])
+    × (holders (afterAll (cleared 4 4) H4calls) ≡ row 0 0 100 1 ∷ row 1 50 60 1 ∷ [])
 
 -- ---- H5: two readers of 5..9 hold
 abbrev pub H5calls : List Call
@@ -63,16 +71,16 @@ H5calls = b 0 5 9 1 ∷ s 0 ∷ s 0 ∷ b 1 5 9 1 ∷ s 1 ∷ s 1 ∷ s 1 ∷ []
 
 abbrev pub H5 : Type 0
 H5 =
-    (answers (fresh 4 4) H5calls ≡ node 1 ∷ on ∷ held ∷ node 2 ∷ on ∷ on ∷ held ∷ [])
-    × (holders (afterAll (fresh 4 4) H5calls) ≡ row 0 5 9 1 ∷ row 1 5 9 1 ∷ [])
+    (answers (cleared 4 4) H5calls ≡ node 1 ∷ on ∷ held ∷ node 2 ∷ on ∷ on ∷ held ∷ [])
+    × (holders (afterAll (cleared 4 4) H5calls) ≡ row 0 5 9 1 ∷ row 1 5 9 1 ∷ [])
 
 -- ---- H6: N = 1: hold, release, begin again: node 1
 abbrev pub H6 : Type 0
-H6 = answers (fresh 1 4) (b 0 0 10 2 ∷ s 0 ∷ s 0 ∷ r 0 ∷ b 0 0 10 2 ∷ []) ≡ node 1 ∷ on ∷ held ∷ out ∷ node 1 ∷ []
+H6 = answers (cleared 1 4) (b 0 0 10 2 ∷ s 0 ∷ s 0 ∷ r 0 ∷ b 0 0 10 2 ∷ []) ≡ node 1 ∷ on ∷ held ∷ out ∷ node 1 ∷ []
 
 -- ---- H7: N = 1: seat 0 holds, seat 1 begins: refusal 8
 abbrev pub H7 : Type 0
-H7 = answers (fresh 1 4) (b 0 0 10 2 ∷ s 0 ∷ s 0 ∷ b 1 0 10 2 ∷ []) ≡ node 1 ∷ on ∷ held ∷ refused 8 ∷ []
+H7 = answers (cleared 1 4) (b 0 0 10 2 ∷ s 0 ∷ s 0 ∷ b 1 0 10 2 ∷ []) ≡ node 1 ∷ on ∷ held ∷ refused 8 ∷ []
 
 -- ---- H8: N = 2: seat 0 holds node 1, seat 1 waits there, seat 0 releases and begins: refusal 8, head still 1
 abbrev pub H8calls : List Call
@@ -80,8 +88,8 @@ H8calls = b 0 0 10 2 ∷ s 0 ∷ s 0 ∷ b 1 0 10 2 ∷ s 1 ∷ r 0 ∷ b 0 0 10
 
 abbrev pub H8 : Type 0
 H8 =
-    (answers (fresh 2 4) H8calls ≡ node 1 ∷ on ∷ held ∷ node 2 ∷ wait 1 ∷ out ∷ refused 8 ∷ [])
-    × (head (afterAll (fresh 2 4) H8calls) ≡ 1)
+    (answers (cleared 2 4) H8calls ≡ node 1 ∷ on ∷ held ∷ node 2 ∷ wait 1 ∷ out ∷ refused 8 ∷ [])
+    × (head (afterAll (cleared 2 4) H8calls) ≡ 1)
 
 -- ---- H9, N = 8: readers 1..10 (node 1) and 12..14 (node 2) hold. Seat 2 begins reader 5..20, seat 3 writer 15..20. Steps of
 -- seats 3, 3, 2, 2, 3, 2, 2, 3, 3, 2, 2, 2
@@ -89,7 +97,7 @@ abbrev pub H9begun : List Call
 H9begun = b 0 1 10 1 ∷ s 0 ∷ s 0 ∷ b 1 12 14 1 ∷ s 1 ∷ s 1 ∷ s 1 ∷ b 2 5 20 1 ∷ b 3 15 20 2 ∷ []
 
 abbrev pub H9start : Tables
-H9start = afterAll (fresh 8 4) H9begun
+H9start = afterAll (cleared 8 4) H9begun
 
 abbrev pub H9calls : List Call
 H9calls = s 3 ∷ s 3 ∷ s 2 ∷ s 2 ∷ s 3 ∷ s 2 ∷ s 2 ∷ s 3 ∷ s 3 ∷ s 2 ∷ s 2 ∷ s 2 ∷ []
@@ -99,7 +107,7 @@ H9end = afterAll H9start H9calls
 
 abbrev pub H9 : Type 0
 H9 =
-    (answers (fresh 8 4) H9begun ≡ node 1 ∷ on ∷ held ∷ node 2 ∷ on ∷ on ∷ held ∷ node 3 ∷ node 4 ∷ [])
+    (answers (cleared 8 4) H9begun ≡ node 1 ∷ on ∷ held ∷ node 2 ∷ on ∷ on ∷ held ∷ node 3 ∷ node 4 ∷ [])
     × (holders H9start ≡ row 0 1 10 1 ∷ row 1 12 14 1 ∷ [])
     × (answers H9start H9calls ≡ on ∷ on ∷ on ∷ on ∷ on ∷ on ∷ wait 4 ∷ on ∷ back ∷ on ∷ on ∷ held ∷ [])
     × (listOf H9end ≡ 1 ∷ 3 ∷ 2 ∷ [])
@@ -113,7 +121,7 @@ H10 = (answers H9end H10calls ≡ on ∷ on ∷ wait 3 ∷ []) × (own (afterAll
 
 -- ---- H11: begin 7..7 is refusal 3; 0..4294967295 is accepted
 abbrev pub H11 : Type 0
-H11 = answers (fresh 4 4) (b 0 7 7 2 ∷ b 0 0 4294967295 2 ∷ []) ≡ refused 3 ∷ node 1 ∷ []
+H11 = answers (cleared 4 4) (b 0 7 7 2 ∷ b 0 0 4294967295 2 ∷ []) ≡ refused 3 ∷ node 1 ∷ []
 
 -- ---- the group
 pub histories : H1 × H2 × H3 × H4 × H5 × H6 × H7 × H8 × H9 × H10 × H11
@@ -124,9 +132,9 @@ histories = (refl, (refl, refl), refl, (refl, refl), (refl, refl), refl, refl, (
 -- a gap; with 5..20 they leave none
 abbrev pub CoveredOnce : Type 0
 CoveredOnce =
-    (play (ascii "4 2 7\nb 0 0 100 1\ns 0\ns 0\nb 1 50 60 1\ns 1\ns 1\ns 1\n")
+    (play (ascii "4 2 7 4294967295\nb 0 0 100 1\ns 0\ns 0\nb 1 50 60 1\ns 1\ns 1\ns 1\n")
     ≡ ascii "1 node 1\n2 on\n3 held\n4 node 2\n5 on\n6 on\n7 held\nlist 1 2\nhold 0 0 100 1\nhold 1 50 60 1\ncovered 100\n")
-    × (board (afterAll (fresh 4 4) H4calls) (row 9 9 9 9 ∷ row 9 9 9 9 ∷ row 9 9 9 9 ∷ [])
+    × (board (afterAll (cleared 4 4) H4calls) (row 9 9 9 9 ∷ row 9 9 9 9 ∷ row 9 9 9 9 ∷ [])
     ≡ shown (filled 2 100) (row 0 0 100 1 ∷ row 1 50 60 1 ∷ row 9 9 9 9 ∷ []))
     × (coveredBy (holders H9start) ≡ 11)
     × (coveredBy (holders H9end) ≡ 19)
@@ -146,31 +154,80 @@ readersCalls = b 0 0 9 1 ∷ s 0 ∷ s 0 ∷ s 0 ∷ b 1 0 9 1 ∷ s 1 ∷ s 1 �
 
 abbrev pub KnownAtOnce : Type 0
 KnownAtOnce =
-    (holding (fresh 4 3) readersCalls
+    (holding (cleared 4 3) readersCalls
     ≡ (0, 0) ∷ (0, 0) ∷ (1, 0) ∷ (1, 0) ∷ (1, 0) ∷ (1, 0) ∷ (1, 0) ∷ (2, 0) ∷ [])
-    × (holding (afterAll (fresh 4 3) readersCalls) (b 2 5 7 2 ∷ s 2 ∷ r 0 ∷ r 1 ∷ s 2 ∷ s 2 ∷ s 2 ∷ s 2 ∷ s 2 ∷ r 2 ∷ [])
+    × (holding (afterAll (cleared 4 3) readersCalls) (b 2 5 7 2 ∷ s 2 ∷ r 0 ∷ r 1 ∷ s 2 ∷ s 2 ∷ s 2 ∷ s 2 ∷ s 2 ∷ r 2 ∷ [])
     ≡ (2, 0) ∷ (2, 0) ∷ (1, 0) ∷ (0, 0) ∷ (0, 0) ∷ (0, 0) ∷ (0, 0) ∷ (0, 0) ∷ (0, 1) ∷ (0, 0) ∷ [])
-    × (holding (fresh 4 4) H2calls ≡ (0, 0) ∷ (0, 0) ∷ (0, 1) ∷ (0, 1) ∷ (0, 1) ∷ (0, 1) ∷ (0, 1) ∷ (0, 2) ∷ [])
-    × (holding (afterAll (fresh 4 4) H2calls) (r 0 ∷ []) ≡ (0, 1) ∷ [])
-    × (holding (afterAll (fresh 8 5) (b 4 100 110 2 ∷ s 4 ∷ s 4 ∷ H9begun)) H9calls
+    × (holding (cleared 4 4) H2calls ≡ (0, 0) ∷ (0, 0) ∷ (0, 1) ∷ (0, 1) ∷ (0, 1) ∷ (0, 1) ∷ (0, 1) ∷ (0, 2) ∷ [])
+    × (holding (afterAll (cleared 4 4) H2calls) (r 0 ∷ []) ≡ (0, 1) ∷ [])
+    × (holding (afterAll (cleared 8 5) (b 4 100 110 2 ∷ s 4 ∷ s 4 ∷ H9begun)) H9calls
     ≡ (2, 1) ∷ (2, 1) ∷ (2, 1) ∷ (2, 1) ∷ (2, 1) ∷ (2, 1) ∷ (2, 1) ∷ (2, 1) ∷ (2, 1) ∷ (2, 1) ∷ (2, 1) ∷ (3, 1) ∷ [])
 
 pub known-at-once : KnownAtOnce
 unfolding rules
 known-at-once = (refl, refl, refl, refl, refl)
 
+-- ---- 02 (iii): a title of 20 frames, one node. A claim that meets two refusals at once is told the one that stands first, 2, 3, 11, 4, 5, 8, for each
+-- neighbouring pair and across; one that ends at the title is taken
+abbrev pub BeyondTitle : Type 0
+BeyondTitle =
+    (answers (fresh 1 2 20) (b 2 10 10 2 ∷ b 0 21 21 2 ∷ b 0 20 10 9 ∷ b 0 10 21 9 ∷ b 0 10 20 9 ∷ b 0 10 21 1 ∷ b 0 10 20 2 ∷ [])
+    ≡ refused 2 ∷ refused 3 ∷ refused 3 ∷ refused 11 ∷ refused 4 ∷ refused 11 ∷ node 1 ∷ [])
+    × (answers (afterAll (fresh 1 2 20) (b 0 10 20 2 ∷ [])) (b 0 20 20 2 ∷ b 0 0 21 2 ∷ b 0 0 20 9 ∷ b 0 0 20 2 ∷ b 1 0 21 2 ∷ b 1 0 20 2 ∷ [])
+    ≡ refused 3 ∷ refused 11 ∷ refused 4 ∷ refused 5 ∷ refused 11 ∷ refused 8 ∷ [])
+
+-- a title of one frame, played; a title of none, and none at all
+abbrev pub TitleOnLineOne : Type 0
+TitleOnLineOne =
+    (play (ascii "1 1 4 1\nb 0 0 2 2\nb 0 0 1 2\ns 0\ns 0\n") ≡ ascii "1 no 11\n2 node 1\n3 on\n4 held\nlist 1\nhold 0 0 1 2\ncovered 1\n")
+    × (play (ascii "1 1 0 0\n") ≡ ascii "bad 1\n")
+    × (play (ascii "1 1 0\n") ≡ ascii "bad 1\n")
+    × (play (ascii "1 1 0 4294967296\n") ≡ ascii "bad 1\n")
+    × (play (ascii "1 1 0 7 7\n") ≡ ascii "bad 1\n")
+
+-- clear: 1 before 3; the title before is forgotten; and it stays after every call
+abbrev noTables : Tables
+noTables = tables [] []
+
+abbrev titles : Tables → List Call → List ℕ
+titles t calls = map (λ (turn : Turn). title (turn .did .after)) (trace t calls)
+
+abbrev pub ClearedWith : Type 0
+ClearedWith =
+    (clear noTables 0 ≡ done 1 noTables)
+    × (clear noTables 20 ≡ done 1 noTables)
+    × (clear (fresh 1 2 20) 0 ≡ done 3 (fresh 1 2 20))
+    × (clear (afterAll (fresh 1 2 20) (b 0 10 20 2 ∷ s 0 ∷ s 0 ∷ [])) 7 ≡ done 0 (fresh 1 2 7))
+    × (titles (fresh 1 2 20) (b 0 10 21 2 ∷ b 0 10 20 2 ∷ s 0 ∷ s 0 ∷ r 0 ∷ []) ≡ 20 ∷ 20 ∷ 20 ∷ 20 ∷ 20 ∷ [])
+
+-- a released node off the list and free, 10..20, is held to the title like any other; a title of no frames is none
+abbrev withTitle : ℕ → Tables
+withTitle frames = tables (0 ∷ 0 ∷ 0 ∷ frames ∷ 10 ∷ 20 ∷ 2 ∷ 0 ∷ 1 ∷ []) (0 ∷ 0 ∷ 0 ∷ 0 ∷ [])
+
+abbrev pub DamagedTitle : Type 0
+DamagedTitle =
+    (sound (withTitle 20) ≡ true)
+    × (sound (withTitle 19) ≡ false)
+    × (freeCount (withTitle 20) ≡ counted 1)
+    × (sound (fresh 1 1 1) ≡ true)
+    × (sound (fresh 1 1 0) ≡ false)
+
+pub title-has-an-end : BeyondTitle × TitleOnLineOne × ClearedWith × DamagedTitle
+unfolding rules
+title-has-an-end = ((refl, refl), (refl, refl, refl, refl, refl), (refl, refl, refl, refl, refl), (refl, refl, refl, refl, refl))
+
 -- ---- ours: seat 2 waits at node 1, and nodes 1 and 2 are released. Taken out, node 2 is at no seat's own, prev or cur; but
 -- seat 2 still reaches it through node 1, so it is not free
 abbrev pub ThroughRemoved : Type 0
 ThroughRemoved =
-    answers (fresh 3 3) (b 0 0 10 2 ∷ s 0 ∷ s 0 ∷ b 1 20 30 2 ∷ s 1 ∷ s 1 ∷ s 1 ∷ s 1 ∷ b 2 5 30 2 ∷ s 2 ∷ r 0 ∷ r 1 ∷ b 0 40 50 2 ∷ [])
+    answers (cleared 3 3) (b 0 0 10 2 ∷ s 0 ∷ s 0 ∷ b 1 20 30 2 ∷ s 1 ∷ s 1 ∷ s 1 ∷ s 1 ∷ b 2 5 30 2 ∷ s 2 ∷ r 0 ∷ r 1 ∷ b 0 40 50 2 ∷ [])
     ≡ node 1 ∷ on ∷ held ∷ node 2 ∷ on ∷ on ∷ on ∷ held ∷ node 3 ∷ wait 1 ∷ out ∷ out ∷ refused 8 ∷ []
 
 -- ---- ours: seat 1 has passed node 1 when that is released, and seat 2 takes it out and holds 20..30. Seat 1 must not enter
 -- behind node 1, where no one would see it: it starts again and waits at seat 2's node
 abbrev pub BehindMarked : Type 0
 BehindMarked =
-    answers (fresh 4 3) (b 0 0 10 2 ∷ s 0 ∷ s 0 ∷ b 1 20 30 1 ∷ s 1 ∷ r 0 ∷ b 2 20 30 2 ∷ s 2 ∷ s 2 ∷ s 2 ∷ s 1 ∷ s 1 ∷ [])
+    answers (cleared 4 3) (b 0 0 10 2 ∷ s 0 ∷ s 0 ∷ b 1 20 30 1 ∷ s 1 ∷ r 0 ∷ b 2 20 30 2 ∷ s 2 ∷ s 2 ∷ s 2 ∷ s 1 ∷ s 1 ∷ [])
     ≡ node 1 ∷ on ∷ held ∷ node 2 ∷ on ∷ out ∷ node 3 ∷ on ∷ on ∷ held ∷ on ∷ wait 3 ∷ []
 
 pub our-histories : ThroughRemoved × BehindMarked

@@ -6,6 +6,7 @@ pub mod Apart
 pub mod Cause
 pub mod Covered
 pub mod HowMany
+pub mod Title
 -- The rooms behind it, in the order in which they may use each other; the first line of each says what it proves.
 pub mod Ground
 pub mod Laws

@@ -1,4 +1,4 @@
--- Demand 1: every call refuses exactly what and where document 01 says, and a refused call changes nothing that it was lent. Of any tables, any
+-- Demand 1: every call refuses exactly what and where documents 01 and 02 say, and a refused call changes nothing that it was lent. Of any tables, any
 -- lists and any numbers. Nothing else stands here: the words are those of specs/Refusing.antt, and each proof is a citation.
 use Prim.Native.Nat.{ℕ, _/_}
 use mathlib.Core.Path.{_≡_, ap}
@@ -36,10 +36,10 @@ pub refused-by-number : (t : Tables) (c : Call) (k : ℕ) → call t c .answer �
 refused-by-number t c k q = refuses-some (refused-only t c k q)
 
 -- ---- clear: what is not 0 is its refusal
-pub clear-only : (t : Tables) (k : ℕ) → clear t .answer ≡ k → k ≢ 0 → ClearRefuses t k
+pub clear-only : (t : Tables) (frames k : ℕ) → clear t frames .answer ≡ k → k ≢ 0 → ClearRefuses t frames k
 clear-only = exact.clear-by-table
 
-pub clear-there : (t : Tables) (k : ℕ) → ClearRefuses t k → clear t ≡ done k t
+pub clear-there : (t : Tables) (frames k : ℕ) → ClearRefuses t frames k → clear t frames ≡ done k t
 clear-there = exact.clear-refused
 
 -- ---- run as a whole, "0 steps, refusal 1"; how any other run ends is said in Apart

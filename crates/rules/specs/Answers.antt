@@ -32,8 +32,9 @@ infix 2 _when_
 abbrev pub _when_ : ℕ → Bool → Refusal
 number when test = record { number = number; holds = test }
 
--- "Checked in rising number .. Each returns only its number .. and leaves tables .. as found": the first reason that holds,
--- or what the call does if none does. `say` makes an answer of the number.
+-- "Each returns only its number .. and leaves tables .. as found": the first reason that holds, or what the call does if none does. Each call
+-- gives its list, and the list is the order in which they are looked at: 01's "in rising number", but for 11, which "stands after 3 and
+-- before 4" (02). `say` makes an answer of the number.
 abbrev pub refusing : {A : Type 0} → (ℕ → A) → List Refusal → Tables → Done A → Done A
 refusing say [] t accepted = accepted
 refusing say (reason ∷ more) t accepted =

@@ -2,8 +2,8 @@
 use Prim.Native.Nat.{ℕ}
 use mathlib.Core.Bool.{Bool, not}
 use mathlib.Core.List.{List, [], _∷_}
-use Rattle.rules.specs.Notation.{if_then_else_, _is_, _≤?_}
-use Rattle.rules.specs.Tables.{Tables, nodeCount, seatCount, phase, fresh}
+use Rattle.rules.specs.Notation.{if_then_else_, _is_, _≤?_, _<?_}
+use Rattle.rules.specs.Tables.{Tables, nodeCount, seatCount, title, phase, fresh}
 use Rattle.rules.specs.Comparison.{Claim}
 use Rattle.rules.specs.Shape.{lengthsFit, sound, isKind}
 use Rattle.rules.specs.Fetch.{Fetched, fetch}
@@ -18,14 +18,15 @@ damaged t = not (sound t)
 abbrev pub noSeat : Tables → ℕ → Bool
 noSeat t s = seatCount t ≤? s
 
--- ---- clear: "Clear writes 0 everywhere". | 1 | .. for clear: only lengths wrong | "An accepted call with no other stated
--- answer returns 0."
-unfoldable pub clear : Tables → Done ℕ
-clear t =
-    refusing (λ number. number) ((1 when not (lengthsFit t)) ∷ []) t
-    (done 0 (fresh (nodeCount t) (seatCount t)))
+-- ---- clear: "Clear writes 0 everywhere", and 02 (iii): "Clear takes the title's frame count". | 1 | .. for clear: only lengths wrong |, then
+-- "clear with count 0 is refused 3". "An accepted call with no other stated answer returns 0."
+unfoldable pub clear : Tables → ℕ → Done ℕ
+clear t frames =
+    refusing (λ number. number) ((1 when not (lengthsFit t)) ∷ (3 when frames is 0) ∷ []) t
+    (done 0 (fresh (nodeCount t) (seatCount t) frames))
 
--- ---- begin: "Begin: `node n`."
+-- ---- begin: "Begin: `node n`." "A claim may end at it" (the title's frame count) "and not beyond": "11, end beyond the title, stands after 3 and
+-- before 4"
 unfoldable pub begun : Tables → Fetched → Done Answer
 begun t f =
     if f .node is 0 then done (refused 8) t
@@ -37,6 +38,7 @@ begin t s c =
     ((1 when damaged t)
     ∷ (2 when noSeat t s)
     ∷ (3 when c .end ≤? c .start)
+    ∷ (11 when title t <? c .end)
     ∷ (4 when not (isKind (c .kind)))
     ∷ (5 when not (phase t s is 0))
     ∷ [])

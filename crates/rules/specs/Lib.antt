@@ -19,3 +19,4 @@ pub mod Apart
 pub mod Cause
 pub mod Covered
 pub mod HowMany
+pub mod Title

@@ -114,10 +114,11 @@ unfoldable pub endText : Tables → List ℕ
 endText t = listText t ++ rowsText (holders t) ++ coveredText t
 
 -- ---- "A bad script prints `bad L` .. Otherwise tables start fresh."
+unfoldable pub startOf : Script → Tables
+startOf script = fresh (script .n) (script .s) (script .title)
+
 unfoldable pub scriptText : Script → List ℕ
-scriptText script =
-    turnsText 1 (trace (fresh (script .n) (script .s)) (callsOf script))
-    ++ endText (afterAll (fresh (script .n) (script .s)) (callsOf script))
+scriptText script = turnsText 1 (trace (startOf script) (callsOf script)) ++ endText (afterAll (startOf script) (callsOf script))
 
 unfoldable pub play : List ℕ → List ℕ
 play src =

@@ -18,7 +18,7 @@ unfoldable pub afterRequests : Tables → List Request → Tables
 afterRequests t [] = t
 afterRequests t (r ∷ rest) = afterRequests (afterRequest t r) rest
 
--- any requests in any order, with any numbers; a refused one leaves the tables as found
+-- from a clear with any title, any requests in any order, with any numbers; a refused one leaves the tables as found
 pub data Reached (N S : ℕ) : Tables → Type 0 where
-  cleared : 1 ≤ N → N ≤ 256 → 1 ≤ S → S ≤ 64 → Reached N S (fresh N S)
+  cleared : 1 ≤ N → N ≤ 256 → 1 ≤ S → S ≤ 64 → {frames : ℕ} → 1 ≤ frames → Reached N S (fresh N S frames)
   asked : {t : Tables} → Reached N S t → (r : Request) → Reached N S (afterRequest t r)

@@ -7,7 +7,7 @@ use mathlib.Core.Bool.{true, false}
 use mathlib.Core.List.{List}
 use mathlib.Core.Logic.{_≢_, _⊎_}
 use lib.ListN.{length}
-use Rattle.rules.specs.Tables.{Tables, seatCount, phase}
+use Rattle.rules.specs.Tables.{Tables, seatCount, title, phase}
 use Rattle.rules.specs.Comparison.{Claim}
 use Rattle.rules.specs.Shape.{lengthsFit, sound}
 use Rattle.rules.specs.Reach.{lowestFree}
@@ -21,7 +21,7 @@ pub record HasSeat (t : Tables) (s : ℕ) : Type 0 where
   pub is-sound : sound t ≡ true
   pub is-seat : s < seatCount t
 
--- a claim that may be begun: it covers some frame, and reads or writes
+-- a claim as such: it covers some frame, and reads or writes
 pub record Proper (c : Claim) : Type 0 where
   pub some : c .start < c .end
   pub reads-or-writes : (c .kind ≡ 1) ⊎ (c .kind ≡ 2)
@@ -31,6 +31,10 @@ pub record NoNodeFree (t : Tables) (s : ℕ) : Type 0 where
   pub at-first : lowestFree t s ≡ 0
   pub marked-out : lowestFree (takenOut t) s ≡ 0
 
+-- "A claim may end at it and not beyond": at the title's frame count
+abbrev pub WithinTitle : Tables → Claim → Type 0
+WithinTitle t c = c .end ≤ title t
+
 -- ---- begin, step and release: | no | when |
 pub data Refuses (t : Tables) : Call → ℕ → Type 0 where
   -- "1: tables damaged"
@@ -39,21 +43,24 @@ pub data Refuses (t : Tables) : Call → ℕ → Type 0 where
   no-seat : {call : Call} → sound t ≡ true → seatCount t ≤ seatOf call → Refuses t call 2
   -- "3: begin: start ≥ end"
   no-frames : {s : ℕ} {c : Claim} → HasSeat t s → c .end ≤ c .start → Refuses t (beginCall s c) 3
+  -- "11, end beyond the title, stands after 3 and before 4"
+  beyond-title : {s : ℕ} {c : Claim} → HasSeat t s → c .start < c .end → title t < c .end → Refuses t (beginCall s c) 11
   -- "4: begin: kind not 1 or 2"
-  no-kind : {s : ℕ} {c : Claim} → HasSeat t s → c .start < c .end → c .kind ≢ 1 → c .kind ≢ 2 → Refuses t (beginCall s c) 4
+  no-kind : {s : ℕ} {c : Claim} → HasSeat t s → c .start < c .end → WithinTitle t c → c .kind ≢ 1 → c .kind ≢ 2 → Refuses t (beginCall s c) 4
   -- "5: begin: seat not idle"
-  not-idle : {s : ℕ} {c : Claim} → HasSeat t s → Proper c → phase t s ≢ 0 → Refuses t (beginCall s c) 5
+  not-idle : {s : ℕ} {c : Claim} → HasSeat t s → Proper c → WithinTitle t c → phase t s ≢ 0 → Refuses t (beginCall s c) 5
   -- "6: step: seat idle"
   idle : {s : ℕ} → HasSeat t s → phase t s ≡ 0 → Refuses t (stepCall s) 6
   -- "7: release: phase not 5"
   not-holding : {s : ℕ} → HasSeat t s → phase t s ≢ 5 → Refuses t (releaseCall s) 7
   -- "8: begin, or step in phase 6: fetch found none"
-  none-to-begin : {s : ℕ} {c : Claim} → HasSeat t s → Proper c → phase t s ≡ 0 → NoNodeFree t s → Refuses t (beginCall s c) 8
+  none-to-begin : {s : ℕ} {c : Claim} → HasSeat t s → Proper c → WithinTitle t c → phase t s ≡ 0 → NoNodeFree t s → Refuses t (beginCall s c) 8
   none-again : {s : ℕ} → HasSeat t s → phase t s ≡ 6 → NoNodeFree t s → Refuses t (stepCall s) 8
 
--- ---- clear: "1: .. for clear: only lengths wrong"
-pub data ClearRefuses (t : Tables) : ℕ → Type 0 where
-  lengths-wrong : lengthsFit t ≡ false → ClearRefuses t 1
+-- ---- clear, given the title's frame count: "1: .. for clear: only lengths wrong", then "clear with count 0 is refused 3"
+pub data ClearRefuses (t : Tables) (frames : ℕ) : ℕ → Type 0 where
+  lengths-wrong : lengthsFit t ≡ false → ClearRefuses t frames 1
+  no-frames-at-all : lengthsFit t ≡ true → frames ≡ 0 → ClearRefuses t frames 3
 
 -- ---- run as a whole and free count: "1: tables damaged"
 pub data DamageRefuses (t : Tables) : ℕ → Type 0 where

@@ -62,20 +62,23 @@ lineEnd src at =
     if byteAt src at is 10 then at + 1
     else nowhere src
 
--- ---- "Line 1 is the contents: N S K, N and S within their bounds, K from 0 to 1,000."
-unfoldable pub inBounds : ℕ → ℕ → ℕ → Bool
-inBounds n s k = 1 ≤? n && n ≤? 256 && 1 ≤? s && s ≤? 64 && k ≤? 1000
+-- ---- "Line 1 is the contents: N S K, N and S within their bounds, K from 0 to 1,000.", and 02 (iii): "the script's first line gets" the title's
+-- frame count, "1 to 4,294,967,295", "as a fourth number". A number of a script is never above that
+unfoldable pub inBounds : ℕ → ℕ → ℕ → ℕ → Bool
+inBounds n s k title = 1 ≤? n && n ≤? 256 && 1 ≤? s && s ≤? 64 && k ≤? 1000 && 1 ≤? title
 
 unfoldable pub contentsOf : List ℕ → Contents
 contentsOf src =
     let n = numberAt src 0 in
     let s = fieldAt src (n .next) in
     let k = fieldAt src (s .next) in
+    let title = fieldAt src (k .next) in
     record {
       n = n .value;
       s = s .value;
       k = k .value;
-      next = if inBounds (n .value) (s .value) (k .value) then lineEnd src (k .next) else nowhere src;
+      title = title .value;
+      next = if inBounds (n .value) (s .value) (k .value) (title .value) then lineEnd src (title .next) else nowhere src;
     }
 
 -- ---- "Then K bodies: `b seat start end kind`, `s seat`, `r seat`." "each a code (b 1, s 2, r 3) and four numbers"
@@ -106,16 +109,16 @@ bodyAt src at =
     else if byteAt src at is 114 then seatLine src 3 (at + 1)
     else body noLine (nowhere src)
 
--- ---- the whole: "gives N, S, K and 1,000 rows by value .. what a script does not fill is 0"
+-- ---- the whole: "gives N, S, K and 1,000 rows by value .. what a script does not fill is 0"; the title's frame count stands after K, as on line 1
 abbrev pub noLines : List Line
 noLines = replicate 1000 noLine
 
 -- | 10 | script not well formed |, and the line
 unfoldable pub badAt : ℕ → Script
-badAt wrong = record { refusal = 10; wrong = wrong; n = 0; s = 0; k = 0; rows = noLines }
+badAt wrong = record { refusal = 10; wrong = wrong; n = 0; s = 0; k = 0; title = 0; rows = noLines }
 
 unfoldable pub goodScript : Contents → List Line → Script
-goodScript top rows = record { refusal = 0; wrong = 0; n = top .n; s = top .s; k = top .k; rows = rows }
+goodScript top rows = record { refusal = 0; wrong = 0; n = top .n; s = top .s; k = top .k; title = top .title; rows = rows }
 
 -- `left` bodies are still to be read from a place on, i are read and stand in `rows`. "L the first wrong line from 1 (a missing
 -- line has the number it would have, an extra one K + 2)": body i, from 0, is line i + 2. "nothing follows"

@@ -3,7 +3,7 @@ use Prim.Native.Nat.{ℕ, zero, suc, _+_, _*_}
 use mathlib.Core.Bool.{Bool, not, _&&_, _||_}
 use lib.ListN.{length}
 use Rattle.rules.specs.Notation.{if_then_else_, _is_, _≤?_, _<?_, all, count}
-use Rattle.rules.specs.Tables.{Tables, nodeCount, seatCount, beforeNodes, nodeWidth, seatWidth, seatWord, readers, writers, start, end, kind, mark, next, head, phase, own, prev, cur}
+use Rattle.rules.specs.Tables.{Tables, nodeCount, seatCount, beforeNodes, nodeWidth, seatWidth, seatWord, readers, writers, title, start, end, kind, mark, next, head, phase, own, prev, cur}
 
 -- "lengths fit", where "N is 1 to 256" and "S is 1 to 64"
 unfoldable pub nodesFit : Tables → Bool
@@ -69,6 +69,13 @@ holdersOfKind t k = count (seatCount t) (holdsWith t k)
 unfoldable pub countsFit : Tables → Bool
 countsFit t = readers t is holdersOfKind t 1 && writers t is holdersOfKind t 2
 
+-- 02 (iii): "a table whose remembered count is 0 or below a node's end is damaged". Of every node, the free ones too
+unfoldable pub endsBy : Tables → ℕ → Bool
+endsBy t frames = all (nodeCount t) (λ m. end t (m + 1) ≤? frames)
+
+unfoldable pub titleFits : Tables → Bool
+titleFits t = 1 ≤? title t && endsBy t (title t)
+
 -- "from the head, 0 is met after at most N nodes"
 unfoldable pub endsWithin : ℕ → Tables → ℕ → Bool
 endsWithin zero t a = a is 0
@@ -82,4 +89,4 @@ seatsSound t = all (seatCount t) (seatSound t)
 
 unfoldable pub sound : Tables → Bool
 sound t =
-    lengthsFit t && nodesSound t && names t (head t) && seatsSound t && countsFit t && endsWithin (nodeCount t) t (head t)
+    lengthsFit t && titleFits t && nodesSound t && names t (head t) && seatsSound t && countsFit t && endsWithin (nodeCount t) t (head t)

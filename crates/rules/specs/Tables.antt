@@ -15,8 +15,8 @@ pub record Tables : Type 0 where
 abbrev pub tables : List ℕ → List ℕ → Tables
 tables nodes seats = record { nodes = nodes; seats = seats }
 
--- ---- "Nodes: one head word, then N nodes of five words: start, end, kind, next, mark", and from 02 "the two counts, readers first, in two
--- words after the head word, so the length becomes 3 + 5·N"
+-- ---- "Nodes: one head word, then N nodes of five words: start, end, kind, next, mark". Between them, from 02, "the two counts, readers first, in
+-- two words after the head word", and "the title's frame count .. in a word of its own" after these: the length is 4 + 5·N
 abbrev pub headAt : ℕ
 headAt = 0
 
@@ -30,8 +30,11 @@ writersAt = 2
 abbrev pub countAt : ℕ → ℕ
 countAt k = if k is 1 then readersAt else writersAt
 
+abbrev pub titleAt : ℕ
+titleAt = 3
+
 abbrev pub beforeNodes : ℕ
-beforeNodes = 3
+beforeNodes = 4
 
 abbrev pub startAt : ℕ
 startAt = 0
@@ -127,6 +130,10 @@ writers t = topWord (t .nodes) writersAt
 abbrev pub countWord : Tables → ℕ → ℕ
 countWord t k = topWord (t .nodes) (countAt k)
 
+-- "the title's frame count", which "the table remembers"
+abbrev pub title : Tables → ℕ
+title t = topWord (t .nodes) titleAt
+
 abbrev pub start : Tables → ℕ → ℕ
 start t a = nodeWord (t .nodes) a startAt
 
@@ -197,9 +204,10 @@ setCur = setSeat curAt
 abbrev pub clearSeat : Tables → ℕ → Tables
 clearSeat t s = tables (t .nodes) (clearWords seatWidth (t .seats) s)
 
--- ---- "Clear writes 0 everywhere; that table is fresh."
+-- ---- "Clear writes 0 everywhere; that table is fresh", but for what 02 (iii) adds: "Clear takes the title's frame count .. and the table remembers
+-- it"
 abbrev pub zeros : ℕ → List ℕ
 zeros n = replicate n 0
 
-unfoldable pub fresh : ℕ → ℕ → Tables
-fresh n s = tables (zeros (beforeNodes + nodeWidth * n)) (zeros (seatWidth * s))
+unfoldable pub fresh : ℕ → ℕ → ℕ → Tables
+fresh n s frames = tables (putTop (zeros (beforeNodes + nodeWidth * n)) titleAt frames) (zeros (seatWidth * s))

@@ -17,13 +17,14 @@ pub struct Line {
     pub kind: u32,
 }
 
-// A script as read: refusal 10 and the line that is wrong, or N, S, K and the rows. What a script does not fill is 0.
+// A script as read: refusal 10 and the line that is wrong, or N, S, K, the title's frame count and the rows. What a script does not fill is 0.
 pub struct Script {
     pub refusal: u32,
     pub wrong: u32,
     pub n: u32,
     pub s: u32,
     pub k: u32,
+    pub title: u32,
     pub rows: [Line; 1000],
 }
 
@@ -44,6 +45,7 @@ pub struct Contents {
     pub n: u32,
     pub s: u32,
     pub k: u32,
+    pub title: u32,
     pub next: usize,
 }
 

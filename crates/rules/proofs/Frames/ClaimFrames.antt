@@ -84,7 +84,7 @@ module _ (t : Tables) (s r : ℕ) (d : r ≢ s) where
   begun-keeps : (c : Claim) {x : Done Answer} → Beginning t s c x → Keeps x
   unfolding begun
   begun-keeps c (begin-refused k q) = refl
-  begun-keeps c (begin-accepted {f = f} e h p z w) = branch Keeps (f .node is 0) (λ q. refl) (λ q. taken-keeps t e s r d w (eqb-false (f .node) 0 q))
+  begun-keeps c (begin-accepted {f = f} e h p i z w) = branch Keeps (f .node is 0) (λ q. refl) (λ q. taken-keeps t e s r d w (eqb-false (f .node) 0 q))
 
   refetched-keeps : sound t ≡ true → {c : Claim} {f : Fetched} → Fetching t s c f → Keeps (refetched t s f)
   unfolding refetched

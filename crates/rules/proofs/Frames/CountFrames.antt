@@ -3,7 +3,7 @@
 -- on damaged ones changes nothing.
 use Prim.Native.Nat.{ℕ, _+_, _-_, _≤_, _<_}
 use mathlib.Core.Path.{_≡_, refl, sym, ap, _∙_}
-use mathlib.Core.Bool.{Bool, true, false, not}
+use mathlib.Core.Bool.{Bool, true, false}
 use mathlib.Core.List.{List}
 use mathlib.Core.Logic.{_≢_, _⊎_, inl, inr}
 use native.Mathlib.Omega.{arith}
@@ -12,7 +12,7 @@ use borrow.Author.Tests.{eq-eqb, ne-eqb}
 use Rattle.rules.specs.Notation.{if_then_else_, _is_}
 use Rattle.rules.specs.Tables.{Tables, beforeNodes, nodeCount, seatCount, phaseAt, ownAt, kindAt, markAt, readersAt, writersAt, readers, writers, countAt, countWord, phase, own, setMark, clearSeat, fresh}
 use Rattle.rules.specs.Comparison.{Claim}
-use Rattle.rules.specs.Shape.{lengthsFit, holdsWith, holdersOfKind, sound}
+use Rattle.rules.specs.Shape.{holdsWith, holdersOfKind, sound}
 use Rattle.rules.specs.Fetch.{Fetched, writeClaim, takeNode, takenOut}
 use Rattle.rules.specs.Answers.{Answer, refused, Done, done}
 use Rattle.rules.specs.Steps.{moveTo, kindOf, hold, leave, refetched}
@@ -26,7 +26,7 @@ use Rattle.rules.specs.HowMany.{CountsRight, CountsMove, stay, one-more,
 use Rattle.rules.proofs.Ground.Logic.{branch}
 use Rattle.rules.proofs.Ground.Deciding.{if-same, if-true}
 use Rattle.rules.proofs.Ground.Counting.{count-none, count-gap, count-change}
-use Rattle.rules.proofs.Laws.Words.{count-low, count-not-head, count-put-same, count-put-other, node-put-top, top-put-node, put-node-length, same-seat-count, fresh-top, fresh-seat-word}
+use Rattle.rules.proofs.Laws.Words.{count-low, count-not-head, count-not-title, count-put-same, count-put-other, node-put-top, top-put-node, put-node-length, same-seat-count, fresh-top, fresh-seat-word}
 use Rattle.rules.proofs.Laws.Shape.{IsKind, Counts, is-sound}
 use Rattle.rules.proofs.Laws.Counts.{wrong-damaged, kinds-apart, own-kind, holder-counts}
 use Rattle.rules.proofs.Laws.NodesAlone.{taken-out-seats}
@@ -35,7 +35,7 @@ use Rattle.rules.proofs.Rules.Effects.{Room}
 use Rattle.rules.proofs.Rules.RuleEffects.{hold-stored, leave-stored, enter-stored}
 use Rattle.rules.proofs.Rules.Reasons.{Fetching, found, found-then, none, Stepping, in-1, in-2, in-3, in-4, in-6, at-rest}
 use Rattle.rules.proofs.Rules.Accepting.{Beginning, begin-refused, begin-accepted, beginning, Stepped, step-refused, step-accepted, stepped, Releasing, release-refused, release-accepted, releasing}
-use Rattle.rules.proofs.Rules.RefusedExactly.{table-refused}
+use Rattle.rules.proofs.Rules.RefusedExactly.{table-refused, clear-accepted}
 use Rattle.rules.proofs.Frames.SeatFrames.{sound-room, other-seats-kept}
 use Rattle.rules.proofs.Frames.NodeFrames.{walking, waking, unless-held, fetching}
 use Rattle.rules.proofs.Frames.ClaimFrames.{others-claims-kept}
@@ -96,7 +96,7 @@ module _ (t : Tables) (s : ℕ) where
   begun-outcome : {c : Claim} {d : Done Answer} → Beginning t s c d → Outcome t s (d .after)
   unfolding begun
   begun-outcome (begin-refused k x) = unchanged refl
-  begun-outcome (begin-accepted {f = f} e h p z w) =
+  begun-outcome (begin-accepted {f = f} e h p i z w) =
       branch (λ (d : Done Answer). Outcome t s (d .after)) (f .node is 0)
       (λ q. unchanged refl) (λ q. fetch-outcome (e, h) (omega arith) w)
 
@@ -229,24 +229,20 @@ counts-unless-damaged t c d =
     (λ e. absurd (d (ap (λ (x : Done Answer). x .answer) (table-refused t c 1 (damaged e)))))
 
 -- ---- in fresh tables nobody holds
-clear-makes-fresh : (t : Tables) → clear t .answer ≡ 0 → clear t .after ≡ fresh (nodeCount t) (seatCount t)
-unfolding clear
-clear-makes-fresh t =
-    branch (λ (d : Done ℕ). d .answer ≡ 0 → d .after ≡ fresh (nodeCount t) (seatCount t)) (not (lengthsFit t)) (λ e q. absurd (omega arith)) (λ e q. refl)
+pub clear-words : (t : Tables) (frames : ℕ) → clear t frames .answer ≡ 0 → (readers (clear t frames .after) ≡ 0) × (writers (clear t frames .after) ≡ 0)
+clear-words t frames e =
+    let word = fresh-top (nodeCount t) (seatCount t) frames in
+    rw (clear-accepted t frames e .makes-fresh) (word readersAt (omega arith), word writersAt (omega arith))
 
-pub clear-words : (t : Tables) → clear t .answer ≡ 0 → (readers (clear t .after) ≡ 0) × (writers (clear t .after) ≡ 0)
-clear-words t e =
-    rw (clear-makes-fresh t e) (fresh-top (nodeCount t) (seatCount t) readersAt, fresh-top (nodeCount t) (seatCount t) writersAt)
-
-fresh-counts : (N S : ℕ) → Counts (fresh N S)
+fresh-counts : (N S frames : ℕ) → Counts (fresh N S frames)
 unfolding holdersOfKind
-fresh-counts N S k kd =
-    let t = fresh N S in
-    let nobody : (s : ℕ) → holdsWith t k s ≡ false = λ s. rw (fresh-seat-word N S s phaseAt) in
-    fresh-top N S (countAt k) ∙ sym (count-gap 0 (seatCount t) (holdsWith t k) (omega arith) (λ s h l. nobody s) ∙ count-none (holdsWith t k))
+fresh-counts N S frames k kd =
+    let t = fresh N S frames in
+    let nobody : (s : ℕ) → holdsWith t k s ≡ false = λ s. rw (fresh-seat-word N S frames s phaseAt) in
+    fresh-top N S frames (countAt k) (count-not-title k) ∙ sym (count-gap 0 (seatCount t) (holdsWith t k) (omega arith) (λ s h l. nobody s) ∙ count-none (holdsWith t k))
 
-pub clear-counts : (t : Tables) → clear t .answer ≡ 0 → Counts (clear t .after)
-clear-counts t e = rw (clear-makes-fresh t e) (fresh-counts (nodeCount t) (seatCount t))
+pub clear-counts : (t : Tables) (frames : ℕ) → clear t frames .answer ≡ 0 → Counts (clear t frames .after)
+clear-counts t frames e = rw (clear-accepted t frames e .makes-fresh) (fresh-counts (nodeCount t) (seatCount t) frames)
 
 pub reached-counts : {N S : ℕ} {t : Tables} → Reached N S t → Counts t
-reached-counts {N} {S} r = reached-has Counts counts-kept (fresh-counts N S) r
+reached-counts {N} {S} r = reached-has Counts counts-kept (λ frames h. fresh-counts N S frames) r

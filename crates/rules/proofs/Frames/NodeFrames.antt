@@ -169,14 +169,14 @@ module _ (t : Tables) (s : ℕ) where
   unfolding hold
   holding = kept-then {u = moveTo t s 5 0 0} only-seats (count-kept (moveTo t s 5 0 0) (kindOf t s) _)
 
-  validating : {u : Tables} → Validating t s u → NodesKept (Prev t s) (Own t s) NoNode (OwnCount t s) t u
+  pub validating : {u : Tables} → Validating t s u → NodesKept (Prev t s) (Own t s) NoNode (OwnCount t s) t u
   validating w = elim (unless-held w) [
     | inl e ↦ rw e (kept-but (λ a x. absurd x) (λ a x. absurd x) (λ a x. x) (λ i x. x) holding)
     | inr f ↦ kept-but (λ a x. x) (λ a x. x) (λ a x. x) (λ i x. absurd x) f
   ]
 
   -- ---- release: the mark of own and a count
-  leaving : NodesKept NoNode (Own t s) NoNode (OwnCount t s) t (leave t s)
+  pub leaving : NodesKept NoNode (Own t s) NoNode (OwnCount t s) t (leave t s)
   unfolding leave
   leaving =
       let u = clearSeat (setMark t (own t s) 1) s in
@@ -202,7 +202,7 @@ module _ (t : Tables) (a : ℕ) (c : Claim) where
       (kept-then {u = t₄} (kept-but (λ b z. z) (λ b z. absurd z) (λ b z. absurd z) (λ i x. x) (link-kept t₃ a 0))
       (kept-but (λ b z. absurd z) (λ b z. z) (λ b z. absurd z) (λ i x. x) (mark-kept t₄ a 0)))))
 
-  taking : (s : ℕ) → NodesKept (Just a) (Just a) (Just a) NoPlace t (takeNode t s a c)
+  pub taking : (s : ℕ) → NodesKept (Just a) (Just a) (Just a) NoPlace t (takeNode t s a c)
   unfolding takeNode enterAtHead
   taking s = seats-aside writing
 
@@ -309,7 +309,7 @@ module _ (t : Tables) (s : ℕ) where
     where
       begun-kept : {d : Done Answer} → Beginning t s c d → FetchKept s t (d .after)
       begun-kept (begin-refused k r) = kept-same t
-      begun-kept (begin-accepted {f = f} e h p z w) = unfold begun in
+      begun-kept (begin-accepted {f = f} e h p i z w) = unfold begun in
           branch (λ (d : Done Answer). FetchKept s t (d .after)) (f .node is 0)
           (λ q. kept-same t) (λ q. fetched-kept (sound-room t s e h) w (eqb-false (f .node) 0 q))
 

@@ -113,7 +113,7 @@ module _ (t : Tables) (s : ℕ) where
 
   begin-others : {c : Claim} {d : Done Answer} → Beginning t s c d → OtherSeatsKept s t (d .after)
   begin-others (begin-refused k r) = same s t
-  begin-others (begin-accepted {f = f} e h p z w) = begun-keeps f (fetching t s (sound-room t s e h) w)
+  begin-others (begin-accepted {f = f} e h p i z w) = begun-keeps f (fetching t s (sound-room t s e h) w)
 
   release-others : {d : Done Answer} → Releasing t s d → OtherSeatsKept s t (d .after)
   release-others (release-refused k r) = same s t

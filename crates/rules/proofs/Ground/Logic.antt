@@ -66,6 +66,11 @@ all5 a b c d f e = let w = all4 a b c d (and-left (a && b && c && d) f e) in (w 
 pub all6 : (a b c d f g : Bool) → (a && b && c && d && f && g) ≡ true → (a ≡ true) × (b ≡ true) × (c ≡ true) × (d ≡ true) × (f ≡ true) × (g ≡ true)
 all6 a b c d f g e = let w = all5 a b c d f (and-left (a && b && c && d && f) g e) in (w .0, w .1, w .2, w .3, w .4, and-right (a && b && c && d && f) g e)
 
+pub all7 : (a b c d f g h : Bool) → (a && b && c && d && f && g && h) ≡ true → (a ≡ true) × (b ≡ true) × (c ≡ true) × (d ≡ true) × (f ≡ true) × (g ≡ true) × (h ≡ true)
+all7 a b c d f g h e =
+    let w = all6 a b c d f g (and-left (a && b && c && d && f && g) h e) in
+    (w .0, w .1, w .2, w .3, w .4, w .5, and-right (a && b && c && d && f && g) h e)
+
 pub and-not : (a b : Bool) → (a && b) ≡ false → (a ≡ false) ⊎ (b ≡ false)
 and-not true b e = inr e
 and-not false b e = inl refl

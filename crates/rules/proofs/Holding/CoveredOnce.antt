@@ -1,13 +1,15 @@
--- Why covered frames fit 32 bits where the tables' words do, and why no two holders share a frame where all of them write.
+-- Why covered frames fit 32 bits where the tables' words do, why holders stay before the title's end, and why no two of them share a frame where
+-- all of them write.
 use Prim.Native.Nat.{ℕ, zero, suc, _≤_, _<_}
 use mathlib.Core.Path.{_≡_}
 use mathlib.Core.List.{List}
 use mathlib.Core.Logic.{_≢_}
 use native.Mathlib.Omega.{arith}
-use Rattle.rules.specs.Tables.{Tables, nodeWord, own, endAt}
+use Rattle.rules.specs.Tables.{Tables, nodeWord, title, own, endAt}
 use Rattle.rules.specs.Reached.{Reached}
 use Rattle.rules.specs.Apart.{claimOfSeat, Holds}
 use Rattle.rules.specs.Covered.{HolderCovers, In32Bits}
+use Rattle.rules.specs.Title.{AllWithin}
 use Rattle.rules.proofs.Keeping.CallKeeps.{good}
 use Rattle.rules.proofs.Holding.Exclusion.{both-read}
 
@@ -19,6 +21,12 @@ word-fits words fit (suc a) f = fit _
 pub ends-in-32-bits : (t : Tables) → In32Bits (t .nodes) → (s frame : ℕ) → HolderCovers t s frame → frame < 4294967295
 ends-in-32-bits t words s frame h =
     let e = word-fits (t .nodes) words (own t s) endAt in
+    let c = h .2 .1 in
+    omega arith
+
+pub ends-in-title : (t : Tables) → AllWithin t → (s frame : ℕ) → HolderCovers t s frame → frame < title t
+ends-in-title t w s frame h =
+    let e = w .within (own t s) in
     let c = h .2 .1 in
     omega arith
 

@@ -100,7 +100,7 @@ module _ {N S : ℕ} {t : Tables} (g : Good N S t) where
   -- ---- a call of the seat itself
   kept-by-begin : (s : ℕ) (c : Claim) {d : Done Answer} → Linked (phase t s) → Beginning t s c d → StillStands s t (d .after)
   kept-by-begin s c l (begin-refused k x) = stands-as-it-is g s l
-  kept-by-begin s c l (begin-accepted e h p z w) = absurd (linked-busy l z)
+  kept-by-begin s c l (begin-accepted e h p i z w) = absurd (linked-busy l z)
 
   kept-by-release : (s : ℕ) {d : Done Answer} → Linked (phase t s) → Releasing t s d → release t s ≡ d → StillStands s t (d .after) ⊎ GivesUp s t (releaseCall s)
   kept-by-release s l (release-refused k x) q = inl (stands-as-it-is g s l)

@@ -1,6 +1,6 @@
 -- Run is its steps: its count says how many entries were stepped, each accepted, and its tables are those after these steps; and it stops as
 -- 01 says. Requests are the single calls that they come to, and what every call keeps every reached table has.
-use Prim.Native.Nat.{ℕ, zero, suc}
+use Prim.Native.Nat.{ℕ, zero, suc, _≤_}
 use mathlib.Core.Path.{_≡_, refl, sym, ap, _∙_}
 use mathlib.Core.Bool.{true}
 use mathlib.Core.List.{List, [], _∷_, _++_}
@@ -82,8 +82,14 @@ module _ (P : Tables → Type 0) (kept : (t : Tables) (c : Call) → P t → P (
   pub run-keeps : (t : Tables) (schedule : List ℕ) (budget : ℕ) → P t → P (run t schedule budget .after)
   run-keeps t schedule budget p = rw (run-is-its-steps t schedule budget .tables-after) (calls-keep _ t p)
 
-  pub reached-has : {N S : ℕ} {t : Tables} → P (fresh N S) → Reached N S t → P t
-  reached-has p (cleared a b c d) = p
+  pub requests-keep : (requests : List Request) (t : Tables) → P t → P (afterRequests t requests)
+  unfolding afterRequests
+  requests-keep [] t p = p
+  requests-keep (single c ∷ rest) t p = requests-keep rest (call t c .after) (kept t c p)
+  requests-keep (running schedule budget ∷ rest) t p = requests-keep rest (run t schedule budget .after) (run-keeps t schedule budget p)
+
+  pub reached-has : {N S : ℕ} {t : Tables} → ((frames : ℕ) → 1 ≤ frames → P (fresh N S frames)) → Reached N S t → P t
+  reached-has p (cleared a b c d {frames} e) = p frames e
   reached-has p (asked {t} r (single c)) = kept t c (reached-has p r)
   reached-has p (asked {t} r (running schedule budget)) = run-keeps t schedule budget (reached-has p r)
 

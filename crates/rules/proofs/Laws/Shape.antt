@@ -9,10 +9,11 @@ use native.Mathlib.Numerals.{add-one}
 use lib.ListN.{length}
 use borrow.Author.Tests.{eqb-true, eqb-false, leb-true, leb-false, ltb-true, ltb-false, eq-eqb, ne-eqb, le-leb, lt-ltb}
 use Rattle.rules.specs.Notation.{_is_, _≤?_, _<?_}
-use Rattle.rules.specs.Tables.{Tables, tables, seatCountOf, nodeCount, seatCount, beforeNodes, nodeWidth, seatWidth, phaseAt, ownAt, prevAt, curAt, seatWord, readers, writers, countWord, start, end, kind, mark, link, next, head, phase, own, prev, cur}
-use Rattle.rules.specs.Shape.{nodesFit, seatsFit, lengthsFit, isKind, zeroNode, claimNode, names, nodeSound, isPhase, zeroSeat, idleOrOwning, restingAtZero, waitingAtCur, seatSound, holdersOfKind, countsFit, endsWithin, nodesSound, seatsSound, sound}
-use Rattle.rules.proofs.Ground.Logic.{either, or-left, or-right, or-case, and-left, and-right, and-both, both, all3, all4, all5, all6, not-true, of-not, branch, all-at, all-of}
-use Rattle.rules.proofs.Laws.Words.{link-past, seat-past}
+use Rattle.rules.specs.Tables.{Tables, tables, seatCountOf, nodeCount, seatCount, beforeNodes, nodeWidth, seatWidth, endAt, phaseAt, ownAt, prevAt, curAt, seatWord, readers, writers, countWord, title, start, end, kind, mark, link, next, head, phase, own, prev, cur}
+use Rattle.rules.specs.Shape.{nodesFit, seatsFit, lengthsFit, isKind, zeroNode, claimNode, names, nodeSound, isPhase, zeroSeat, idleOrOwning, restingAtZero, waitingAtCur, seatSound, holdersOfKind, countsFit, endsBy, titleFits, endsWithin, nodesSound, seatsSound, sound}
+use Rattle.rules.specs.Title.{AllWithin}
+use Rattle.rules.proofs.Ground.Logic.{either, or-left, or-right, or-case, and-left, and-right, and-both, both, all3, all4, all5, all7, not-true, of-not, branch, all-at, all-of}
+use Rattle.rules.proofs.Laws.Words.{node-zero, node-past, link-past, seat-past}
 
 -- ---- a kind
 abbrev pub IsKind : ℕ → Type 0
@@ -148,8 +149,7 @@ module _ (t : Tables) (s : ℕ) where
   pub seat-sound : seatSound t s ≡ true → SeatSound t s
   unfolding seatSound isPhase restingAtZero waitingAtCur
   seat-sound e =
-      let f = and-left (isPhase t s && idleOrOwning t s && restingAtZero t s && waitingAtCur t s && names t (own t s) && names t (prev t s)) (names t (cur t s)) e in
-      let w = all6 (isPhase t s) (idleOrOwning t s) (restingAtZero t s) (waitingAtCur t s) (names t (own t s)) (names t (prev t s)) f in
+      let w = all7 (isPhase t s) (idleOrOwning t s) (restingAtZero t s) (waitingAtCur t s) (names t (own t s)) (names t (prev t s)) (names t (cur t s)) e in
       record {
         phase-small = leb-true (phase t s) 6 (w .0);
         idle = zeros-of (w .1);
@@ -159,7 +159,7 @@ module _ (t : Tables) (s : ℕ) where
         waiting = λ p. eqb-false (cur t s) 0 (not-true (cur t s is 0) (two-phases (phase t s) 2 4 (not (cur t s is 0)) (w .3) p));
         own-names = named t (own t s) (w .4);
         prev-names = named t (prev t s) (w .5);
-        cur-names = named t (cur t s) (and-right (isPhase t s && idleOrOwning t s && restingAtZero t s && waitingAtCur t s && names t (own t s) && names t (prev t s)) (names t (cur t s)) e);
+        cur-names = named t (cur t s) (w .6);
       }
 
   pub seat-sound-is : SeatSound t s → seatSound t s ≡ true
@@ -220,6 +220,28 @@ counts-fit-is t c =
     and-both (readers t is holdersOfKind t 1) (writers t is holdersOfKind t 2)
     (eq-eqb (readers t) (holdersOfKind t 1) (c 1 (inl refl))) (eq-eqb (writers t) (holdersOfKind t 2) (c 2 (inr refl)))
 
+-- ---- the title: a node past the last one, and node 0, read as ending at 0
+title-fits : (t : Tables) → length (t .nodes) ≡ beforeNodes + nodeWidth * nodeCount t → titleFits t ≡ true → AllWithin t
+unfolding titleFits endsBy
+title-fits t long e = record { some = leb-true 1 (title t) (w .0); within = within }
+  where
+    w : (1 ≤? title t ≡ true) × (endsBy t (title t) ≡ true)
+    w = both (1 ≤? title t) (endsBy t (title t)) e
+
+    within : (a : ℕ) → end t a ≤ title t
+    within zero = rw (node-zero (t .nodes) endAt) (omega arith)
+    within (suc m) =
+        ⊎-elim
+        (λ p. rw (add-one m) at (leb-true (end t (m + 1)) (title t) (all-at (nodeCount t) m (λ m. end t (m + 1) ≤? title t) (w .1) (ltb-true m (nodeCount t) p))))
+        (λ p. rw (node-past t (suc m) endAt (omega arith) long (let q = ltb-false m (nodeCount t) p in omega arith)) (omega arith))
+        (either (m <? nodeCount t))
+
+title-fits-is : (t : Tables) → AllWithin t → titleFits t ≡ true
+unfolding titleFits endsBy
+title-fits-is t w =
+    and-both (1 ≤? title t) (endsBy t (title t)) (le-leb 1 (title t) (w .some))
+    (all-of (nodeCount t) (λ m. end t (m + 1) ≤? title t) (λ m h. le-leb (end t (m + 1)) (title t) (w .within (m + 1))))
+
 -- ---- the whole
 pub record Sound (t : Tables) : Type 0 where
   pub nodes-length : length (t .nodes) ≡ beforeNodes + nodeWidth * nodeCount t
@@ -228,6 +250,7 @@ pub record Sound (t : Tables) : Type 0 where
   pub seats-length : length (t .seats) ≡ seatWidth * seatCount t
   pub some-seats : 1 ≤ seatCount t
   pub few-seats : seatCount t ≤ 64
+  pub all-within : AllWithin t
   pub node : (a : ℕ) → a ≢ 0 → a ≤ nodeCount t → ZeroNode t a ⊎ ClaimNode t a
   pub link-names : (a : ℕ) → Names t (link t a)
   pub seat : (s : ℕ) → SeatSound t s
@@ -289,7 +312,7 @@ module _ (t : Tables) where
   pub is-sound : sound t ≡ true → Sound t
   unfolding sound
   is-sound e =
-      let w = all6 (lengthsFit t) (nodesSound t) (names t (head t)) (seatsSound t) (countsFit t) (endsWithin (nodeCount t) t (head t)) e in
+      let w = all7 (lengthsFit t) (titleFits t) (nodesSound t) (names t (head t)) (seatsSound t) (countsFit t) (endsWithin (nodeCount t) t (head t)) e in
       let fit = lengths-fit t (w .0) in
       record {
         nodes-length = fit .nodes-length;
@@ -298,11 +321,12 @@ module _ (t : Tables) where
         seats-length = fit .seats-length;
         some-seats = fit .some-seats;
         few-seats = fit .few-seats;
-        node = λ a z h. node-case a (node-of (w .1) a z h);
-        link-names = links-name (fit .nodes-length) (w .1) (named t (head t) (w .2));
-        seat = seats-all (fit .seats-length) (w .3);
-        counts = counts-fit t (w .4);
-        ends = w .5;
+        all-within = title-fits t (fit .nodes-length) (w .1);
+        node = λ a z h. node-case a (node-of (w .2) a z h);
+        link-names = links-name (fit .nodes-length) (w .2) (named t (head t) (w .3));
+        seat = seats-all (fit .seats-length) (w .4);
+        counts = counts-fit t (w .5);
+        ends = w .6;
       }
 
   -- the other way
@@ -336,7 +360,7 @@ module _ (t : Tables) where
 
   pub sound-is : Sound t → sound t ≡ true
   unfolding sound
-  sound-is w = rw (lengths-fit-is w, nodes-sound-is w, name-of t (head t) (w .link-names 0), seats-sound-is w, counts-fit-is t (w .counts), w .ends)
+  sound-is w = rw (lengths-fit-is w, title-fits-is t (w .all-within), nodes-sound-is w, name-of t (head t) (w .link-names 0), seats-sound-is w, counts-fit-is t (w .counts), w .ends)
 
 -- S of sound tables, as the code counts it
 pub seats-few : (n t : List ℕ) (c : ℕ) → c ≡ seatCountOf t → sound (tables n t) ≡ true → c ≤ 64

@@ -9,7 +9,7 @@ use native.Mathlib.Omega.{arith}
 use native.Mathlib.Decide.{decLt}
 use lib.ListN.{getD, set, length, length-set, length-replicate, getD-replicate, List·getD-eq-default}
 use lib.Seq.{ext-getD, set-getD, getD-set-same, getD-set-other}
-use Rattle.rules.specs.Tables.{Tables, headAt, countAt, countWord, setCount, beforeNodes, nodeWidth, seatWidth, nextAt, topWord, putTop, nodeWord, putNode, linkWord, putLink, seatWord, putSeat, nodeCountOf, seatCountOf, nodeCount, seatCount, zeros, fresh}
+use Rattle.rules.specs.Tables.{Tables, headAt, titleAt, countAt, countWord, setCount, beforeNodes, nodeWidth, seatWidth, nextAt, topWord, putTop, nodeWord, putNode, linkWord, putLink, seatWord, putSeat, nodeCountOf, seatCountOf, nodeCount, seatCount, title, zeros, fresh}
 use Rattle.rules.specs.Notation.{_is_}
 use Rattle.rules.proofs.Ground.Deciding.{if-same}
 use Rattle.rules.proofs.Ground.Logic.{branch}
@@ -60,6 +60,20 @@ node-put-node l zero b f g v h i d = refl
 node-put-node l (suc m) zero f g v h i d = refl
 node-put-node l (suc m) (suc k) f g v h i d =
     getD-set-other l (beforeNodes + nodeWidth * m + f) (beforeNodes + nodeWidth * k + g) v 0 (λ e. d (omega arith))
+
+-- a store keeps a bound on a word of every node, whether the table has the node or not
+pub node-put-at-most : (l : List ℕ) (a b f v most : ℕ) → f < nodeWidth → v ≤ most → nodeWord l b f ≤ most → nodeWord (putNode l a f v) b f ≤ most
+unfolding nodeWord putNode
+node-put-at-most l zero b f v most h i j = j
+node-put-at-most l (suc m) zero f v most h i j = j
+node-put-at-most l (suc m) (suc k) f v most h i j =
+    let at = beforeNodes + nodeWidth * m + f in
+    if-same m k
+    (λ e. elim (decLt at (length l)) [
+      | yes q ↦ rw (← e, getD-set-same l at v 0 q) i
+      | no q ↦ rw (← e, List·getD-eq-default (set l at v) 0 {n = at} (let r = length-set l at v in omega arith)) (omega arith)
+    ])
+    (λ d. rw (getD-set-other l at (beforeNodes + nodeWidth * k + f) v 0 (λ e. d (omega arith))) j)
 
 -- node 0 has only zeros
 pub node-zero : (l : List ℕ) (f : ℕ) → nodeWord l 0 f ≡ 0
@@ -131,12 +145,15 @@ unfolding linkWord
 link-put-top l i zero v h d = top-put-other l i headAt v d
 link-put-top l i (suc m) v h d = node-put-top l i (suc m) nextAt v h
 
--- the two counts stand before node 1, behind the head
+-- the two counts stand before node 1, behind the head and before the title
 pub count-low : (k : ℕ) → countAt k < beforeNodes
 count-low k = branch (λ (i : ℕ). i < beforeNodes) (k is 1) (λ e. omega arith) (λ e. omega arith)
 
 pub count-not-head : (k : ℕ) → countAt k ≢ headAt
 count-not-head k = branch (λ (i : ℕ). i ≢ headAt) (k is 1) (λ e. omega arith) (λ e. omega arith)
+
+pub count-not-title : (k : ℕ) → countAt k ≢ titleAt
+count-not-title k = branch (λ (i : ℕ). i ≢ titleAt) (k is 1) (λ e. omega arith) (λ e. omega arith)
 
 pub count-put-same : (t : Tables) (k v : ℕ) → beforeNodes ≤ length (t .nodes) → countWord (setCount t k v) k ≡ v
 count-put-same t k v h = top-put-same (t .nodes) (countAt k) v (let l = count-low k in omega arith)
@@ -204,30 +221,38 @@ zero-at n k = elim (decLt k n) [
   | no h ↦ List·getD-eq-default {A = ℕ} (zeros n) 0 {n = k} (let l = length-replicate {A = ℕ} n 0 in omega arith)
 ]
 
-module _ (N S : ℕ) where
-  pub fresh-nodes-length : length (fresh N S .nodes) ≡ beforeNodes + nodeWidth * N
-  unfolding fresh
-  fresh-nodes-length = length-replicate (beforeNodes + nodeWidth * N) 0
+module _ (N S frames : ℕ) where
+  abbrev noNodes : List ℕ
+  noNodes = zeros (beforeNodes + nodeWidth * N)
 
-  pub fresh-seats-length : length (fresh N S .seats) ≡ seatWidth * S
+  pub fresh-nodes-length : length (fresh N S frames .nodes) ≡ beforeNodes + nodeWidth * N
+  unfolding fresh
+  fresh-nodes-length = put-top-length noNodes titleAt frames ∙ length-replicate (beforeNodes + nodeWidth * N) 0
+
+  pub fresh-seats-length : length (fresh N S frames .seats) ≡ seatWidth * S
   unfolding fresh
   fresh-seats-length = length-replicate (seatWidth * S) 0
 
-  pub fresh-node-word : (a f : ℕ) → nodeWord (fresh N S .nodes) a f ≡ 0
+  pub fresh-node-word : (a f : ℕ) → nodeWord (fresh N S frames .nodes) a f ≡ 0
   unfolding fresh nodeWord
   fresh-node-word zero f = refl
-  fresh-node-word (suc m) f = zero-at (beforeNodes + nodeWidth * N) (beforeNodes + nodeWidth * m + f)
+  fresh-node-word (suc m) f =
+      node-put-top noNodes titleAt (suc m) f frames (omega arith) ∙ zero-at (beforeNodes + nodeWidth * N) (beforeNodes + nodeWidth * m + f)
 
-  pub fresh-top : (i : ℕ) → topWord (fresh N S .nodes) i ≡ 0
+  pub fresh-title : title (fresh N S frames) ≡ frames
   unfolding fresh
-  fresh-top i = zero-at (beforeNodes + nodeWidth * N) i
+  fresh-title = top-put-same noNodes titleAt frames (let l = length-replicate {A = ℕ} (beforeNodes + nodeWidth * N) 0 in omega arith)
 
-  pub fresh-link : (a : ℕ) → linkWord (fresh N S .nodes) a ≡ 0
+  pub fresh-top : (i : ℕ) → i ≢ titleAt → topWord (fresh N S frames .nodes) i ≡ 0
+  unfolding fresh
+  fresh-top i d = top-put-other noNodes titleAt i frames (λ e. d (sym e)) ∙ zero-at (beforeNodes + nodeWidth * N) i
+
+  pub fresh-link : (a : ℕ) → linkWord (fresh N S frames .nodes) a ≡ 0
   unfolding fresh linkWord
-  fresh-link zero = fresh-top headAt
+  fresh-link zero = fresh-top headAt (omega arith)
   fresh-link (suc m) = fresh-node-word (suc m) nextAt
 
-  pub fresh-seat-word : (s f : ℕ) → seatWord (fresh N S .seats) s f ≡ 0
+  pub fresh-seat-word : (s f : ℕ) → seatWord (fresh N S frames .seats) s f ≡ 0
   unfolding fresh seatWord
   fresh-seat-word s f = zero-at (seatWidth * S) (seatWidth * s + f)
 

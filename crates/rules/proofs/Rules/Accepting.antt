@@ -4,9 +4,9 @@ use mathlib.Core.Path.{_≡_}
 use mathlib.Core.Bool.{true, false, not}
 use mathlib.Core.Logic.{_≢_}
 use native.Mathlib.Omega.{arith}
-use borrow.Author.Tests.{eqb-true, eqb-false, leb-true, leb-false, not-false, lt-leb, ne-eqb}
-use Rattle.rules.specs.Notation.{if_then_else_, _is_, _≤?_}
-use Rattle.rules.specs.Tables.{Tables, seatCount, phase}
+use borrow.Author.Tests.{eqb-true, eqb-false, leb-true, leb-false, ltb-true, ltb-false, not-false, lt-leb, ne-eqb}
+use Rattle.rules.specs.Notation.{if_then_else_, _is_, _≤?_, _<?_}
+use Rattle.rules.specs.Tables.{Tables, seatCount, title, phase}
 use Rattle.rules.specs.Comparison.{Claim}
 use Rattle.rules.specs.Shape.{sound, isKind}
 use Rattle.rules.specs.Fetch.{Fetched}
@@ -16,7 +16,7 @@ use Rattle.rules.specs.Calls.{noSeat, begun, begin, step, release}
 use Rattle.rules.specs.Play.{Call, beginCall, stepCall, releaseCall}
 use Rattle.rules.proofs.Ground.Logic.{branch, not-true, or-neither}
 use Rattle.rules.proofs.Laws.Shape.{is-kind}
-use Rattle.rules.specs.Refusing.{HasSeat, Proper, Refuses, damaged, no-seat, no-frames, no-kind, not-idle, idle, not-holding, none-to-begin, none-again}
+use Rattle.rules.specs.Refusing.{HasSeat, Proper, WithinTitle, Refuses, damaged, no-seat, no-frames, beyond-title, no-kind, not-idle, idle, not-holding, none-to-begin, none-again}
 use Rattle.rules.proofs.Rules.Reasons.{Fetching, fetching, Stepping, steps}
 
 -- a refusal has a number other than 0, which is 1 only for damaged tables
@@ -24,22 +24,24 @@ pub refuses-some : {t : Tables} {c : Call} {number : ℕ} → Refuses t c number
 refuses-some (damaged e) = omega arith
 refuses-some (no-seat e h) = omega arith
 refuses-some (no-frames w h) = omega arith
-refuses-some (no-kind w h k k′) = omega arith
-refuses-some (not-idle w p d) = omega arith
+refuses-some (beyond-title w h b) = omega arith
+refuses-some (no-kind w h i k k′) = omega arith
+refuses-some (not-idle w p i d) = omega arith
 refuses-some (idle w e) = omega arith
 refuses-some (not-holding w d) = omega arith
-refuses-some (none-to-begin w p e n) = omega arith
+refuses-some (none-to-begin w p i e n) = omega arith
 refuses-some (none-again w e n) = omega arith
 
 pub refuses-1 : {t : Tables} {c : Call} {number : ℕ} → Refuses t c number → number ≡ 1 → sound t ≡ false
 refuses-1 (damaged e) q = e
 refuses-1 (no-seat e h) q = absurd (omega arith)
 refuses-1 (no-frames w h) q = absurd (omega arith)
-refuses-1 (no-kind w h k k′) q = absurd (omega arith)
-refuses-1 (not-idle w p d) q = absurd (omega arith)
+refuses-1 (beyond-title w h b) q = absurd (omega arith)
+refuses-1 (no-kind w h i k k′) q = absurd (omega arith)
+refuses-1 (not-idle w p i d) q = absurd (omega arith)
 refuses-1 (idle w e) q = absurd (omega arith)
 refuses-1 (not-holding w d) q = absurd (omega arith)
-refuses-1 (none-to-begin w p e n) q = absurd (omega arith)
+refuses-1 (none-to-begin w p i e n) q = absurd (omega arith)
 refuses-1 (none-again w e n) q = absurd (omega arith)
 
 no-such-kind : (k : ℕ) → not (isKind k) ≡ true → (k ≢ 1) × (k ≢ 2)
@@ -59,7 +61,7 @@ seat-first t s P broken past there =
 
 pub data Beginning (t : Tables) (s : ℕ) (c : Claim) : Done Answer → Type 0 where
   begin-refused : (number : ℕ) → Refuses t (beginCall s c) number → Beginning t s c (done (refused number) t)
-  begin-accepted : {f : Fetched} → sound t ≡ true → s < seatCount t → Proper c → phase t s ≡ 0 → Fetching t s c f → Beginning t s c (begun t f)
+  begin-accepted : {f : Fetched} → sound t ≡ true → s < seatCount t → Proper c → WithinTitle t c → phase t s ≡ 0 → Fetching t s c f → Beginning t s c (begun t f)
 
 pub beginning : (t : Tables) (s : ℕ) (c : Claim) → Beginning t s c (begin t s c)
 unfolding begin
@@ -67,10 +69,12 @@ beginning t s c =
     seat-first t s (Beginning t s c) (λ e. begin-refused 1 (damaged e)) (λ e h. begin-refused 2 (no-seat e h)) (λ has.
     branch (Beginning t s c) (c .end ≤? c .start) (λ e. begin-refused 3 (no-frames has (leb-true (c .end) (c .start) e))) (λ e₃.
     let frames = leb-false (c .end) (c .start) e₃ in
-    branch (Beginning t s c) (not (isKind (c .kind))) (λ e. let k = no-such-kind (c .kind) e in begin-refused 4 (no-kind has frames (k .0) (k .1))) (λ e₄.
+    branch (Beginning t s c) (title t <? c .end) (λ e. begin-refused 11 (beyond-title has frames (ltb-true (title t) (c .end) e))) (λ e₁₁.
+    let within = ltb-false (title t) (c .end) e₁₁ in
+    branch (Beginning t s c) (not (isKind (c .kind))) (λ e. let k = no-such-kind (c .kind) e in begin-refused 4 (no-kind has frames within (k .0) (k .1))) (λ e₄.
     let proper : Proper c = record { some = frames; reads-or-writes = is-kind (c .kind) (not-false (isKind (c .kind)) e₄) } in
-    branch (Beginning t s c) (not (phase t s is 0)) (λ e. begin-refused 5 (not-idle has proper (eqb-false (phase t s) 0 (not-true (phase t s is 0) e)))) (λ e₅.
-    begin-accepted (has .is-sound) (has .is-seat) proper (eqb-true (phase t s) 0 (not-false (phase t s is 0) e₅)) (fetching t s c)))))
+    branch (Beginning t s c) (not (phase t s is 0)) (λ e. begin-refused 5 (not-idle has proper within (eqb-false (phase t s) 0 (not-true (phase t s is 0) e)))) (λ e₅.
+    begin-accepted (has .is-sound) (has .is-seat) proper within (eqb-true (phase t s) 0 (not-false (phase t s is 0) e₅)) (fetching t s c))))))
 
 pub data Stepped (t : Tables) (s : ℕ) : Done Answer → Type 0 where
   step-refused : (number : ℕ) → Refuses t (stepCall s) number → Stepped t s (done (refused number) t)

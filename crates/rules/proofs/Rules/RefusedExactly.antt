@@ -1,14 +1,14 @@
 -- The calls refuse exactly as the tables of specs/Refusing.antt say, and what is refused changes nothing. Of any tables and numbers.
 use Prim.Native.Nat.{ℕ, _/_, _≤_, _<_}
-use mathlib.Core.Path.{_≡_, sym, ap, subst, _∙_}
+use mathlib.Core.Path.{_≡_, refl, sym, ap, subst, _∙_}
 use mathlib.Core.Bool.{true, false, not}
 use mathlib.Core.List.{List}
 use mathlib.Core.Logic.{_≢_, _⊎_, inl, inr}
 use native.Mathlib.Omega.{arith}
 use lib.ListN.{length}
-use borrow.Author.Tests.{ltb-true, lt-ltb, le-leb, lt-leb, eq-eqb, ne-eqb, not-false}
+use borrow.Author.Tests.{ltb-true, lt-ltb, le-ltb, le-leb, lt-leb, eqb-true, eqb-false, eq-eqb, ne-eqb, not-false}
 use Rattle.rules.specs.Notation.{if_then_else_, _is_, _<?_}
-use Rattle.rules.specs.Tables.{Tables, seatCount, phase, own}
+use Rattle.rules.specs.Tables.{Tables, nodeCount, seatCount, title, phase, own, fresh}
 use Rattle.rules.specs.Comparison.{Claim, claimOf}
 use Rattle.rules.specs.Shape.{lengthsFit, sound, isKind}
 use Rattle.rules.specs.Fetch.{Fetched, fetched, fetch, fetchAgain}
@@ -19,7 +19,7 @@ use Rattle.rules.specs.FreeCount.{Counted, freeCount}
 use Rattle.rules.specs.Board.{Boarded, Shown, shown, holders, board, rowWidth, boardNumbers}
 use Rattle.rules.specs.Run.{refusalOf}
 use Rattle.rules.specs.Play.{Call, beginCall, stepCall, releaseCall, call, seatOf}
-use Rattle.rules.specs.Refusing.{HasSeat, Proper, NoNodeFree, Refuses, damaged, no-seat, no-frames, no-kind, not-idle, idle, not-holding, none-to-begin, none-again, ClearRefuses, lengths-wrong, DamageRefuses, tables-damaged, BoardRefuses, board-damaged, too-few-rows}
+use Rattle.rules.specs.Refusing.{HasSeat, Proper, WithinTitle, NoNodeFree, Refuses, damaged, no-seat, no-frames, beyond-title, no-kind, not-idle, idle, not-holding, none-to-begin, none-again, ClearRefuses, lengths-wrong, no-frames-at-all, DamageRefuses, tables-damaged, BoardRefuses, board-damaged, too-few-rows}
 use Rattle.rules.specs.declared.Row.{Row}
 use Rattle.rules.proofs.Ground.Logic.{branch, not-true, neither, or-left, or-right}
 use Rattle.rules.proofs.Laws.Answers.{refused-as, answers-no-refusal}
@@ -34,11 +34,11 @@ not-refused : {A : Type 0} {n k : ℕ} → node n ≡ refused k → A
 not-refused q = let z : _≡_ {A = ℕ} 0 1 = cc in absurd (omega arith)
 
 module _ (t : Tables) (s k : ℕ) (has : HasSeat t s) where
-  begun-refused : (c : Claim) {f : Fetched} → Proper c → phase t s ≡ 0 → Fetching t s c f → begun t f .answer ≡ refused k → Refuses t (beginCall s c) k
+  begun-refused : (c : Claim) {f : Fetched} → Proper c → WithinTitle t c → phase t s ≡ 0 → Fetching t s c f → begun t f .answer ≡ refused k → Refuses t (beginCall s c) k
   unfolding begun
-  begun-refused c p z (found a e d) q = not-refused (rw (ne-eqb a 0 d) at q)
-  begun-refused c p z (found-then a e e′ d) q = not-refused (rw (ne-eqb a 0 d) at q)
-  begun-refused c p z (none e e′) q = same-number (none-to-begin has p z (record { at-first = e; marked-out = e′ })) q
+  begun-refused c p i z (found a e d) q = not-refused (rw (ne-eqb a 0 d) at q)
+  begun-refused c p i z (found-then a e e′ d) q = not-refused (rw (ne-eqb a 0 d) at q)
+  begun-refused c p i z (none e e′) q = same-number (none-to-begin has p i z (record { at-first = e; marked-out = e′ })) q
 
   refetched-refused : (c : Claim) {f : Fetched} → phase t s ≡ 6 → Fetching t s c f → refetched t s f .answer ≡ refused k → Refuses t (stepCall s) k
   unfolding refetched
@@ -60,7 +60,7 @@ seat-of e h = record { is-sound = e; is-seat = h }
 module _ (t : Tables) (s k : ℕ) where
   begin-by-table : (c : Claim) {d : Done Answer} → Beginning t s c d → d .answer ≡ refused k → Refuses t (beginCall s c) k
   begin-by-table c (begin-refused number x) q = same-number x q
-  begin-by-table c (begin-accepted e h p z w) q = begun-refused t s k (seat-of e h) c p z w q
+  begin-by-table c (begin-accepted e h p i z w) q = begun-refused t s k (seat-of e h) c p i z w q
 
   step-by-table : {d : Done Answer} → Stepped t s d → d .answer ≡ refused k → Refuses t (stepCall s) k
   step-by-table (step-refused number x) q = same-number x q
@@ -107,14 +107,16 @@ unfolding call begin step release begun refetched
 table-refused t c k (damaged e) = damaged-refused t c e
 table-refused t c k (no-seat e h) = past-refused t c e h
 table-refused t _ k (no-frames {s = s} {c = c} w h) = rw (w .is-sound, lt-leb (seatCount t) s (w .is-seat), le-leb (c .end) (c .start) h)
-table-refused t _ k (no-kind {s = s} {c = c} w h d d′) =
-    rw (w .is-sound, lt-leb (seatCount t) s (w .is-seat), lt-leb (c .end) (c .start) h, no-kind-at-all (c .kind) d d′)
-table-refused t _ k (not-idle {s = s} {c = c} w p d) =
-    rw (w .is-sound, lt-leb (seatCount t) s (w .is-seat), lt-leb (c .end) (c .start) (p .some), is-a-kind (c .kind) (p .reads-or-writes), ne-eqb (phase t s) 0 d)
+table-refused t _ k (beyond-title {s = s} {c = c} w h b) =
+    rw (w .is-sound, lt-leb (seatCount t) s (w .is-seat), lt-leb (c .end) (c .start) h, lt-ltb (title t) (c .end) b)
+table-refused t _ k (no-kind {s = s} {c = c} w h i d d′) =
+    rw (w .is-sound, lt-leb (seatCount t) s (w .is-seat), lt-leb (c .end) (c .start) h, le-ltb (title t) (c .end) i, no-kind-at-all (c .kind) d d′)
+table-refused t _ k (not-idle {s = s} {c = c} w p i d) =
+    rw (w .is-sound, lt-leb (seatCount t) s (w .is-seat), lt-leb (c .end) (c .start) (p .some), le-ltb (title t) (c .end) i, is-a-kind (c .kind) (p .reads-or-writes), ne-eqb (phase t s) 0 d)
 table-refused t _ k (idle {s = s} w e) = rw (w .is-sound, lt-leb (seatCount t) s (w .is-seat), eq-eqb (phase t s) 0 e)
 table-refused t _ k (not-holding {s = s} w d) = rw (w .is-sound, lt-leb (seatCount t) s (w .is-seat), ne-eqb (phase t s) 5 d)
-table-refused t _ k (none-to-begin {s = s} {c = c} w p e n) =
-    rw (w .is-sound, lt-leb (seatCount t) s (w .is-seat), lt-leb (c .end) (c .start) (p .some), is-a-kind (c .kind) (p .reads-or-writes), eq-eqb (phase t s) 0 e, no-node-found t s c n)
+table-refused t _ k (none-to-begin {s = s} {c = c} w p i e n) =
+    rw (w .is-sound, lt-leb (seatCount t) s (w .is-seat), lt-leb (c .end) (c .start) (p .some), le-ltb (title t) (c .end) i, is-a-kind (c .kind) (p .reads-or-writes), eq-eqb (phase t s) 0 e, no-node-found t s c n)
 table-refused t _ k (none-again {s = s} w e n) =
     step-is t s (w .is-sound) (w .is-seat) (omega arith) ∙ by-phase-6 t s e ∙ rw (no-node-found t s (claimOf t (own t s)) n)
 
@@ -129,16 +131,35 @@ unfolding call
 refused-step-keeps t s = refused-keeps t (stepCall s)
 
 -- ---- clear, free count and board
-pub clear-by-table : (t : Tables) (k : ℕ) → clear t .answer ≡ k → k ≢ 0 → ClearRefuses t k
+pub clear-by-table : (t : Tables) (frames k : ℕ) → clear t frames .answer ≡ k → k ≢ 0 → ClearRefuses t frames k
 unfolding clear
-clear-by-table t k =
-    branch (λ (d : Done ℕ). d .answer ≡ k → k ≢ 0 → ClearRefuses t k) (not (lengthsFit t))
-    (λ e q z. subst (ClearRefuses t) q (lengths-wrong (not-true (lengthsFit t) e)))
-    (λ e q z. absurd (z (sym q)))
+clear-by-table t frames k =
+    branch (λ (d : Done ℕ). d .answer ≡ k → k ≢ 0 → ClearRefuses t frames k) (not (lengthsFit t))
+    (λ e q z. subst (ClearRefuses t frames) q (lengths-wrong (not-true (lengthsFit t) e)))
+    (λ e. branch (λ (d : Done ℕ). d .answer ≡ k → k ≢ 0 → ClearRefuses t frames k) (frames is 0)
+    (λ f q z. subst (ClearRefuses t frames) q (no-frames-at-all (not-false (lengthsFit t) e) (eqb-true frames 0 f)))
+    (λ f q z. absurd (z (sym q))))
 
-pub clear-refused : (t : Tables) (k : ℕ) → ClearRefuses t k → clear t ≡ done k t
+pub clear-refused : (t : Tables) (frames k : ℕ) → ClearRefuses t frames k → clear t frames ≡ done k t
 unfolding clear
-clear-refused t k (lengths-wrong e) = rw e
+clear-refused t frames k (lengths-wrong e) = rw e
+clear-refused t frames k (no-frames-at-all e z) = rw (e, eq-eqb frames 0 z)
+
+-- what is accepted makes the tables fresh, of a title with some frames
+pub record ClearAccepted (t : Tables) (frames : ℕ) (u : Tables) : Type 0 where
+  pub lengths : lengthsFit t ≡ true
+  pub some-frames : frames ≢ 0
+  pub makes-fresh : u ≡ fresh (nodeCount t) (seatCount t) frames
+
+abbrev IfAccepted : Tables → ℕ → Done ℕ → Type 0
+IfAccepted t frames d = d .answer ≡ 0 → ClearAccepted t frames (d .after)
+
+pub clear-accepted : (t : Tables) (frames : ℕ) → IfAccepted t frames (clear t frames)
+unfolding clear
+clear-accepted t frames =
+    branch (IfAccepted t frames) (not (lengthsFit t)) (λ e q. absurd (omega arith)) (λ e.
+    branch (IfAccepted t frames) (frames is 0) {y = done 0 (fresh (nodeCount t) (seatCount t) frames)} (λ f q. absurd (omega arith)) (λ f q.
+    record { lengths = not-false (lengthsFit t) e; some-frames = eqb-false frames 0 f; makes-fresh = refl }))
 
 pub count-by-table : (t : Tables) (k : ℕ) → freeCount t ≡ Counted.refused k → DamageRefuses t k
 unfolding freeCount

@@ -56,7 +56,7 @@ module _ (t : Tables) (e : sound t ≡ true) (s : ℕ) where
 
   begin-not-1 : {c : Claim} {d : Done Answer} → Beginning t s c d → d .answer ≢ refused 1
   begin-not-1 (begin-refused k r) = refused-not-1 r
-  begin-not-1 (begin-accepted {f = f} x h p z w) = none-or-8-not-1 (begun-none-or-8 t f)
+  begin-not-1 (begin-accepted {f = f} x h p i z w) = none-or-8-not-1 (begun-none-or-8 t f)
 
   step-not-1 : {d : Done Answer} → Stepped t s d → d .answer ≢ refused 1
   step-not-1 (step-refused k r) = refused-not-1 r

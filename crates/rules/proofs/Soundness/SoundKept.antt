@@ -15,7 +15,8 @@ use Rattle.rules.specs.Fetch.{Fetched, writeClaim, enterAtHead, takeNode
 use Rattle.rules.specs.Answers.{Answer, Done}
 use Rattle.rules.specs.Steps.{linkIn, pass, kindOf, hold, withdraw, leave, refetched}
 use Rattle.rules.specs.Calls.{begun, begin, step, release}
-use Rattle.rules.specs.Play.{beginCall, stepCall, releaseCall, call}
+use Rattle.rules.specs.Play.{Call, beginCall, stepCall, releaseCall, call}
+use Rattle.rules.specs.Title.{AllWithin}
 use Rattle.rules.proofs.Ground.Logic.{branch, or-neither, not-true, clash}
 use Rattle.rules.proofs.Laws.Words.{link-put-same, link-put-other, put-link-length, node-count}
 use Rattle.rules.proofs.Laws.Shape.{Counts, is-sound, sound-is}
@@ -37,6 +38,7 @@ use Rattle.rules.proofs.Rules.Reasons.{Unlinking, takes-out, goes-past,
 use Rattle.rules.proofs.Rules.Accepting.{Beginning, begin-refused, begin-accepted, beginning, Stepped, step-refused, step-accepted, stepped, Releasing, release-refused, release-accepted, releasing}
 use Rattle.rules.proofs.Keeping.Aside.{not-idle, all-zero, node-room, seat-room, linked-in}
 use Rattle.rules.proofs.Frames.CountFrames.{counts-kept}
+use Rattle.rules.proofs.Frames.TitleFrames.{within-kept}
 use Rattle.rules.proofs.Keeping.FetchKeeps.{written}
 use Rattle.rules.proofs.Keeping.TakeOut.{taken-out-keeps}
 use Rattle.rules.proofs.Soundness.SoundShape.{SoundView, Shaped, within-ends, seat-moves, link-passes-over, claim-marked, claim-put, count-put, sound-shaped}
@@ -274,13 +276,20 @@ module _ {N S : ℕ} {t : Tables} (g : Shaped N S t) (s : ℕ) (s-in : s < S) (b
   stepping-shaped f (at-rest a b c d e) = g
 
 -- ---- the calls
-module _ (t : Tables) (s : ℕ) where
-  shaped-after : {u : Tables} → sound t ≡ true → Shaped (nodeCount t) (seatCount t) u → Counts u → sound u ≡ true
-  shaped-after {u} e h c =
-      let w = is-sound t e in
-      sound-is u (shaped-sound h (record { some-nodes = w .some-nodes; few-nodes = w .few-nodes; some-seats = w .some-seats; few-seats = w .few-seats }) c)
+-- what a call keeps and the shape does not show: the counts are right, and no claim ends beyond the title
+abbrev Fitting : Tables → Type 0
+Fitting u = Counts u × AllWithin u
 
-  step-sound : {d : Done Answer} → sound t ≡ true → Counts (d .after) → (phase t s ≡ 1 → phase (d .after) s ≡ 3 → endsWithin (nodeCount (d .after)) (d .after) (head (d .after)) ≡ true) → Stepped t s d → sound (d .after) ≡ true
+fitting-kept : (t : Tables) (c : Call) → sound t ≡ true → Fitting (call t c .after)
+fitting-kept t c e = let w = is-sound t e in (counts-kept t c (w .counts), within-kept t c (w .all-within))
+
+module _ (t : Tables) (s : ℕ) where
+  shaped-after : {u : Tables} → sound t ≡ true → Shaped (nodeCount t) (seatCount t) u → Fitting u → sound u ≡ true
+  shaped-after {u} e h fits =
+      let w = is-sound t e in
+      sound-is u (shaped-sound h (record { some-nodes = w .some-nodes; few-nodes = w .few-nodes; some-seats = w .some-seats; few-seats = w .few-seats }) (fits .0) (fits .1))
+
+  step-sound : {d : Done Answer} → sound t ≡ true → Fitting (d .after) → (phase t s ≡ 1 → phase (d .after) s ≡ 3 → endsWithin (nodeCount (d .after)) (d .after) (head (d .after)) ≡ true) → Stepped t s d → sound (d .after) ≡ true
   step-sound e c f (step-refused number r) = e
   step-sound e c f (step-accepted y h b w) = shaped-after e (stepping-shaped (sound-shaped (is-sound t e)) s h b f w) c
 
@@ -288,25 +297,25 @@ module _ (t : Tables) (s : ℕ) where
       → (phase t s ≡ 1 → phase (step t s .after) s ≡ 3 → endsWithin (nodeCount (step t s .after)) (step t s .after) (head (step t s .after)) ≡ true)
       → sound (step t s .after) ≡ true
   unfolding call
-  step-keeps-sound e f = step-sound e (counts-kept t (stepCall s) (is-sound t e .counts)) f (stepped t s)
+  step-keeps-sound e f = step-sound e (fitting-kept t (stepCall s) e) f (stepped t s)
 
-  begin-sound : {c : Claim} {d : Done Answer} → sound t ≡ true → Counts (d .after) → Beginning t s c d → sound (d .after) ≡ true
+  begin-sound : {c : Claim} {d : Done Answer} → sound t ≡ true → Fitting (d .after) → Beginning t s c d → sound (d .after) ≡ true
   unfolding begun
   begin-sound e k (begin-refused number r) = e
-  begin-sound e k (begin-accepted {f = f} y h p z w) =
-      branch (λ (d : Done Answer). Counts (d .after) → sound (d .after) ≡ true) (f .node is 0)
+  begin-sound e k (begin-accepted {f = f} y h p i z w) =
+      branch (λ (d : Done Answer). Fitting (d .after) → sound (d .after) ≡ true) (f .node is 0)
       (λ q k. e)
       (λ q k. shaped-after e (fetch-shaped (sound-shaped (is-sound t e)) h p w) k)
       k
 
   pub begin-keeps-sound : (c : Claim) → sound t ≡ true → sound (begin t s c .after) ≡ true
   unfolding call
-  begin-keeps-sound c e = begin-sound e (counts-kept t (beginCall s c) (is-sound t e .counts)) (beginning t s c)
+  begin-keeps-sound c e = begin-sound e (fitting-kept t (beginCall s c) e) (beginning t s c)
 
-  release-sound : {d : Done Answer} → sound t ≡ true → Counts (d .after) → Releasing t s d → sound (d .after) ≡ true
+  release-sound : {d : Done Answer} → sound t ≡ true → Fitting (d .after) → Releasing t s d → sound (d .after) ≡ true
   release-sound e c (release-refused number r) = e
   release-sound e c (release-accepted y h p) = shaped-after e (leave-shaped (sound-shaped (is-sound t e)) s h (omega arith)) c
 
   pub release-keeps-sound : sound t ≡ true → sound (release t s .after) ≡ true
   unfolding call
-  release-keeps-sound e = release-sound e (counts-kept t (releaseCall s) (is-sound t e .counts)) (releasing t s)
+  release-keeps-sound e = release-sound e (fitting-kept t (releaseCall s) e) (releasing t s)

@@ -1,5 +1,5 @@
--- What has sound shape in the theory's words, within the bounds, and counts that are right, passes the test `sound`. Every table that is reached
--- has all of it.
+-- What has sound shape in the theory's words, within the bounds, counts that are right and claims within the title, passes the test `sound`. Every
+-- table that is reached has all of it.
 use Prim.Native.Nat.{ℕ, zero, suc, _≤_}
 use mathlib.Core.Path.{_≡_, refl}
 use mathlib.Core.Bool.{true}
@@ -9,6 +9,7 @@ use Rattle.rules.specs.Notation.{_is_}
 use Rattle.rules.specs.Tables.{Tables, nodeCount, link, next}
 use Rattle.rules.specs.Shape.{endsWithin, sound}
 use Rattle.rules.specs.Reached.{Reached, cleared, asked}
+use Rattle.rules.specs.Title.{AllWithin}
 use Rattle.rules.proofs.Ground.Logic.{or-right}
 use Rattle.rules.proofs.Laws.Shape.{Names, ZeroNode, ClaimNode, SeatSound, Counts, Sound, sound-is}
 use Rattle.rules.proofs.Laws.Words.{node-count, seat-count}
@@ -18,6 +19,7 @@ use Rattle.rules.proofs.Invariant.View.{nodesOf, claimAt}
 use Rattle.rules.proofs.Invariant.Clauses.{Named, nothing, node}
 use Rattle.rules.proofs.Invariant.Known.{known-head, known-ends, named-in}
 use Rattle.rules.proofs.Frames.CountFrames.{reached-counts}
+use Rattle.rules.proofs.Frames.TitleFrames.{reached-within}
 use Rattle.rules.proofs.Keeping.Good.{Good}
 use Rattle.rules.proofs.Soundness.SoundShape.{Shaped}
 use Rattle.rules.proofs.Keeping.CallKeeps.{good}
@@ -37,7 +39,7 @@ pub record Bounds (N S : ℕ) : Type 0 where
   pub few-seats : S ≤ 64
 
 pub bounds : {N S : ℕ} {t : Tables} → Reached N S t → Bounds N S
-bounds (cleared a b c d) = record { some-nodes = a; few-nodes = b; some-seats = c; few-seats = d }
+bounds (cleared a b c d e) = record { some-nodes = a; few-nodes = b; some-seats = c; few-seats = d }
 bounds (asked r request) = bounds r
 
 module _ {N S : ℕ} {t : Tables} (g : Shaped N S t) where
@@ -71,8 +73,8 @@ module _ {N S : ℕ} {t : Tables} (g : Shaped N S t) where
     cur-names = names (h .cur-named);
   }
 
-  pub shaped-sound : Bounds N S → Counts t → Sound t
-  shaped-sound b c =
+  pub shaped-sound : Bounds N S → Counts t → AllWithin t → Sound t
+  shaped-sound b c w =
       let seats = seat-count t S (g .aside .seats-long) in
       let ends = g .view .ends in
       let few = short N (λ a. named-in (g .view .nodes .links a)) (named-in (g .view .nodes .links 0)) (ends .1) in
@@ -83,6 +85,7 @@ module _ {N S : ℕ} {t : Tables} (g : Shaped N S t) where
         seats-length = rw seats (g .aside .seats-long);
         some-seats = rw seats (b .some-seats);
         few-seats = rw seats (b .few-seats);
+        all-within = w;
         node = λ a z l. node-shape a z;
         link-names = λ a. names (g .view .nodes .links a);
         seat = seat-shape;
@@ -97,4 +100,4 @@ good-shaped g = record {
 }
 
 pub reached-sound : {N S : ℕ} {t : Tables} → Reached N S t → sound t ≡ true
-reached-sound {t = t} r = sound-is t (shaped-sound (good-shaped (good r)) (bounds r) (reached-counts r))
+reached-sound {t = t} r = sound-is t (shaped-sound (good-shaped (good r)) (bounds r) (reached-counts r) (reached-within r))

@@ -1,0 +1,175 @@
+-- No call but clear changes the title, and where no node's claim ends beyond it, none does after a call: begin tests the claim that it writes, and a
+-- step that fetches again writes the claim that its seat has. Of any tables, reached or not.
+use Prim.Native.Nat.{ℕ, _≤_}
+use mathlib.Core.Path.{_≡_, refl, sym, ap, _∙_}
+use mathlib.Core.Bool.{true, false}
+use mathlib.Core.List.{List}
+use native.Mathlib.Omega.{arith}
+use Rattle.rules.specs.Notation.{_is_}
+use Rattle.rules.specs.Tables.{Tables, nodeCount, seatCount, titleAt, countAt, startAt, endAt, kindAt, markAt, putNode, putLink, title, end, own, fresh}
+use Rattle.rules.specs.Comparison.{Claim}
+use Rattle.rules.specs.Shape.{sound}
+use Rattle.rules.specs.Fetch.{Fetched, writeClaim, enterAtHead, takeNode, takenOut}
+use Rattle.rules.specs.Answers.{Answer, node, refused, Done, done}
+use Rattle.rules.specs.Steps.{kindOf, refetched}
+use Rattle.rules.specs.Calls.{clear, begun, begin}
+use Rattle.rules.specs.Play.{Call, beginCall, stepCall, releaseCall, call}
+use Rattle.rules.specs.Reached.{Request, afterRequests, Reached}
+use Rattle.rules.specs.Refusing.{WithinTitle, Refuses, damaged, no-seat, no-frames, beyond-title, no-kind, not-idle, idle, not-holding, none-to-begin, none-again}
+use Rattle.rules.specs.Apart.{NodesKept, NoNode, NoPlace}
+use Rattle.rules.specs.Title.{AllWithin, BeginsBeyond, begins-beyond}
+use Rattle.rules.proofs.Ground.Logic.{branch, not-of}
+use Rattle.rules.proofs.Laws.Words.{node-put-field, node-put-link, node-put-at-most, count-not-title, fresh-title, fresh-node-word}
+use Rattle.rules.proofs.Laws.Shape.{is-sound}
+use Rattle.rules.proofs.Laws.RunSteps.{requests-keep, reached-has}
+use Rattle.rules.proofs.Rules.Reasons.{Fetching, found, found-then, none, Stepping, in-1, in-2, in-3, in-4, in-6, at-rest}
+use Rattle.rules.proofs.Rules.Accepting.{Beginning, begin-refused, begin-accepted, beginning, Stepped, step-refused, step-accepted, stepped, Releasing, release-refused, release-accepted, releasing}
+use Rattle.rules.proofs.Rules.RefusedExactly.{call-by-table, table-refused, clear-accepted}
+use Rattle.rules.proofs.Frames.NodeFrames.{walking, waking, validating, leaving, fetching, taking, taking-out}
+
+-- from t to u the title stays, and so does that all claims are within it
+pub record Stays (t u : Tables) : Type 0 where
+  pub same-title : title u ≡ title t
+  pub still-within : AllWithin t → AllWithin u
+
+as-found : (t : Tables) → Stays t t
+as-found t = record { same-title = refl; still-within = λ w. w }
+
+-- ---- where no claim is written
+kept-title : {L M C P : ℕ → Type 0} {t u : Tables} → (P titleAt → ⊥) → NodesKept L M C P t u → title u ≡ title t
+kept-title d f = f .word-at titleAt (omega arith) (omega arith) d
+
+kept-stays : {L M P : ℕ → Type 0} {t u : Tables} → (P titleAt → ⊥) → NodesKept L M NoNode P t u → Stays t u
+kept-stays d f = record {
+  same-title = kept-title d f;
+  still-within = λ w. record {
+    some = rw (kept-title d f) (w .some);
+    within = λ a. rw (kept-title d f, ap (λ (c : Claim). c .end) (f .claim-of a (λ z. z))) (w .within a);
+  };
+}
+
+not-own-count : (t : Tables) (s : ℕ) → titleAt ≡ countAt (kindOf t s) → ⊥
+not-own-count t s e = count-not-title (kindOf t s) (sym e)
+
+-- ---- where fetch writes one
+written-at-most : (t : Tables) (a b most : ℕ) (c : Claim) → c .end ≤ most → end t b ≤ most → end (writeClaim t a c) b ≤ most
+unfolding writeClaim
+written-at-most t a b most c i j =
+    let l₁ = putNode (t .nodes) a startAt (c .start) in
+    let l₂ = putNode l₁ a endAt (c .end) in
+    let l₃ = putNode l₂ a kindAt (c .kind) in
+    rw (
+      node-put-field (putLink l₃ a 0) a b markAt endAt 0 (omega arith) (omega arith) (omega arith),
+      node-put-link l₃ a b endAt 0 (omega arith) (omega arith),
+      node-put-field l₂ a b kindAt endAt (c .kind) (omega arith) (omega arith) (omega arith),
+    )
+    (node-put-at-most l₁ a b endAt (c .end) most (omega arith) i
+    (rw (node-put-field (t .nodes) a b startAt endAt (c .start) (omega arith) (omega arith) (omega arith)) j))
+
+taken-within : (t : Tables) (s a : ℕ) (c : Claim) → WithinTitle t c → AllWithin t → AllWithin (takeNode t s a c)
+unfolding takeNode enterAtHead
+taken-within t s a c i w =
+    let same = kept-title (λ z. z) (taking t a c s) in
+    record { some = rw same (w .some); within = λ b. rw same (written-at-most t a b (title t) c i (w .within b)) }
+
+out-stays : (t : Tables) → Stays t (takenOut t)
+out-stays t = kept-stays (λ z. z) (taking-out t)
+
+fetched-within : {t : Tables} {s : ℕ} {c : Claim} {f : Fetched} → Fetching t s c f → WithinTitle t c → AllWithin t → AllWithin (f .after)
+fetched-within {t} {s} {c} (found a e z) i w = taken-within t s a c i w
+fetched-within {t} {s} {c} (found-then a e e′ z) i w =
+    let out = out-stays t in
+    taken-within (takenOut t) s a c (rw (out .same-title) i) (out .still-within w)
+fetched-within (none e e′) i w = w
+
+fetch-stays : {t : Tables} {s : ℕ} {c : Claim} {f : Fetched} → (AllWithin t → WithinTitle t c) → Fetching t s c f → Stays t (f .after)
+fetch-stays i f = record { same-title = kept-title (λ z. z) (fetching f); still-within = λ w. fetched-within f (i w) w }
+
+-- ---- the calls
+module _ (t : Tables) (s : ℕ) where
+  stepping-stays : {d : Done Answer} → Stepping t s d → Stays t (d .after)
+  unfolding refetched
+  stepping-stays (in-1 e w) = kept-stays (λ z. z) (walking t s w)
+  stepping-stays (in-2 e w) = kept-stays (λ z. z) (waking t s w)
+  stepping-stays (in-3 e w) = kept-stays (not-own-count t s) (validating t s w)
+  stepping-stays (in-4 e w) = kept-stays (λ z. z) (waking t s w)
+  stepping-stays (in-6 {f = f} e w) =
+      branch (λ (d : Done Answer). Stays t (d .after)) (f .node is 0)
+      (λ z. as-found t) (λ z. fetch-stays (λ all. all .within (own t s)) w)
+  stepping-stays (at-rest d₁ d₂ d₃ d₄ d₆) = as-found t
+
+  stepped-stays : {d : Done Answer} → Stepped t s d → Stays t (d .after)
+  stepped-stays (step-refused k x) = as-found t
+  stepped-stays (step-accepted e h b w) = stepping-stays w
+
+  begun-stays : {c : Claim} {d : Done Answer} → Beginning t s c d → Stays t (d .after)
+  unfolding begun
+  begun-stays (begin-refused k x) = as-found t
+  begun-stays (begin-accepted {f = f} e h p i z w) =
+      branch (λ (d : Done Answer). Stays t (d .after)) (f .node is 0)
+      (λ q. as-found t) (λ q. fetch-stays (λ all. i) w)
+
+  released-stays : {d : Done Answer} → Releasing t s d → Stays t (d .after)
+  released-stays (release-refused k x) = as-found t
+  released-stays (release-accepted e h p) = kept-stays (not-own-count t s) (leaving t s)
+
+pub call-stays : (t : Tables) (c : Call) → Stays t (call t c .after)
+unfolding call
+call-stays t (beginCall s c) = begun-stays t s (beginning t s c)
+call-stays t (stepCall s) = stepped-stays t s (stepped t s)
+call-stays t (releaseCall s) = released-stays t s (releasing t s)
+
+pub within-kept : (t : Tables) (c : Call) → AllWithin t → AllWithin (call t c .after)
+within-kept t c = call-stays t c .still-within
+
+-- and so over any requests
+pub title-kept : (t : Tables) (requests : List Request) → title (afterRequests t requests) ≡ title t
+title-kept t requests = requests-keep (λ u. title u ≡ title t) (λ u c e. call-stays u c .same-title ∙ e) requests t refl
+
+pub all-kept : (t : Tables) (requests : List Request) → AllWithin t → AllWithin (afterRequests t requests)
+all-kept t requests = requests-keep AllWithin within-kept requests t
+
+-- ---- a claim is begun only within the title, and nothing but a begin is refused for ending beyond it
+begun-within : {t : Tables} {s n : ℕ} {c : Claim} {d : Done Answer} → Beginning t s c d → d .answer ≡ node n → WithinTitle t c
+begun-within (begin-refused k x) q = let z : _≡_ {A = ℕ} 0 1 = cc in absurd (omega arith)
+begun-within (begin-accepted e h p i z w) q = i
+
+pub node-within : (t : Tables) (s n : ℕ) (c : Claim) → begin t s c .answer ≡ node n → WithinTitle t c
+node-within t s n c = begun-within (beginning t s c)
+
+is-beyond : {t : Tables} {c : Call} {k : ℕ} → Refuses t c k → k ≡ 11 → BeginsBeyond t c
+is-beyond (damaged e) q = absurd (omega arith)
+is-beyond (no-seat e h) q = absurd (omega arith)
+is-beyond (no-frames w h) q = absurd (omega arith)
+is-beyond (beyond-title w h b) q = begins-beyond b
+is-beyond (no-kind w h i k k′) q = absurd (omega arith)
+is-beyond (not-idle w p i d) q = absurd (omega arith)
+is-beyond (idle w e) q = absurd (omega arith)
+is-beyond (not-holding w d) q = absurd (omega arith)
+is-beyond (none-to-begin w p i e n) q = absurd (omega arith)
+is-beyond (none-again w e n) q = absurd (omega arith)
+
+pub refused-11 : (t : Tables) (c : Call) → call t c .answer ≡ refused 11 → BeginsBeyond t c
+refused-11 t c q = is-beyond (call-by-table t c 11 q) refl
+
+-- ---- damage
+pub beyond-damaged : (t : Tables) → (AllWithin t → ⊥) → sound t ≡ false
+beyond-damaged t w = not-of (sound t) (λ e. w (is-sound t e .all-within))
+
+pub beyond-refused : (t : Tables) → (AllWithin t → ⊥) → (c : Call) → call t c ≡ done (refused 1) t
+beyond-refused t w c = table-refused t c 1 (damaged (beyond-damaged t w))
+
+-- ---- fresh tables: every end is 0
+fresh-within : (N S frames : ℕ) → 1 ≤ frames → AllWithin (fresh N S frames)
+fresh-within N S frames h =
+    record { some = rw (fresh-title N S frames) h; within = λ a. rw (fresh-node-word N S frames a endAt) (omega arith) }
+
+pub clear-title : (t : Tables) (frames : ℕ) → clear t frames .answer ≡ 0 → title (clear t frames .after) ≡ frames
+clear-title t frames e = rw (clear-accepted t frames e .makes-fresh) (fresh-title (nodeCount t) (seatCount t) frames)
+
+pub clear-within : (t : Tables) (frames : ℕ) → clear t frames .answer ≡ 0 → AllWithin (clear t frames .after)
+clear-within t frames e =
+    rw (clear-accepted t frames e .makes-fresh) (fresh-within (nodeCount t) (seatCount t) frames (let d = clear-accepted t frames e .some-frames in omega arith))
+
+pub reached-within : {N S : ℕ} {t : Tables} → Reached N S t → AllWithin t
+reached-within {N} {S} r = reached-has AllWithin within-kept (fresh-within N S) r
