@@ -1,16 +1,16 @@
 -- The public calls as one law for each way through the code: n and t are the tables before, n′ and t′ after.
 use Prim.Native.Nat.{ℕ, suc, _+_, _≤_, _<_}
 use mathlib.Core.Path.{_≡_, refl, sym, ap, _∙_}
-use mathlib.Core.Bool.{Bool, true, false}
+use mathlib.Core.Bool.{Bool, true, false, not}
 use mathlib.Core.List.{List, [], _∷_}
 use mathlib.Core.Logic.{_≢_, _⊎_, ⊎-elim}
 use native.Mathlib.Omega.{arith}
 use native.Mathlib.Nat.{eq-or-lt-of-le}
 use lib.ListN.{length, getD, set}
 use lib.Seq.{getD-set-same, getD-set-other}
-use borrow.Author.Tests.{eq-eqb, ne-eqb, le-leb, lt-leb}
+use borrow.Author.Tests.{eq-eqb, ne-eqb, le-leb, lt-leb, le-ltb, lt-ltb, not-true, not-false}
 use Rattle.rules.specs.Notation.{_is_}
-use Rattle.rules.specs.Tables.{tables, zeros, fresh, seatWord, seatCountOf, phaseAt}
+use Rattle.rules.specs.Tables.{tables, titleAt, putTop, title, zeros, fresh, seatWord, seatCountOf, phaseAt}
 use Rattle.rules.specs.Comparison.{claim}
 use Rattle.rules.specs.Shape.{lengthsFit, sound, isKind}
 use Rattle.rules.specs.Reach.{countFree}
@@ -46,17 +46,23 @@ pub zero-all : (l : List ℕ) (i n : ℕ) → ZeroBelow l i → length l ≤ i �
 zero-all l i n z h e = rw (← e) (all-zero l (λ k j. z .zero-at k (omega arith)))
 
 -- ---- clear
-module _ (n t : List ℕ) (b : Bool) (fits : b ≡ lengthsFit (tables n t)) where
-  pub clear-fits : (n′ t′ : List ℕ) → t′ ≡ zeros (length t) → n′ ≡ zeros (length n) → b ≡ true → done 0 (tables n′ t′) ≡ clear (tables n t)
-  unfolding clear fresh
-  clear-fits n′ t′ p q e =
-      let f = sym fits ∙ e in
-      let l = lengths-fit (tables n t) f in
-      rw (f, p, q, l .nodes-length, l .seats-length)
-
-  pub clear-not : b ≡ false → done 1 (tables n t) ≡ clear (tables n t)
+module _ (n t : List ℕ) (z : ℕ) (b : Bool) (fits : b ≡ lengthsFit (tables n t)) where
+  pub clear-not : not b ≡ true → done 1 (tables n t) ≡ clear (tables n t) z
   unfolding clear
-  clear-not e = rw (sym fits ∙ e)
+  clear-not e = rw (sym fits ∙ not-true b e)
+
+  module _ (long : not b ≡ false) where
+    pub clear-no-title : z ≡ 0 → done 3 (tables n t) ≡ clear (tables n t) z
+    unfolding clear
+    clear-no-title e = rw (sym fits ∙ not-false b long, eq-eqb z 0 e)
+
+    pub clear-fits : (n′ n″ t′ : List ℕ) → n″ ≡ putTop n′ titleAt z → t′ ≡ zeros (length t) → n′ ≡ zeros (length n) → z ≢ 0
+        → done 0 (tables n″ t′) ≡ clear (tables n t) z
+    unfolding clear fresh
+    clear-fits n′ n″ t′ o p q d =
+        let f = sym fits ∙ not-false b long in
+        let l = lengths-fit (tables n t) f in
+        rw (f, ne-eqb z 0 d, o, p, q, l .nodes-length, l .seats-length)
 
 -- ---- fetch's answer
 module _ (n t n′ t′ : List ℕ) (s x y k a : ℕ) (isFetched : fetched a (tables n′ t′) ≡ fetch (tables n t) s (claim x y k)) where
@@ -73,16 +79,20 @@ module _ (n t : List ℕ) (s x y k : ℕ) where
   pub begin-empty : y ≤ x → done (refused 3) (tables n t) ≡ beginClaim (tables n t) s (claim x y k)
   begin-empty h = rw (le-leb y x h)
 
-  module _ (b : Bool) (isKindOf : b ≡ isKind k) (some : x < y) where
-    pub begin-kind : b ≡ false → done (refused 4) (tables n t) ≡ beginClaim (tables n t) s (claim x y k)
-    begin-kind e = rw (lt-leb y x some, sym isKindOf ∙ e)
+  module _ (z : ℕ) (isTitle : z ≡ title (tables n [])) (some : x < y) where
+    pub begin-beyond : z < y → done (refused 11) (tables n t) ≡ beginClaim (tables n t) s (claim x y k)
+    begin-beyond h = rw (lt-leb y x some, ← isTitle, lt-ltb z y h)
 
-    module _ (p : ℕ) (isPhase : p ≡ seatWord t s phaseAt) where
-      pub begin-busy : p ≢ 0 → b ≡ true → done (refused 5) (tables n t) ≡ beginClaim (tables n t) s (claim x y k)
-      begin-busy d e = rw (lt-leb y x some, sym isKindOf ∙ e, ne-eqb (seatWord t s phaseAt) 0 (λ q. d (isPhase ∙ q)))
+    module _ (b : Bool) (isKindOf : b ≡ isKind k) (within : y ≤ z) where
+      pub begin-kind : not b ≡ true → done (refused 4) (tables n t) ≡ beginClaim (tables n t) s (claim x y k)
+      begin-kind e = rw (lt-leb y x some, ← isTitle, le-ltb z y within, sym isKindOf ∙ not-true b e)
 
-      pub begin-idle : (n′ t′ : List ℕ) (r : Answer) → done r (tables n′ t′) ≡ beginFetching (tables n t) s (claim x y k) → p ≡ 0 → b ≡ true → done r (tables n′ t′) ≡ beginClaim (tables n t) s (claim x y k)
-      begin-idle n′ t′ r w q e = rw (lt-leb y x some, sym isKindOf ∙ e, eq-eqb (seatWord t s phaseAt) 0 (sym isPhase ∙ q)) w
+      module _ (p : ℕ) (isPhase : p ≡ seatWord t s phaseAt) where
+        pub begin-busy : p ≢ 0 → not b ≡ false → done (refused 5) (tables n t) ≡ beginClaim (tables n t) s (claim x y k)
+        begin-busy d e = rw (lt-leb y x some, ← isTitle, le-ltb z y within, sym isKindOf ∙ not-false b e, ne-eqb (seatWord t s phaseAt) 0 (λ q. d (isPhase ∙ q)))
+
+        pub begin-idle : (n′ t′ : List ℕ) (r : Answer) → done r (tables n′ t′) ≡ beginFetching (tables n t) s (claim x y k) → p ≡ 0 → not b ≡ false → done r (tables n′ t′) ≡ beginClaim (tables n t) s (claim x y k)
+        begin-idle n′ t′ r w q e = rw (lt-leb y x some, ← isTitle, le-ltb z y within, sym isKindOf ∙ not-false b e, eq-eqb (seatWord t s phaseAt) 0 (sym isPhase ∙ q)) w
 
 -- ---- release, past 2
 module _ (n t : List ℕ) (s p : ℕ) (isPhase : p ≡ seatWord t s phaseAt) where

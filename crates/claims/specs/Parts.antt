@@ -2,8 +2,8 @@
 use Prim.Native.Nat.{ℕ}
 use mathlib.Core.Bool.{not}
 use mathlib.Core.List.{[], _∷_}
-use Rattle.rules.specs.Notation.{_is_, _≤?_}
-use Rattle.rules.specs.Tables.{Tables, phase}
+use Rattle.rules.specs.Notation.{_is_, _≤?_, _<?_}
+use Rattle.rules.specs.Tables.{Tables, title, phase}
 use Rattle.rules.specs.Comparison.{Claim}
 use Rattle.rules.specs.Shape.{isKind}
 use Rattle.rules.specs.Fetch.{fetch}
@@ -17,7 +17,10 @@ beginFetching t s c = begun t (fetch t s c)
 
 abbrev pub beginClaim : Tables → ℕ → Claim → Done Answer
 beginClaim t s c =
-    refusing refused ((3 when c .end ≤? c .start) ∷ (4 when not (isKind (c .kind))) ∷ (5 when not (phase t s is 0)) ∷ []) t (beginFetching t s c)
+    refusing refused
+    ((3 when c .end ≤? c .start) ∷ (11 when title t <? c .end) ∷ (4 when not (isKind (c .kind))) ∷ (5 when not (phase t s is 0)) ∷ [])
+    t
+    (beginFetching t s c)
 
 -- of release, past 2
 abbrev pub releaseSeat : Tables → ℕ → Done Answer

@@ -28,16 +28,21 @@ fn fill_with_zeros(table: &mut [u32])
     }
 }
 
-// 0, or the refusal
-pub fn clear(nodes: &mut [u32], seats: &mut [u32]) -> u32
-    ensures { λ r. ⌜ done r (tables (now (nodes .exit)) (now (seats .exit))) ≡ call.clear (tables (now (nodes .entry)) (now (seats .entry))) ⌝ }
+// 0, or the refusal; title is its frame count
+pub fn clear(nodes: &mut [u32], seats: &mut [u32], title: u32) -> u32
+    ensures { λ r. ⌜ done r (tables (now (nodes .exit)) (now (seats .exit))) ≡ call.clear (tables (now (nodes .entry)) (now (seats .entry))) title ⌝ }
 {
-    if shape::lengths_fit(nodes, seats) {
-        fill_with_zeros(nodes);
-        fill_with_zeros(seats);
-        return 0;
+    let fits = shape::lengths_fit(nodes, seats);
+    if !fits {
+        return 1;
     }
-    1
+    if title == 0 {
+        return 3;
+    }
+    fill_with_zeros(nodes);
+    fill_with_zeros(seats);
+    words::put_title(nodes, title);
+    0
 }
 
 // ---- begin
@@ -71,17 +76,22 @@ fn begin_claim(
     requires { ⌜ sound (tables (now nodes) (now seats)) ≡ true ⌝ }
     ensures { λ r. ⌜ done (means r) (tables (now (nodes .exit)) (now (seats .exit))) ≡ part.beginClaim (tables (now (nodes .entry)) (now (seats .entry))) s (claim start end kind) ⌝ }
 {
+    let title = words::title(nodes);
+    let known = shape::is_kind(kind);
     if end <= start {
         return Reply::Refused(3);
     }
-    if shape::is_kind(kind) {
-        let phase = words::seat_word(seats, s, words::PHASE);
-        return match phase {
-            0 => begin_fetching(nodes, seats, s, start, end, kind),
-            1..=4294967295 => Reply::Refused(5),
-        };
+    if title < end {
+        return Reply::Refused(11);
     }
-    Reply::Refused(4)
+    if !known {
+        return Reply::Refused(4);
+    }
+    let phase = words::seat_word(seats, s, words::PHASE);
+    match phase {
+        0 => begin_fetching(nodes, seats, s, start, end, kind),
+        1..=4294967295 => Reply::Refused(5),
+    }
 }
 
 pub fn begin(nodes: &mut [u32], seats: &mut [u32], s: u32, start: u32, end: u32, kind: u32) -> Reply

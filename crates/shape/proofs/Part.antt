@@ -5,8 +5,9 @@ use mathlib.Core.Path.{_≡_}
 use mathlib.Core.List.{List, []}
 use native.Mathlib.Omega.{arith}
 use lib.ListN.{drop}
-use Rattle.rules.specs.Tables.{tables, beforeNodes, linkWord, seatWord, nodeCountOf, seatCountOf, startAt, endAt, kindAt, markAt, ownAt, prevAt, curAt}
-use Rattle.rules.specs.Shape.{zeroNode, claimNode, names, nodeSound, isPhase, zeroSeat, idleOrOwning, restingAtZero, waitingAtCur, seatSound, holdsWith, holdersOfKind, nodesSound, seatsSound}
+use Rattle.rules.specs.Tables.{tables, beforeNodes, nodeWord, linkWord, seatWord, nodeCountOf, seatCountOf, startAt, endAt, kindAt, markAt, ownAt, prevAt, curAt}
+use Rattle.rules.specs.Notation.{_≤?_}
+use Rattle.rules.specs.Shape.{zeroNode, claimNode, names, nodeSound, isPhase, zeroSeat, idleOrOwning, restingAtZero, waitingAtCur, seatSound, holdsWith, holdersOfKind, endsBy, nodesSound, seatsSound}
 use Rattle.rules.proofs.Ground.Logic.{all-alike}
 use Rattle.rules.proofs.Ground.Counting.{count-alike}
 use Rattle.words.specs.Parts.{withZeros}
@@ -34,6 +35,12 @@ module _ (l : List ℕ) where
   unfolding nodesSound
   same-nodes =
       rw (same-count l) (all-alike (nodeCountOf l) (λ m. nodeSound (tables (withZeros (drop beforeNodes l)) []) (m + 1)) (λ m. nodeSound (tables l []) (m + 1)) same-node-sound)
+
+  pub same-ends : (frames : ℕ) → endsBy (tables (withZeros (drop beforeNodes l)) []) frames ≡ endsBy (tables l []) frames
+  unfolding endsBy
+  same-ends frames =
+      rw (same-count l) (all-alike (nodeCountOf l) (λ m. nodeWord (withZeros (drop beforeNodes l)) (m + 1) endAt ≤? frames) (λ m. nodeWord l (m + 1) endAt ≤? frames)
+      (λ m. rw (same-node l (m + 1) endAt)))
 
   module _ (t : List ℕ) where
     same-seat : (s : ℕ) → seatSound (tables (withZeros (drop beforeNodes l)) t) s ≡ seatSound (tables l t) s

@@ -9,17 +9,17 @@ use native.Mathlib.Numerals.{add-one}
 use lib.Dec.{eqb, leb, ltb}
 use lib.ListN.{length, drop}
 use borrow.Author.Tests.{not-true, not-false, eq-eqb, ne-eqb, eqb-true, eqb-false, ltb-true, ltb-false, le-leb, lt-leb}
-use Rattle.rules.specs.Notation.{all}
-use Rattle.rules.specs.Tables.{Tables, tables, beforeNodes, countWord, nodeWord, linkWord, seatWord, nodeCountOf, seatCountOf, startAt, endAt, kindAt, markAt, phaseAt, ownAt, prevAt, curAt}
-use Rattle.rules.specs.Shape.{nodesFit, seatsFit, lengthsFit, isKind, zeroNode, claimNode, names, nodeSound, isPhase, zeroSeat, idleOrOwning, restingAtZero, waitingAtCur, seatSound, countsFit, endsWithin, nodesSound, seatsSound, sound}
-use Rattle.rules.proofs.Ground.Logic.{either, or-case, or-neither, and-left, all-fails}
+use Rattle.rules.specs.Notation.{_≤?_, all}
+use Rattle.rules.specs.Tables.{Tables, tables, beforeNodes, title, countWord, nodeWord, linkWord, seatWord, nodeCountOf, seatCountOf, startAt, endAt, kindAt, markAt, phaseAt, ownAt, prevAt, curAt}
+use Rattle.rules.specs.Shape.{nodesFit, seatsFit, lengthsFit, isKind, zeroNode, claimNode, names, nodeSound, isPhase, zeroSeat, idleOrOwning, restingAtZero, waitingAtCur, seatSound, countsFit, endsBy, titleFits, endsWithin, nodesSound, seatsSound, sound}
+use Rattle.rules.proofs.Ground.Logic.{either, or-case, or-neither, and-left, all-fails, all-and}
 use Rattle.rules.proofs.Laws.Words.{link-past}
 use Rattle.rules.proofs.Laws.Shape.{nodes-fit, named, name-of, name-small, lengths-fit}
-use Rattle.rules.proofs.Laws.NodesAlone.{ends-alone, nodes-alone}
+use Rattle.rules.proofs.Laws.NodesAlone.{ends-alone, nodes-alone, ends-by-alone}
 use Rattle.words.specs.Parts.{withZeros}
 use Rattle.words.proofs.Places.{same-count}
-use Rattle.shape.proofs.Part.{same-names, same-nodes, same-seats, same-holders}
-use Rattle.shape.specs.Parts.{busySound, waitingSound, restingSound, seatsAndCountsSound, listEnds}
+use Rattle.shape.proofs.Part.{same-names, same-nodes, same-ends, same-seats, same-holders}
+use Rattle.shape.specs.Parts.{nodeSoundBy, nodesSoundBy, busySound, waitingSound, restingSound, seatsAndCountsSound, listEnds}
 
 pub lengths-is : (l t : List ℕ) (u v : Bool) → u ≡ nodesFit (tables l []) → v ≡ seatsFit (tables [] t) → (u && v) ≡ lengthsFit (tables l t)
 unfolding lengthsFit nodesFit seatsFit
@@ -50,40 +50,52 @@ zero-case true true false d z f = refl
 zero-case true false c d z f = refl
 zero-case false b c d z f = refl
 
--- with its next named, a claim's next is at most N
-claim-case : (u v y : Bool) → (u && v && y) ≡ ((u && v && true && y) && true)
-claim-case true true true = refl
-claim-case true true false = refl
-claim-case true false y = refl
-claim-case false v y = refl
-
 and-false : (b : Bool) → (b && false) ≡ false
 and-false true = refl
 and-false false = refl
+
+-- what ends at 0 ends within any title
+zero-within : (a b c d w : Bool) → (b ≡ true → w ≡ true) → (a && b && c && d) ≡ (w && (a && b && c && d))
+zero-within a true c d w f = rw (f refl)
+zero-within true false c d w f = sym (and-false w)
+zero-within false false c d w f = sym (and-false w)
+
+-- with its next named, a claim's next is at most N
+claim-case : (u v w y : Bool) → (u && v && w && y) ≡ (w && ((u && v && true && y) && true))
+claim-case true true true true = refl
+claim-case true true true false = refl
+claim-case true true false y = refl
+claim-case true false w y = sym (and-false w)
+claim-case false v w y = sym (and-false w)
 
 no-zero : (a b c d : Bool) → (a && b && false && c && d) ≡ false
 no-zero true true c d = refl
 no-zero true false c d = refl
 no-zero false b c d = refl
 
-module _ (l : List ℕ) (a x y k next m : ℕ) (isMark : m ≡ nodeWord l a markAt) (isNext : next ≡ linkWord l a) (isKindOf : k ≡ nodeWord l a kindAt)
+module _ (l : List ℕ) (frames a x y k next m : ℕ) (isMark : m ≡ nodeWord l a markAt) (isNext : next ≡ linkWord l a) (isKindOf : k ≡ nodeWord l a kindAt)
     (isEnd : y ≡ nodeWord l a endAt) (isStart : x ≡ nodeWord l a startAt) where
-  pub node-zero : k ≡ 0 → (eqb x 0 && eqb y 0 && eqb next 0 && eqb m 0) ≡ nodeSound (tables l []) a
+  zero-sound : k ≡ 0 → (eqb x 0 && eqb y 0 && eqb next 0 && eqb m 0) ≡ nodeSound (tables l []) a
   unfolding nodeSound zeroNode claimNode isKind
-  node-zero e =
+  zero-sound e =
       let q : nodeWord l a kindAt ≡ 0 = sym isKindOf ∙ e in
       rw (isMark, isNext, isEnd, isStart, q)
       (zero-case (eqb (nodeWord l a startAt) 0) (eqb (nodeWord l a endAt) 0) (eqb (linkWord l a) 0) (eqb (nodeWord l a markAt) 0) (names (tables l []) (linkWord l a))
       (λ z. sym (names-zero l (nodeCountOf l) (linkWord l a) refl (eqb-true (linkWord l a) 0 z))))
 
+  pub node-zero : k ≡ 0 → (eqb x 0 && eqb y 0 && eqb next 0 && eqb m 0) ≡ nodeSoundBy (tables l []) frames a
+  node-zero e =
+      rw (← zero-sound e, ← isEnd)
+      (zero-within (eqb x 0) (eqb y 0) (eqb next 0) (eqb m 0) (leb y frames) (λ z. le-leb y frames (let q = eqb-true y 0 z in omega arith)))
+
   module _ (v : Bool) (isNamed : v ≡ names (tables l []) next) (some : k ≢ 0) where
-    pub node-lost : not v ≡ true → false ≡ nodeSound (tables l []) a
+    pub node-lost : not v ≡ true → false ≡ nodeSoundBy (tables l []) frames a
     unfolding nodeSound
     node-lost e =
         let q : names (tables l []) (linkWord l a) ≡ false = rw isNext at (sym isNamed ∙ not-true v e) in
-        rw q (sym (and-false (zeroNode (tables l []) a || claimNode (tables l []) a)))
+        rw (q, and-false (zeroNode (tables l []) a || claimNode (tables l []) a)) (sym (and-false (nodeWord l a endAt ≤? frames)))
 
-    pub node-claim : (u : Bool) → u ≡ isKind k → not v ≡ false → (u && ltb x y && leb m 1) ≡ nodeSound (tables l []) a
+    pub node-claim : (u : Bool) → u ≡ isKind k → not v ≡ false → (u && ltb x y && leb y frames && leb m 1) ≡ nodeSoundBy (tables l []) frames a
     unfolding nodeSound zeroNode claimNode
     node-claim u q e =
         let w : names (tables l []) (linkWord l a) ≡ true = rw isNext at (sym isNamed ∙ not-false v e) in
@@ -98,27 +110,31 @@ module _ (l : List ℕ) (a x y k next m : ℕ) (isMark : m ≡ nodeWord l a mark
           ne-eqb (nodeWord l a kindAt) 0 (λ z. some (isKindOf ∙ z)),
           no-zero (eqb (nodeWord l a startAt) 0) (eqb (nodeWord l a endAt) 0) (eqb (linkWord l a) 0) (eqb (nodeWord l a markAt) 0),
         )
-        (claim-case (isKind (nodeWord l a kindAt)) (ltb (nodeWord l a startAt) (nodeWord l a endAt)) (leb (nodeWord l a markAt) 1))
+        (claim-case (isKind (nodeWord l a kindAt)) (ltb (nodeWord l a startAt) (nodeWord l a endAt)) (leb (nodeWord l a endAt) frames) (leb (nodeWord l a markAt) 1))
 
 -- ---- every node
-unfoldable pub nodesBelow : List ℕ → ℕ → Bool
-nodesBelow l i = all i (λ m. nodeSound (tables l []) (m + 1))
+unfoldable pub nodesBelow : List ℕ → ℕ → ℕ → Bool
+nodesBelow l frames i = all i (λ m. nodeSoundBy (tables l []) frames (m + 1))
 
-pub nodes-none : (l : List ℕ) → nodesBelow l 0 ≡ true
+both-clauses : (l : List ℕ) (frames : ℕ) → nodesBelow l frames (nodeCountOf l) ≡ nodesSoundBy (tables l []) frames
+unfolding nodesBelow nodesSound endsBy
+both-clauses l frames = all-and (nodeCountOf l) (λ m. nodeWord l (m + 1) endAt ≤? frames) (λ m. nodeSound (tables l []) (m + 1))
+
+pub nodes-none : (l : List ℕ) (frames : ℕ) → nodesBelow l frames 0 ≡ true
 unfolding nodesBelow all
-nodes-none l = refl
+nodes-none l frames = refl
 
-pub nodes-more : (l : List ℕ) (i : ℕ) (b : Bool) → nodesBelow l i ≡ true → b ≡ nodeSound (tables l []) (i + 1) → b ≡ true → nodesBelow l (i + 1) ≡ true
+pub nodes-more : (l : List ℕ) (frames i : ℕ) (b : Bool) → nodesBelow l frames i ≡ true → b ≡ nodeSoundBy (tables l []) frames (i + 1) → b ≡ true → nodesBelow l frames (i + 1) ≡ true
 unfolding nodesBelow all
-nodes-more l i b h p q = rw (add-one i, h, ← p, q)
+nodes-more l frames i b h p q = rw (add-one i, h, ← p, q)
 
-pub nodes-fail : (l : List ℕ) (n i : ℕ) (b : Bool) → b ≡ nodeSound (tables l []) (i + 1) → b ≡ false → i < n → n ≡ nodeCountOf l → false ≡ nodesSound (tables l [])
-unfolding nodesSound
-nodes-fail l n i b p q h e = sym (all-fails (nodeCountOf l) i (λ m. nodeSound (tables l []) (m + 1)) (rw e at h) (sym p ∙ q))
+pub nodes-fail : (l : List ℕ) (frames n i : ℕ) (b : Bool) → b ≡ nodeSoundBy (tables l []) frames (i + 1) → b ≡ false → i < n → n ≡ nodeCountOf l → false ≡ nodesSoundBy (tables l []) frames
+unfolding nodesBelow
+nodes-fail l frames n i b p q h e =
+    sym (all-fails (nodeCountOf l) i (λ m. nodeSoundBy (tables l []) frames (m + 1)) (rw e at h) (sym p ∙ q)) ∙ both-clauses l frames
 
-pub nodes-all : (l : List ℕ) (n i : ℕ) → nodesBelow l i ≡ true → n ≤ i → i ≤ n → n ≡ nodeCountOf l → true ≡ nodesSound (tables l [])
-unfolding nodesBelow nodesSound
-nodes-all l n i h a b e = let q : i ≡ nodeCountOf l = omega arith in rw (← q, h)
+pub nodes-all : (l : List ℕ) (frames n i : ℕ) → nodesBelow l frames i ≡ true → n ≤ i → i ≤ n → n ≡ nodeCountOf l → true ≡ nodesSoundBy (tables l []) frames
+nodes-all l frames n i h a b e = let q : i ≡ nodeCountOf l = omega arith in rw (← both-clauses l frames, ← q) (sym h)
 
 -- ---- own, prev and cur
 module _ (l : List ℕ) (o v c : ℕ) where
@@ -284,26 +300,34 @@ ends-all l n a p q = rw (p, q)
 pub long-enough : (l t : List ℕ) → lengthsFit (tables l t) ≡ true → beforeNodes ≤ length l
 long-enough l t e = let h = lengths-fit (tables l t) e .nodes-length in omega arith
 
--- ---- the whole, from what is found of the part from node 1 on
+-- ---- the whole, from the title and from what is found of the part from node 1 on
+pub title-none : (l t : List ℕ) (z : ℕ) → z ≡ title (tables l []) → z ≡ 0 → lengthsFit (tables l t) ≡ true → false ≡ sound (tables l t)
+unfolding sound titleFits
+title-none l t z p e fit = rw (fit, sym p ∙ e)
+
 module _ (l t p : List ℕ) (isPart : p ≡ drop beforeNodes l) where
   pub counts-part : (n : ℕ) → n ≡ nodeCountOf l → n ≡ nodeCountOf (withZeros p)
   counts-part n e = rw isPart (e ∙ sym (same-count l))
 
-  module _ (fit : lengthsFit (tables l t) ≡ true) (b : Bool) (isNodes : b ≡ nodesSound (tables (withZeros p) [])) where
-    nodes-are : nodesSound (tables l t) ≡ b
-    nodes-are = sym (nodes-alone l t) ∙ sym (same-nodes l) ∙ sym (rw isPart at isNodes)
+  module _ (fit : lengthsFit (tables l t) ≡ true) (z : ℕ) (isTitle : z ≡ title (tables l [])) (some-title : z ≢ 0)
+      (b : Bool) (isNodes : b ≡ nodesSoundBy (tables (withZeros p) []) z) where
+    has-title : 1 ≤? title (tables l []) ≡ true
+    has-title = le-leb 1 (title (tables l [])) (let q = sym isTitle in omega arith)
+
+    nodes-are : (endsBy (tables l t) (title (tables l [])) && nodesSound (tables l t)) ≡ b
+    nodes-are = rw (← isTitle, ← ends-by-alone l t z, ← same-ends l z, ← nodes-alone l t, ← same-nodes l) (sym (rw isPart at isNodes))
 
     pub nodes-not : not b ≡ true → false ≡ sound (tables l t)
-    unfolding sound
-    nodes-not e = rw (fit, nodes-are, not-true b e)
+    unfolding sound titleFits
+    nodes-not e = rw (fit, has-title, nodes-are, not-true b e)
 
     module _ (some : not b ≡ false) (h : ℕ) (isHead : h ≡ linkWord l 0) (c : Bool) (isNamed : c ≡ names (tables (withZeros p) []) h) where
       head-is : names (tables l []) h ≡ c
       head-is = sym (same-names l h) ∙ sym (rw isPart at isNamed)
 
       pub head-not : not c ≡ true → false ≡ sound (tables l t)
-      unfolding sound names
-      head-not e = rw (fit, nodes-are, not-false b some, ← isHead, head-is, not-true c e)
+      unfolding sound titleFits names
+      head-not e = rw (fit, has-title, nodes-are, not-false b some, ← isHead, head-is, not-true c e)
 
       module _ (found : not c ≡ false) (x y : ℕ) (isWriters : y ≡ countWord (tables l []) 2) (isReaders : x ≡ countWord (tables l []) 1)
           (d : Bool) (isSeats : d ≡ seatsAndCountsSound (tables (withZeros p) t) x y) where
@@ -312,13 +336,13 @@ module _ (l t p : List ℕ) (isPart : p ≡ drop beforeNodes l) where
         seats-are = rw (← isReaders, ← isWriters, ← same-seats l t, ← same-holders l t 1, ← same-holders l t 2) (sym (rw isPart at isSeats))
 
         pub seats-not : not d ≡ true → false ≡ sound (tables l t)
-        unfolding sound names
-        seats-not e = rw (fit, nodes-are, not-false b some, ← isHead, head-is, not-false c found, seats-are, not-true d e)
+        unfolding sound titleFits names
+        seats-not e = rw (fit, has-title, nodes-are, not-false b some, ← isHead, head-is, not-false c found, seats-are, not-true d e)
 
         pub words-are : (r : Bool) → r ≡ listEnds (tables l []) → not d ≡ false → r ≡ sound (tables l t)
-        unfolding sound names
+        unfolding sound titleFits names
         words-are r q e =
-            rw (fit, nodes-are, not-false b some, ← isHead, head-is, not-false c found, seats-are, not-false d e, ← ends-alone (nodeCountOf l) l t h, isHead) q
+            rw (fit, has-title, nodes-are, not-false b some, ← isHead, head-is, not-false c found, seats-are, not-false d e, ← ends-alone (nodeCountOf l) l t h, isHead) q
 
 pub sound-not : (l t : List ℕ) (b : Bool) → b ≡ lengthsFit (tables l t) → b ≡ false → false ≡ sound (tables l t)
 unfolding sound

@@ -1,10 +1,17 @@
--- Parts of sound shape: what it asks of a seat's own, prev and cur by the seat's phase, its two clauses on the seats together, and its last
--- clause alone.
+-- Parts of sound shape: its two clauses on the nodes together, what it asks of a seat's own, prev and cur by the seat's phase, its two clauses on
+-- the seats together, and its last clause alone.
 use Prim.Native.Nat.{ℕ}
 use mathlib.Core.Bool.{Bool, not, _&&_}
-use Rattle.rules.specs.Notation.{if_then_else_, _is_}
-use Rattle.rules.specs.Tables.{Tables, nodeCount, kind, head, phase, own}
-use Rattle.rules.specs.Shape.{names, seatsSound, holdersOfKind, endsWithin}
+use Rattle.rules.specs.Notation.{if_then_else_, _is_, _≤?_}
+use Rattle.rules.specs.Tables.{Tables, nodeCount, end, kind, head, phase, own}
+use Rattle.rules.specs.Shape.{names, nodeSound, nodesSound, seatsSound, holdersOfKind, endsBy, endsWithin}
+
+-- a node ends by so many frames and is sound, and each node does and is
+abbrev pub nodeSoundBy : Tables → ℕ → ℕ → Bool
+nodeSoundBy t frames a = end t a ≤? frames && nodeSound t a
+
+abbrev pub nodesSoundBy : Tables → ℕ → Bool
+nodesSoundBy t frames = endsBy t frames && nodesSound t
 
 -- in any phase but 0
 abbrev pub busySound : Tables → ℕ → ℕ → ℕ → Bool

@@ -6,9 +6,9 @@ ghost use mathlib.Core.List.{[]};
 ghost use Prim.Native.Nat.{_<_, _≤_};
 ghost use Rattle.rules.specs.Notation.{_is_};
 ghost use Rattle.rules.specs.Tables.{tables, nodeCountOf, seatCountOf, phase};
-ghost use Rattle.rules.specs.Shape.{nodesFit, lengthsFit, isKind, names, nodeSound, seatSound, nodesSound, sound};
+ghost use Rattle.rules.specs.Shape.{nodesFit, lengthsFit, isKind, names, seatSound, sound};
 ghost use Rattle.words.specs.Parts.{withZeros};
-ghost use Rattle.shape.specs.Parts.{busySound, waitingSound, restingSound, heldKind, seatsAndCountsSound, listEnds};
+ghost use Rattle.shape.specs.Parts.{nodeSoundBy, nodesSoundBy, busySound, waitingSound, restingSound, heldKind, seatsAndCountsSound, listEnds};
 
 pub fn lengths_fit(nodes: &[u32], seats: &[u32]) -> bool
     ensures { λ r. ⌜ r ≡ lengthsFit (tables (now (nodes .entry)) (now (seats .entry))) ⌝ }
@@ -41,12 +41,12 @@ fn names_node(part: &[u32], n: u32, a: u32) -> bool
     is_kind(kind)
 }
 
-// A node of kind 0 is all zeros; any other is a claim.
-fn node_sound(part: &[u32], n: u32, a: u32) -> bool
+// A node of kind 0 is all zeros, and so ends within any title; any other is a claim.
+fn node_sound(part: &[u32], n: u32, title: u32, a: u32) -> bool
     requires { ⌜ n ≡ nodeCountOf (withZeros (now part)) ⌝ }
     requires { ⌜ (a ≡ 0 → ⊥) ⌝ }
     requires { ⌜ a ≤ n ⌝ }
-    ensures { λ r. ⌜ r ≡ nodeSound (tables (withZeros (now (part .entry))) []) a ⌝ }
+    ensures { λ r. ⌜ r ≡ nodeSoundBy (tables (withZeros (now (part .entry))) []) title a ⌝ }
 {
     let start = words::part_word(part, a, words::START);
     let end = words::part_word(part, a, words::END);
@@ -60,16 +60,16 @@ fn node_sound(part: &[u32], n: u32, a: u32) -> bool
         return false;
     }
     let claim = is_kind(kind);
-    claim & (start < end) & (mark <= 1)
+    claim & (start < end) & (end <= title) & (mark <= 1)
 }
 
-fn nodes_sound(part: &[u32], n: u32) -> bool
+fn nodes_sound(part: &[u32], n: u32, title: u32) -> bool
     requires { ⌜ n ≡ nodeCountOf (withZeros (now part)) ⌝ }
-    ensures { λ r. ⌜ r ≡ nodesSound (tables (withZeros (now (part .entry))) []) ⌝ }
+    ensures { λ r. ⌜ r ≡ nodesSoundBy (tables (withZeros (now (part .entry))) []) title ⌝ }
 {
     let mut i: u32 = 0;
     while i < n {
-        if node_sound(part, n, i + 1) {
+        if node_sound(part, n, title, i + 1) {
             i += 1;
         } else {
             return false;
@@ -218,8 +218,12 @@ fn words_sound(nodes: &[u32], seats: &[u32]) -> bool
     let head = words::link(nodes, 0);
     let readers = words::count_word(nodes, 1);
     let writers = words::count_word(nodes, 2);
+    let title = words::title(nodes);
+    if title == 0 {
+        return false;
+    }
     let part = words::from_first_node(nodes);
-    if !nodes_sound(part, n) {
+    if !nodes_sound(part, n, title) {
         return false;
     }
     if !names_node(part, n, head) {

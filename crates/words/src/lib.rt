@@ -3,7 +3,8 @@
 ghost use mathlib.Core.Path.{_≡_};
 ghost use lib.ListN.{length, getD, set, drop};
 ghost use mathlib.Core.List.{[]};
-ghost use Rattle.rules.specs.Tables.{tables, countAt, beforeNodes, nodeWidth, seatWidth, nodeWord, putNode, linkWord, putLink, countWord, setCount, seatWord, putSeat, clearWords, nodeCountOf, seatCountOf, zeros};
+ghost use Rattle.rules.specs.Tables as table;
+ghost use Rattle.rules.specs.Tables.{tables, titleAt, putTop, countAt, beforeNodes, nodeWidth, seatWidth, nodeWord, putNode, linkWord, putLink, countWord, setCount, seatWord, putSeat, clearWords, nodeCountOf, seatCountOf, zeros};
 ghost use Prim.Native.Nat.{_+_, _-_, _*_, _<_, _≤_};
 ghost use Rattle.rules.specs.Shape.{nodesFit, seatsFit};
 ghost use Rattle.words.specs.Parts.{withZeros};
@@ -34,7 +35,9 @@ const READERS: usize = 1;
 
 const WRITERS: usize = 2;
 
-const BEFORE_NODES: usize = 3;
+const TITLE: usize = 3;
+
+const BEFORE_NODES: usize = 4;
 
 const NODE_WIDTH: usize = 5;
 
@@ -195,6 +198,20 @@ pub fn put_count(nodes: &mut [u32], kind: u32, value: u32)
     put(nodes, count_place(kind), value);
 }
 
+// ---- the title's frame count
+
+pub fn title(nodes: &[u32]) -> u32
+    ensures { λ r. ⌜ r ≡ table.title (tables (now (nodes .entry)) []) ⌝ }
+{
+    word(nodes, TITLE)
+}
+
+pub fn put_title(nodes: &mut [u32], frames: u32)
+    ensures { λ r. ⌜ now (nodes .exit) ≡ putTop (now (nodes .entry)) titleAt frames ⌝ }
+{
+    put(nodes, TITLE, frames);
+}
+
 // ---- the words of the seats
 
 // a word of a seat that the table has
@@ -284,10 +301,12 @@ pub fn seat_words(s: u32) -> usize
 }
 
 // The longest tables there are, fresh.
-pub fn fresh_nodes() -> [u32; 1283]
-    ensures { λ r. ⌜ r ≡ zeros (beforeNodes + nodeWidth * 256) ⌝ }
+pub fn fresh_nodes(frames: u32) -> [u32; 1284]
+    ensures { λ r. ⌜ r ≡ putTop (zeros (beforeNodes + nodeWidth * 256)) titleAt frames ⌝ }
 {
-    [0; 1283]
+    let mut nodes = [0; 1284];
+    nodes[TITLE] = frames;
+    nodes
 }
 
 pub fn fresh_seats() -> [u32; 256]

@@ -119,6 +119,15 @@ unfolding all
 all-alike zero p q h = refl
 all-alike (suc n) p q h = rw (all-alike n p q h, h n)
 
+-- two tests in one pass
+pub all-and : (n : ℕ) (p q : ℕ → Bool) → all n (λ i. p i && q i) ≡ (all n p && all n q)
+all-and n p q =
+    same (all n (λ i. p i && q i)) (all n p && all n q)
+    (λ e. and-both (all n p) (all n q)
+    (all-of n p (λ i h. and-left (p i) (q i) (all-at n i (λ i. p i && q i) e h)))
+    (all-of n q (λ i h. and-right (p i) (q i) (all-at n i (λ i. p i && q i) e h))))
+    (λ e. all-of n (λ i. p i && q i) (λ i h. and-both (p i) (q i) (all-at n i p (and-left (all n p) (all n q) e) h) (all-at n i q (and-right (all n p) (all n q) e) h)))
+
 pub any-none : (n i : ℕ) (p : ℕ → Bool) → any n p ≡ false → i < n → p i ≡ false
 unfolding any
 any-none zero i p e h = absurd (omega arith)

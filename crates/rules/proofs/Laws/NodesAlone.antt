@@ -5,7 +5,7 @@ use mathlib.Core.Bool.{Bool, _||_}
 use mathlib.Core.List.{List, [], _∷_}
 use Rattle.rules.specs.Notation.{_is_}
 use Rattle.rules.specs.Tables.{Tables, tables, setLink, linkWord, putLink, nodeCountOf}
-use Rattle.rules.specs.Shape.{zeroNode, claimNode, names, nodeSound, endsWithin, nodesSound}
+use Rattle.rules.specs.Shape.{zeroNode, claimNode, names, nodeSound, endsBy, endsWithin, nodesSound}
 use Rattle.rules.specs.Fetch.{keptFrom, kept, linkThrough, takenOut}
 
 pub ends-alone : (h : ℕ) (nodes seats : List ℕ) (a : ℕ) → endsWithin h (tables nodes []) a ≡ endsWithin h (tables nodes seats) a
@@ -16,6 +16,10 @@ ends-alone (suc h) nodes seats a = ap (λ (b : Bool). a is 0 || b) (ends-alone h
 pub nodes-alone : (nodes seats : List ℕ) → nodesSound (tables nodes []) ≡ nodesSound (tables nodes seats)
 unfolding nodesSound nodeSound zeroNode claimNode names
 nodes-alone nodes seats = refl
+
+pub ends-by-alone : (nodes seats : List ℕ) (frames : ℕ) → endsBy (tables nodes []) frames ≡ endsBy (tables nodes seats) frames
+unfolding endsBy
+ends-by-alone nodes seats frames = refl
 
 kept-from-alone : (h : ℕ) (nodes seats : List ℕ) (a : ℕ) → keptFrom h (tables nodes []) a ≡ keptFrom h (tables nodes seats) a
 unfolding keptFrom

@@ -1,6 +1,6 @@
 -- `shape::words_sound` meets its promise.
 use native.Mathlib.Omega.{arith}
-use Rattle.shape.proofs.Tests.{few-nodes, few-seats, long-enough, counts-part, nodes-not, head-not, seats-not, words-are, nodes-of-fit}
+use Rattle.shape.proofs.Tests.{few-nodes, few-seats, long-enough, counts-part, title-none, nodes-not, head-not, seats-not, words-are, nodes-of-fit}
 use borrow.Author.Needs.{needs}
 use Rattle.shape.proofs.words_sound.Statement.{statement}
 use Rattle.shape.proofs.words_sound.Tie as tie
@@ -26,32 +26,38 @@ count-word-requires c κs = search needs
 count-word-requires-2 : tie.Need-count-word-requires-2
 count-word-requires-2 c κs = search needs
 
+title-requires : tie.Need-title-requires
+title-requires c κs = search needs
+
+returns : tie.Need-returns
+returns c = search title-none
+
 from-first-node-requires : tie.Need-from-first-node-requires
 from-first-node-requires c κs = search long-enough
 
 nodes-sound-requires : tie.Need-nodes-sound-requires
 nodes-sound-requires c κs = search counts-part
 
-returns : tie.Need-returns
-returns c = search nodes-not
+returns-2 : tie.Need-returns-2
+returns-2 c = search nodes-not
 
 names-node-requires : tie.Need-names-node-requires
 names-node-requires c κs = search counts-part
 
-returns-2 : tie.Need-returns-2
-returns-2 c = search head-not
+returns-3 : tie.Need-returns-3
+returns-3 c = search head-not
 
 seats-and-counts-sound-requires : tie.Need-seats-and-counts-sound-requires
 seats-and-counts-sound-requires c κs = (search counts-part, search needs)
 
-returns-3 : tie.Need-returns-3
-returns-3 c = search seats-not
+returns-4 : tie.Need-returns-4
+returns-4 c = search seats-not
 
 list-ends-requires : tie.Need-list-ends-requires
 list-ends-requires c κs = search nodes-of-fit
 
-returns-4 : tie.Need-returns-4
-returns-4 c = search words-are
+returns-5 : tie.Need-returns-5
+returns-5 c = search words-are
 
 pub words-sound-spec : {M : Type 1} → statement M
 words-sound-spec =
@@ -64,12 +70,14 @@ words-sound-spec =
     link-requires
     count-word-requires
     count-word-requires-2
+    title-requires
+    returns
     from-first-node-requires
     nodes-sound-requires
-    returns
-    names-node-requires
     returns-2
-    seats-and-counts-sound-requires
+    names-node-requires
     returns-3
+    seats-and-counts-sound-requires
+    returns-4
     list-ends-requires
-    returns-4)
+    returns-5)
