@@ -24,7 +24,7 @@ use Rattle.rules.specs.declared.BoardReply.{BoardReply}
 use Rattle.rules.specs.declared.BoardReply.the-variants.{Rows, Refused as BoardRefused}
 use Rattle.rules.specs.declared.Ran.{Ran}
 use Rattle.replies.specs.Codes.{codeOf, numberOf}
-use Rattle.boundary.specs.Encoded.{Halves, halves, halvesOf, encode, encodeCount, encodeRan, encoded, encodedRun, told, tellAnswer, tell, putLine, linesAfter, scriptNumbers, readAs, encodeScript}
+use Rattle.boundary.specs.Encoded.{Halves, halves, halvesOf, encode, encodeCount, encodeRan, encoded, encodedRun, told, tellAnswer, tell, putLine, putTopLine, rowAt, linesAfter, scriptNumbers, readAs, encodeScript}
 
 -- ---- two halves
 pub joined-is : (a b : ℕ) → b < 4294967296 → halvesOf (4294967296 * a + b) ≡ halves a b
@@ -77,7 +77,7 @@ module _ (d : Shown ℕ) (r : BoardReply) (rows : List ℕ) (covered : ℕ) (isS
   told-refused number h p q = rw (← isShown, q, p)
 
 -- ---- script reading
-lines-more : (l : List ℕ) (rows : List Line) (n : ℕ) → linesAfter (n + 1) l rows ≡ putLine (linesAfter n l rows) (3 + 5 * n) (getD rows n noLine)
+lines-more : (l : List ℕ) (rows : List Line) (n : ℕ) → linesAfter (n + 1) l rows ≡ putLine (linesAfter n l rows) (rowAt n) (getD rows n noLine)
 unfolding linesAfter
 lines-more l rows n = rw (add-one n)
 
@@ -85,15 +85,15 @@ pub lines-none : (l : List ℕ) (rows : List Line) → l ≡ linesAfter 0 l rows
 unfolding linesAfter
 lines-none l rows = refl
 
-pub lines-again : (l m m′ : List ℕ) (rows : List Line) (n : ℕ) (line : Line) → m ≡ linesAfter n l rows → m′ ≡ putLine m (3 + 5 * n) line → line ≡ getD rows n noLine → m′ ≡ linesAfter (n + 1) l rows
+pub lines-again : (l m m′ : List ℕ) (rows : List Line) (n : ℕ) (line : Line) → m ≡ linesAfter n l rows → m′ ≡ putLine m (rowAt n) line → line ≡ getD rows n noLine → m′ ≡ linesAfter (n + 1) l rows
 lines-again l m m′ rows n line p q e = q ∙ rw (p, e) (sym (lines-more l rows n))
 
 pub lines-done : (l m : List ℕ) (rows : List Line) (n : ℕ) → m ≡ linesAfter n l rows → 1000 ≤ n → n ≤ 1000 → m ≡ linesAfter 1000 l rows
 lines-done l m rows n p h i = let e : n ≡ 1000 = omega arith in rw e at p
 
 module _ (script : Script) (lent : List ℕ) where
-  pub script-is : (m : List ℕ) → m ≡ linesAfter 1000 (set (set (set lent 0 (script .n)) 1 (script .s)) 2 (script .k)) (script .rows) → m ≡ scriptNumbers script lent
-  unfolding scriptNumbers
+  pub script-is : (m : List ℕ) → m ≡ linesAfter 1000 (set (set (set (set lent 0 (script .n)) 1 (script .s)) 2 (script .k)) 3 (script .title)) (script .rows) → m ≡ scriptNumbers script lent
+  unfolding scriptNumbers putTopLine
   script-is m p = p
 
   pub read-good : (read : Script) (m : List ℕ) → m ≡ scriptNumbers script lent → script ≡ read → script .refusal ≡ 0 → readAs (halvesOf 0) m ≡ encodeScript read lent
@@ -111,10 +111,14 @@ put-line-length l at line = simp length-set
 pub lines-length : (n : ℕ) (l : List ℕ) (rows : List Line) → length (linesAfter n l rows) ≡ length l
 unfolding linesAfter
 lines-length zero l rows = refl
-lines-length (suc n) l rows = put-line-length (linesAfter n l rows) (3 + 5 * n) (getD rows n noLine) ∙ lines-length n l rows
+lines-length (suc n) l rows = put-line-length (linesAfter n l rows) (rowAt n) (getD rows n noLine) ∙ lines-length n l rows
 
-pub script-length : (l m : List ℕ) (rows : List Line) (a b d : ℕ) → m ≡ linesAfter 1000 (set (set (set l 0 a) 1 b) 2 d) rows → length m ≡ length l
-script-length l m rows a b d p = ap length p ∙ lines-length 1000 (set (set (set l 0 a) 1 b) 2 d) rows ∙ simp length-set
+pub top-length : (l : List ℕ) (a b c d : ℕ) → length (putTopLine l a b c d) ≡ length l
+unfolding putTopLine
+top-length l a b c d = simp length-set
+
+pub script-length : (l m : List ℕ) (rows : List Line) (a b c d : ℕ) → m ≡ linesAfter 1000 (putTopLine l a b c d) rows → length m ≡ length l
+script-length l m rows a b c d p = ap length p ∙ lines-length 1000 (putTopLine l a b c d) rows ∙ top-length l a b c d
 
 pub thousand-rows : (src : List ℕ) (script : Script) → script ≡ readScript src → length (script .rows) ≡ 1000
 thousand-rows src script e = rw e (read-bounded src .rows)

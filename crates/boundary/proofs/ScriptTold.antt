@@ -1,4 +1,4 @@
--- What `soodhiqune_read` returns and leaves tells the whole script: N, S, K and every row, or the line that is wrong.
+-- What `soodhiqune_read` returns and leaves tells the whole script: N, S, K, the title and every row, or the line that is wrong.
 use Prim.Native.Nat.{ℕ, zero, suc, _+_, _*_, _≤_, _<_}
 use native.Mathlib.Omega.{arith}
 use mathlib.Core.List.{List, [], _∷_}
@@ -14,9 +14,9 @@ use Rattle.rules.specs.declared.Contents.{Contents}
 use Rattle.rules.specs.declared.Script.{Script}
 use Rattle.rules.proofs.Ground.Logic.{branch}
 use Rattle.script.proofs.Bounds.{read-bounded}
-use Rattle.boundary.specs.Encoded.{halves, halvesOf, putLine, linesAfter, scriptNumbers, ReadAs, readAs, encodeScript}
+use Rattle.boundary.specs.Encoded.{halves, halvesOf, putLine, putTopLine, rowAt, linesAfter, scriptNumbers, ReadAs, readAs, encodeScript}
 use Rattle.boundary.specs.Decoded.{lineAt, linesIn, scriptIn, decodeScript}
-use Rattle.boundary.proofs.Codes.{lines-length, script-length}
+use Rattle.boundary.proofs.Codes.{lines-length, top-length, script-length}
 use Rattle.boundary.proofs.Told.{Tells}
 use Rattle.boundary.proofs.soodhiqune_read.Reads as read
 use Rattle.boundary.proofs.soodhiqune_read.Kinds as kinds
@@ -63,33 +63,35 @@ module _ (l : List ℕ) (at : ℕ) (line : Line) where
       simp (getD-set-other, put-back (length l), length-set)
 
 -- ---- so are all of them
-rows-kept : (n k : ℕ) (l : List ℕ) (line : Line) → n ≤ k → linesIn n (putLine l (3 + 5 * k) line) ≡ linesIn n l
+rows-kept : (n k : ℕ) (l : List ℕ) (line : Line) → n ≤ k → linesIn n (putLine l (rowAt k) line) ≡ linesIn n l
 unfolding linesIn
 rows-kept zero k l line h = refl
-rows-kept (suc n) k l line h = rw (rows-kept n k l line (omega arith), row-kept l (3 + 5 * k) line (3 + 5 * n) (omega arith))
+rows-kept (suc n) k l line h = rw (rows-kept n k l line (omega arith), row-kept l (rowAt k) line (rowAt n) (omega arith))
 
-rows-back : (n : ℕ) (l : List ℕ) (rows : List Line) → 3 + 5 * n ≤ length l → n ≤ length rows → linesIn n (linesAfter n l rows) ≡ take n rows
+rows-back : (n : ℕ) (l : List ℕ) (rows : List Line) → rowAt n ≤ length l → n ≤ length rows → linesIn n (linesAfter n l rows) ≡ take n rows
 unfolding linesIn linesAfter
 rows-back zero l rows h k = refl
 rows-back (suc n) l rows h k =
-    let fits : 3 + 5 * n + 5 ≤ length (linesAfter n l rows) = rw (lines-length n l rows) (omega arith) in
+    let fits : rowAt n + 5 ≤ length (linesAfter n l rows) = rw (lines-length n l rows) (omega arith) in
     rw (
       rows-kept n n (linesAfter n l rows) (getD rows n noLine) (omega arith),
-      row-back (linesAfter n l rows) (3 + 5 * n) (getD rows n noLine) fits,
+      row-back (linesAfter n l rows) (rowAt n) (getD rows n noLine) fits,
       rows-back n l rows (omega arith) (omega arith),
       take-suc rows n noLine,
     )
 
-top-kept : (n : ℕ) (l : List ℕ) (rows : List Line) (j : ℕ) → j < 3 → getD (linesAfter n l rows) j 0 ≡ getD l j 0
+top-kept : (n : ℕ) (l : List ℕ) (rows : List Line) (j : ℕ) → j < 4 → getD (linesAfter n l rows) j 0 ≡ getD l j 0
 unfolding linesAfter
 top-kept zero l rows j h = refl
-top-kept (suc n) l rows j h = kept (linesAfter n l rows) (3 + 5 * n) (getD rows n noLine) j (omega arith) ∙ top-kept n l rows j h
+top-kept (suc n) l rows j h = kept (linesAfter n l rows) (rowAt n) (getD rows n noLine) j (omega arith) ∙ top-kept n l rows j h
 
-top-back : (l : List ℕ) (a b c : ℕ) → 3 ≤ length l → (getD (set (set (set l 0 a) 1 b) 2 c) 0 0 ≡ a) × ((getD (set (set (set l 0 a) 1 b) 2 c) 1 0 ≡ b) × (getD (set (set (set l 0 a) 1 b) 2 c) 2 0 ≡ c))
-top-back [] a b c h = absurd (omega arith)
-top-back (x ∷ []) a b c h = absurd (omega arith)
-top-back (x ∷ y ∷ []) a b c h = absurd (omega arith)
-top-back (x ∷ y ∷ z ∷ l) a b c h = (refl, (refl, refl))
+top-back : (l : List ℕ) (a b c d : ℕ) → 4 ≤ length l → (getD (putTopLine l a b c d) 0 0 ≡ a) × (getD (putTopLine l a b c d) 1 0 ≡ b) × (getD (putTopLine l a b c d) 2 0 ≡ c) × (getD (putTopLine l a b c d) 3 0 ≡ d)
+unfolding putTopLine
+top-back [] a b c d h = absurd (omega arith)
+top-back (x ∷ []) a b c d h = absurd (omega arith)
+top-back (x ∷ y ∷ []) a b c d h = absurd (omega arith)
+top-back (x ∷ y ∷ z ∷ []) a b c d h = absurd (omega arith)
+top-back (x ∷ y ∷ z ∷ v ∷ l) a b c d h = (refl, refl, refl, refl)
 
 -- ---- a script as read has no wrong line, or nothing but one
 data AsRead : Script → Type 0 where
@@ -110,26 +112,27 @@ as-read src =
     (λ e. branch AsRead (contentsOf src .next is nowhere src) (λ f. bad 1) (λ f. bodies-read src (contentsOf src) _ _ _ _))
 
 -- ---- so the whole script is read back
-same-script : (x y : Script) → x .refusal ≡ y .refusal → x .wrong ≡ y .wrong → x .n ≡ y .n → x .s ≡ y .s → x .k ≡ y .k → x .rows ≡ y .rows → x ≡ y
-same-script x y p q a b c d = λ i. record { refusal = p i; wrong = q i; n = a i; s = b i; k = c i; rows = d i }
+same-script : (x y : Script) → x .refusal ≡ y .refusal → x .wrong ≡ y .wrong → x .n ≡ y .n → x .s ≡ y .s → x .k ≡ y .k → x .title ≡ y .title → x .rows ≡ y .rows → x ≡ y
+same-script x y p q a b c d e = λ i. record { refusal = p i; wrong = q i; n = a i; s = b i; k = c i; title = d i; rows = e i }
 
-numbers-back : (script : Script) (lent : List ℕ) → script .refusal ≡ 0 → script .wrong ≡ 0 → length (script .rows) ≡ 1000 → length lent ≡ 5003 → scriptIn (scriptNumbers script lent) ≡ script
+numbers-back : (script : Script) (lent : List ℕ) → script .refusal ≡ 0 → script .wrong ≡ 0 → length (script .rows) ≡ 1000 → length lent ≡ 5004 → scriptIn (scriptNumbers script lent) ≡ script
 unfolding scriptIn scriptNumbers
 numbers-back script lent r w n m =
-    let l = set (set (set lent 0 (script .n)) 1 (script .s)) 2 (script .k) in
-    let long : length l ≡ 5003 = simp length-set m in
-    let top = top-back lent (script .n) (script .s) (script .k) (omega arith) in
+    let l = putTopLine lent (script .n) (script .s) (script .k) (script .title) in
+    let long : length l ≡ 5004 = top-length lent (script .n) (script .s) (script .k) (script .title) ∙ m in
+    let top = top-back lent (script .n) (script .s) (script .k) (script .title) (omega arith) in
     same-script _ script (sym r) (sym w)
     (top-kept 1000 l (script .rows) 0 (omega arith) ∙ top .0)
-    (top-kept 1000 l (script .rows) 1 (omega arith) ∙ top .1 .0)
-    (top-kept 1000 l (script .rows) 2 (omega arith) ∙ top .1 .1)
+    (top-kept 1000 l (script .rows) 1 (omega arith) ∙ top .1)
+    (top-kept 1000 l (script .rows) 2 (omega arith) ∙ top .2)
+    (top-kept 1000 l (script .rows) 3 (omega arith) ∙ top .3)
     (rows-back 1000 l (script .rows) (omega arith) (omega arith) ∙ take-all 1000 (script .rows) (omega arith))
 
-script-back : {script : Script} (lent numbers : List ℕ) (r : ℕ) → AsRead script → length (script .rows) ≡ 1000 → readAs (halvesOf r) numbers ≡ encodeScript script lent → length numbers ≡ 5003 → decodeScript (halvesOf r) numbers ≡ script
+script-back : {script : Script} (lent numbers : List ℕ) (r : ℕ) → AsRead script → length (script .rows) ≡ 1000 → readAs (halvesOf r) numbers ≡ encodeScript script lent → length numbers ≡ 5004 → decodeScript (halvesOf r) numbers ≡ script
 unfolding decodeScript encodeScript scriptNumbers badAt
 script-back {script} lent numbers r (good e w) n p m =
     let q : readAs (halvesOf r) numbers ≡ readAs (halves 0 0) (scriptNumbers script lent) = rw e at p in
-    let k : length numbers ≡ length lent = script-length lent numbers (script .rows) _ _ _ (ap (λ (x : ReadAs). x .numbers) q) in
+    let k : length numbers ≡ length lent = script-length lent numbers (script .rows) _ _ _ _ (ap (λ (x : ReadAs). x .numbers) q) in
     ap (λ (x : ReadAs). decodeScript (x .number) (x .numbers)) q ∙ numbers-back script lent e w n (omega arith)
 script-back lent numbers r (bad wrong) n p m = ap (λ (x : ReadAs). decodeScript (x .number) (x .numbers)) p
 

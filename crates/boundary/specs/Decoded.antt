@@ -1,6 +1,6 @@
 -- What a caller reads in the number that a call returns: from its upper half what kind of answer, from its lower the answer's number. No
 -- promise cites these; that they read back what was encoded is proved in proofs/Told.antt.
-use Prim.Native.Nat.{ℕ, zero, suc, _+_, _*_}
+use Prim.Native.Nat.{ℕ, zero, suc, _+_}
 use mathlib.Core.List.{List, [], _∷_, _++_}
 use lib.ListN.{getD}
 use Rattle.rules.specs.Notation.{if_then_else_, _is_}
@@ -13,7 +13,7 @@ use Rattle.rules.specs.declared.Ran.{Ran}
 use Rattle.rules.specs.declared.Line.{Line}
 use Rattle.rules.specs.declared.Script.{Script}
 use Rattle.replies.specs.Codes.{answerBy}
-use Rattle.boundary.specs.Encoded.{Halves}
+use Rattle.boundary.specs.Encoded.{Halves, rowAt}
 
 -- begin, step and release
 abbrev pub decode : Halves → Answer
@@ -33,14 +33,14 @@ decodeBoard h covered =
     if h .upper is 0 then Boarded.refused (h .lower)
     else Boarded.filled (h .lower) covered
 
--- ---- script reading, with the 5,003 numbers
+-- ---- script reading, with the 5,004 numbers
 unfoldable pub lineAt : List ℕ → ℕ → Line
 lineAt numbers at = line (getD numbers at 0) (getD numbers (at + 1) 0) (getD numbers (at + 2) 0) (getD numbers (at + 3) 0) (getD numbers (at + 4) 0)
 
 -- the first n rows
 unfoldable pub linesIn : ℕ → List ℕ → List Line
 linesIn zero numbers = []
-linesIn (suc n) numbers = linesIn n numbers ++ (lineAt numbers (3 + 5 * n) ∷ [])
+linesIn (suc n) numbers = linesIn n numbers ++ (lineAt numbers (rowAt n) ∷ [])
 
 unfoldable pub scriptIn : List ℕ → Script
 scriptIn numbers = record {
@@ -49,6 +49,7 @@ scriptIn numbers = record {
   n = getD numbers 0 0;
   s = getD numbers 1 0;
   k = getD numbers 2 0;
+  title = getD numbers 3 0;
   rows = linesIn 1000 numbers;
 }
 

@@ -62,8 +62,8 @@ tellAnswer covered (Boarded.refused number) board = told (halves 0 number) cover
 abbrev pub tell : ℕ → Shown ℕ → Told
 tell covered shown = tellAnswer covered (shown .answer) (shown .board)
 
--- ---- script reading: N, S, K, then for each of the 1,000 rows its code and four numbers; or the refusal above and the line below, the
--- numbers as found
+-- ---- script reading: N, S, K and the title's frame count, then for each of the 1,000 rows its code and four numbers; or the refusal above and the
+-- line below, the numbers as found
 pub record ReadAs : Type 0 where
   pub number : Halves
   pub numbers : List ℕ
@@ -74,13 +74,21 @@ readAs number numbers = record { number = number; numbers = numbers }
 unfoldable pub putLine : List ℕ → ℕ → Line → List ℕ
 putLine l at line = set (set (set (set (set l at (line .code)) (at + 1) (line .seat)) (at + 2) (line .start)) (at + 3) (line .end)) (at + 4) (line .kind)
 
--- the first n rows, behind N, S and K
+-- the numbers of line 1
+unfoldable pub putTopLine : List ℕ → ℕ → ℕ → ℕ → ℕ → List ℕ
+putTopLine l n s k title = set (set (set (set l 0 n) 1 s) 2 k) 3 title
+
+-- where row r stands, behind them
+abbrev pub rowAt : ℕ → ℕ
+rowAt r = 4 + 5 * r
+
+-- the first n rows
 unfoldable pub linesAfter : ℕ → List ℕ → List Line → List ℕ
 linesAfter zero l rows = l
-linesAfter (suc n) l rows = putLine (linesAfter n l rows) (3 + 5 * n) (getD rows n noLine)
+linesAfter (suc n) l rows = putLine (linesAfter n l rows) (rowAt n) (getD rows n noLine)
 
 unfoldable pub scriptNumbers : Script → List ℕ → List ℕ
-scriptNumbers script lent = linesAfter 1000 (set (set (set lent 0 (script .n)) 1 (script .s)) 2 (script .k)) (script .rows)
+scriptNumbers script lent = linesAfter 1000 (putTopLine lent (script .n) (script .s) (script .k) (script .title)) (script .rows)
 
 unfoldable pub encodeScript : Script → List ℕ → ReadAs
 encodeScript script lent =

@@ -49,10 +49,10 @@ fn number_of_count(reply: CountReply) -> u64
 // ---- the calls
 
 #[no_mangle]
-pub extern "C" fn soodhiqune_clear(nodes: &mut [u32], seats: &mut [u32]) -> u64
-    ensures { λ r. ⌜ done r (tables (now (nodes .exit)) (now (seats .exit))) ≡ call.clear (tables (now (nodes .entry)) (now (seats .entry))) ⌝ }
+pub extern "C" fn soodhiqune_clear(nodes: &mut [u32], seats: &mut [u32], title: u32) -> u64
+    ensures { λ r. ⌜ done r (tables (now (nodes .exit)) (now (seats .exit))) ≡ call.clear (tables (now (nodes .entry)) (now (seats .entry))) title ⌝ }
 {
-    let number = claims::clear(nodes, seats);
+    let number = claims::clear(nodes, seats, title);
     number as u64
 }
 
@@ -137,7 +137,7 @@ pub extern "C" fn soodhiqune_play(script: &[u8], out: &mut [u8; 32768]) -> u64
     playing::play(script, out) as u64
 }
 
-// ---- script reading: the numbers of a script in a lent list: N, S, K, then five for each of the 1,000 rows
+// ---- script reading: the numbers of a script in a lent list: N, S, K, the title's frame count, then five for each of the 1,000 rows
 
 fn put_line(numbers: &mut [u32], at: usize, line: Line)
     requires { ⌜ at + 5 ≤ length (now numbers) ⌝ }
@@ -151,31 +151,32 @@ fn put_line(numbers: &mut [u32], at: usize, line: Line)
 }
 
 fn put_lines(numbers: &mut [u32], script: Script)
-    requires { ⌜ length (now numbers) ≡ 5003 ⌝ }
+    requires { ⌜ length (now numbers) ≡ 5004 ⌝ }
     requires { ⌜ length (script .rows) ≡ 1000 ⌝ }
     ensures { λ r. ⌜ now (numbers .exit) ≡ linesAfter 1000 (now (numbers .entry)) (script .rows) ⌝ }
 {
     let mut i: usize = 0;
     while i < 1000 {
         let line = script.rows[i];
-        put_line(numbers, 3 + 5 * i, line);
+        put_line(numbers, 4 + 5 * i, line);
         i += 1;
     }
 }
 
 fn put_script(numbers: &mut [u32], script: Script)
-    requires { ⌜ length (now numbers) ≡ 5003 ⌝ }
+    requires { ⌜ length (now numbers) ≡ 5004 ⌝ }
     requires { ⌜ length (script .rows) ≡ 1000 ⌝ }
     ensures { λ r. ⌜ now (numbers .exit) ≡ scriptNumbers script (now (numbers .entry)) ⌝ }
 {
     numbers[0] = script.n;
     numbers[1] = script.s;
     numbers[2] = script.k;
+    numbers[3] = script.title;
     put_lines(numbers, script);
 }
 
 fn read_into(bytes: &[u8], numbers: &mut [u32]) -> u64
-    requires { ⌜ length (now numbers) ≡ 5003 ⌝ }
+    requires { ⌜ length (now numbers) ≡ 5004 ⌝ }
     ensures { λ r. ⌜ readAs (halvesOf r) (now (numbers .exit)) ≡ encodeScript (readScript (now (bytes .entry))) (now (numbers .entry)) ⌝ }
 {
     let script = script::read(bytes);
@@ -189,9 +190,9 @@ fn read_into(bytes: &[u8], numbers: &mut [u32]) -> u64
 
 // The length is promised so that the promise alone tells the script (proofs/ScriptTold.antt).
 #[no_mangle]
-pub extern "C" fn soodhiqune_read(bytes: &[u8], numbers: &mut [u32; 5003]) -> u64
+pub extern "C" fn soodhiqune_read(bytes: &[u8], numbers: &mut [u32; 5004]) -> u64
     ensures { λ r. ⌜ readAs (halvesOf r) (now (numbers .exit)) ≡ encodeScript (readScript (now (bytes .entry))) (now (numbers .entry)) ⌝ }
-    ensures { λ r. ⌜ length (now (numbers .exit)) ≡ 5003 ⌝ }
+    ensures { λ r. ⌜ length (now (numbers .exit)) ≡ 5004 ⌝ }
 {
     read_into(bytes, numbers)
 }

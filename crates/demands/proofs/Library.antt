@@ -1,33 +1,37 @@
 -- The demands, of the library: what is proved of the rules, of the library's own promises. The words are those of Made and of the rules'
--- specs/Refusing.antt, Apart.antt, Cause.antt and Covered.antt; each proof cites what stands at the door of the rules' proofs.
+-- specs/Refusing.antt, Apart.antt, Cause.antt, Covered.antt, HowMany.antt and Title.antt; each proof cites what stands at the door of the rules'
+-- proofs.
 use Prim.Native.Nat.{ℕ, _+_, _*_, _/_, _≤_}
 use mathlib.Core.Path.{_≡_, sym, ap, _∙_}
 use mathlib.Core.Bool.{true}
 use mathlib.Core.List.{List}
 use mathlib.Core.Logic.{_≢_, _⊎_}
 use lib.ListN.{length, replicate}
-use Rattle.rules.specs.Tables.{Tables, readers, writers, start, phase, own}
+use Rattle.rules.specs.Tables.{Tables, readers, writers, title, start, phase, own}
+use Rattle.rules.specs.Comparison.{Claim}
 use Rattle.rules.specs.Shape.{sound}
 use Rattle.rules.specs.Reach.{listOf}
-use Rattle.rules.specs.Answers.{Answer, wait, refused, Done, done}
+use Rattle.rules.specs.Answers.{Answer, node, wait, refused, Done, done}
 use Rattle.rules.specs.FreeCount.{Counted}
 use Rattle.rules.specs.Board.{Boarded, Shown, rowWidth, holders, coveredBy}
-use Rattle.rules.specs.Play.{Call, stepCall, call, seatOf}
+use Rattle.rules.specs.Play.{Call, beginCall, stepCall, call, seatOf}
 use Rattle.rules.specs.Reached.{Request}
 use Rattle.rules.specs.Run.{ran}
-use Rattle.rules.specs.Refusing.{Refuses, ClearRefuses, DamageRefuses, BoardRefuses}
+use Rattle.rules.specs.Refusing.{WithinTitle, Refuses, ClearRefuses, DamageRefuses, BoardRefuses}
 use Rattle.rules.specs.Apart.{Covers, claimOfSeat, Holds, LinkedIn, Stands, OfOneSeat, Rising, IsItsSteps, Stops, GivenUp, callsMade, StillStands}
 use Rattle.rules.specs.Cause.{Cause, Settled, Told}
 use Rattle.rules.specs.Covered.{addedUp, In32Bits}
 use Rattle.rules.specs.HowMany.{CountsRight, CountsMove}
+use Rattle.rules.specs.Title.{AllWithin, perCent}
 use Rattle.rules.specs.declared.Ran.{Ran}
 use Rattle.rules.proofs.Refusing as refusing
 use Rattle.rules.proofs.Apart as apart
 use Rattle.rules.proofs.Cause as cause
 use Rattle.rules.proofs.Covered as covers
 use Rattle.rules.proofs.HowMany as many
+use Rattle.rules.proofs.Title as titled
 use Rattle.demands.proofs.Made.{ClearMade, CallMade, RunMade, CountMade, BoardMade, RequestsMade, StepsMade, Lent}
-use Rattle.demands.proofs.MadeByRules.{made-clear, made-call, made-run, made-count, made-board, made-requests, made-steps, count-not-1, board-not-1, lent-reached}
+use Rattle.demands.proofs.MadeByRules.{made-clear, made-accepted, made-call, made-run, made-count, made-board, made-requests, made-steps, count-not-1, board-not-1, board-accepted, lent-reached}
 
 -- ---- demand 1, of any tables: a call is refused exactly where the table of refusals says, and a refused one leaves the tables as found
 pub refused-only : {t u : Tables} {c : Call} {k : ℕ} → CallMade t c (refused k) u → Refuses t c k × (u ≡ t)
@@ -41,11 +45,11 @@ refused-there {t} {u} {c} {a} {k} r m =
     (ap (λ (d : Done Answer). d .answer) e, ap (λ (d : Done Answer). d .after) e)
 
 -- so it is with the other calls: clear
-pub clear-refused : {t u : Tables} {k : ℕ} → k ≢ 0 → ClearMade t k u → ClearRefuses t k × (u ≡ t)
-clear-refused {t} {u} {k} d m =
+pub clear-refused : {t u : Tables} {frames k : ℕ} → k ≢ 0 → ClearMade t frames k u → ClearRefuses t frames k × (u ≡ t)
+clear-refused {t} {u} {frames} {k} d m =
     let e = made-clear m in
-    let why = refusing.clear-only t k (sym (ap (λ (x : Done ℕ). x .answer) e)) d in
-    (why, ap (λ (x : Done ℕ). x .after) (e ∙ refusing.clear-there t k why))
+    let why = refusing.clear-only t frames k (sym (ap (λ (x : Done ℕ). x .answer) e)) d in
+    (why, ap (λ (x : Done ℕ). x .after) (e ∙ refusing.clear-there t frames k why))
 
 -- run as a whole
 pub run-refused : {t u : Tables} {schedule : List ℕ} {budget k : ℕ} {r : Ran} → DamageRefuses t k → RunMade t schedule budget r u → (r ≡ ran 0 k) × (u ≡ t)
@@ -83,10 +87,8 @@ board-fits {t} words m = rw (board-covers m .1) (covers.fits t words)
 
 -- ---- the two counts, of any tables: clear makes them 0; after a call that was not refused as damaged each word is the number of seats that hold
 -- with its kind, and the call moved them by its own seat alone
-pub clear-counts : {t u : Tables} → ClearMade t 0 u → (readers u ≡ 0) × (writers u ≡ 0)
-clear-counts {t} m =
-    let e = made-clear m in
-    rw (ap (λ (x : Done ℕ). x .after) e) (many.cleared t (sym (ap (λ (x : Done ℕ). x .answer) e)))
+pub clear-counts : {t u : Tables} {frames : ℕ} → ClearMade t frames 0 u → (readers u ≡ 0) × (writers u ≡ 0)
+clear-counts {t} {frames = frames} m = rw (ap (λ (x : Done ℕ). x .after) (made-clear m)) (many.cleared t frames (made-accepted m))
 
 pub counts-right : {t u : Tables} {c : Call} {a : Answer} → CallMade t c a u → a ≢ refused 1 → CountsRight u
 counts-right {t} {c = c} m d =
@@ -99,6 +101,31 @@ counts-move {t} {c = c} m = rw (ap (λ (x : Done Answer). x .after) (made-call m
 pub run-counts-right : {t u : Tables} {schedule : List ℕ} {budget : ℕ} {r : Ran} → sound t ≡ true → RunMade t schedule budget r u → CountsRight u
 run-counts-right {t} {schedule = schedule} {budget} e m =
     rw (ap (λ (d : Done Ran). d .after) (made-run m)) (many.run-stays-right t schedule budget (many.right-if-sound t e))
+
+-- ---- the title, of any tables: clear remembers the count that it was given, one of some frames, and no call of the library changes it
+pub clear-remembers : {t u : Tables} {frames : ℕ} → ClearMade t frames 0 u → (title u ≡ frames) × (frames ≢ 0)
+clear-remembers {t} {frames = frames} m =
+    (rw (ap (λ (x : Done ℕ). x .after) (made-clear m)) (titled.remembered t frames (made-accepted m)), titled.some-frames t frames (made-accepted m))
+
+pub title-stays : {t u : Tables} {requests : List Request} → RequestsMade t requests u → title u ≡ title t
+title-stays {t} {requests = requests} m = rw (made-requests m) (titled.requests-never-change t requests)
+
+-- so it is what the tables were cleared with
+pub as-cleared : {t u v : Tables} {frames : ℕ} {requests : List Request} → ClearMade t frames 0 u → RequestsMade u requests v → title v ≡ frames
+as-cleared m more = title-stays more ∙ clear-remembers m .0
+
+-- whoever is told a node began a claim that ends within it
+pub begun-within : {t u : Tables} {s n : ℕ} {c : Claim} → CallMade t (beginCall s c) (node n) u → WithinTitle t c
+unfolding call
+begun-within {t} {s = s} {n} {c} m = titled.begun-within t s n c (sym (ap (λ (x : Done Answer). x .answer) (made-call m)))
+
+-- and a board that is accepted covers no more frames than the title has: at most 100 per cent
+pub board-within : {t : Tables} {rows after : List ℕ} {n covered : ℕ} → BoardMade t rows (Boarded.filled n covered) after → covered ≤ title t
+board-within {t} m = rw (board-covers m .1) (titled.covered-within t (board-accepted m))
+
+pub board-at-most-100 : {t : Tables} {rows after : List ℕ} {n covered : ℕ} → BoardMade t rows (Boarded.filled n covered) after
+    → perCent covered (title t) ≤ 100
+board-at-most-100 {t} m = rw (board-covers m .1) (titled.at-most-100 t (board-accepted m))
 
 -- ---- demand 2, of tables that the library cleared and that only its calls have changed since
 module _ {N S : ℕ} {t : Tables} (l : Lent N S t) where
@@ -148,6 +175,10 @@ module _ {N S : ℕ} {t : Tables} (l : Lent N S t) where
 
   pub counts-are-rows : {rows after : List ℕ} {n covered : ℕ} → BoardMade t rows (Boarded.filled n covered) after → readers t + writers t ≡ n
   counts-are-rows m = many.all-holders t always-sound ∙ sym (board-covers m .0)
+
+  -- no claim ends beyond the title, a seat's or a free node's
+  pub always-within : AllWithin t
+  always-within = titled.always-within (lent-reached l)
 
   -- where all holders write, covered is what 01 had: the sum over the rows
   pub writers-covered : {rows after : List ℕ} {n covered : ℕ} → ((s : ℕ) → Holds t s → claimOfSeat t s .kind ≡ 2) → BoardMade t rows (Boarded.filled n covered) after

@@ -31,11 +31,11 @@ use Rattle.run.proofs.run.Kinds as run-kinds
 use Rattle.board.proofs.board.Reads as board-reads
 use Rattle.board.proofs.board.Kinds as board-kinds
 
--- clear: the tables before, the number returned, the tables after
-pub data ClearMade : Tables → ℕ → Tables → Type 0 where
+-- clear: the tables before, the title's frame count, the number returned, the tables after
+pub data ClearMade : Tables → ℕ → ℕ → Tables → Type 0 where
   clear-made : (κs : Lfts 2) (args : Dens κs clear-kinds.ps) (r : resT clear-kinds.r κs .Denot) (end : AtExit (endedOf 2 clear-kinds.ps clear-kinds.r) κs)
       → clearing.Post κs args r end
-      → ClearMade (tables (now (args .0)) (now (args .1 .0))) r (tables (now (end .0)) (now (end .1 .0)))
+      → ClearMade (tables (now (args .0)) (now (args .1 .0))) (args .1 .1 .0) r (tables (now (end .0)) (now (end .1 .0)))
 
 -- begin, step or release: the tables before, the call with its numbers, the answer, the tables after
 pub data CallMade : Tables → Call → Answer → Tables → Type 0 where
@@ -83,6 +83,7 @@ pub data StepsMade (s : ℕ) : ℕ → Tables → Tables → Type 0 where
   no-step : {t : Tables} → StepsMade s 0 t t
   a-step : {k : ℕ} {t u v : Tables} {a : Answer} → CallMade t (stepCall s) a u → StepsMade s k u v → StepsMade s (suc k) t v
 
--- tables of N nodes and S seats that the library's clear accepted, and that were changed since by its calls alone, refused ones among them
+-- tables of N nodes and S seats that the library's clear accepted, for any title, and that were changed since by its calls alone, refused ones among
+-- them
 pub data Lent : ℕ → ℕ → Tables → Type 0 where
-  lent : {t u v : Tables} {requests : List Request} → ClearMade t 0 u → RequestsMade u requests v → Lent (nodeCount t) (seatCount t) v
+  lent : {t u v : Tables} {frames : ℕ} {requests : List Request} → ClearMade t frames 0 u → RequestsMade u requests v → Lent (nodeCount t) (seatCount t) v

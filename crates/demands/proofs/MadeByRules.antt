@@ -1,14 +1,13 @@
 -- What the library's calls did is what the rules say; so lent tables are reached tables of the rules.
-use Prim.Native.Nat.{ℕ, _/_}
+use Prim.Native.Nat.{ℕ, _/_, _≤_}
 use mathlib.Core.Path.{_≡_, refl, sym, ap, subst, _∙_}
-use mathlib.Core.Bool.{Bool, true, false, not}
+use mathlib.Core.Bool.{true}
 use mathlib.Core.List.{List}
 use mathlib.Core.Logic.{_≢_}
 use lib.ListN.{length}
 use native.Mathlib.Omega.{arith}
-use Rattle.rules.specs.Notation.{if_then_else_}
-use Rattle.rules.specs.Tables.{Tables, fresh, nodeCount, seatCount}
-use Rattle.rules.specs.Shape.{lengthsFit, sound}
+use Rattle.rules.specs.Tables.{Tables, nodeCount, seatCount}
+use Rattle.rules.specs.Shape.{sound}
 use Rattle.rules.specs.Answers.{Answer, Done, done}
 use Rattle.rules.specs.Calls.{clear}
 use Rattle.rules.specs.FreeCount.{Counted, freeCount}
@@ -19,13 +18,15 @@ use Rattle.rules.specs.Reached.{Request, afterRequest, afterRequests, Reached, 
 use Rattle.rules.specs.Cause.{stepTimes}
 use Rattle.rules.specs.declared.Ran.{Ran}
 use Rattle.rules.specs.Refusing.{tables-damaged, BoardRefuses, board-damaged}
-use Rattle.rules.proofs.Refusing.{count-only, numbers-only}
+use Rattle.rules.proofs.Refusing.{count-only, numbers-only, numbers-there}
 use Rattle.rules.proofs.Ground.Logic.{clash}
+use Rattle.rules.proofs.Ground.Deciding.{if-true}
 use Rattle.rules.proofs.Laws.Shape.{lengths-fit}
+use Rattle.rules.proofs.Rules.RefusedExactly.{clear-accepted}
 use Rattle.demands.proofs.Made.{ClearMade, clear-made, CallMade, begin-made, step-made, release-made, RunMade, run-made, CountMade, count-made, BoardMade, board-made, RequestMade, a-call, a-run, RequestsMade, no-more, first, StepsMade, no-step, a-step, Lent, lent}
 
 -- ---- each call is its rule
-pub made-clear : {t u : Tables} {r : ℕ} → ClearMade t r u → done r u ≡ clear t
+pub made-clear : {t u : Tables} {frames r : ℕ} → ClearMade t frames r u → done r u ≡ clear t frames
 made-clear (clear-made κs args r end p) = p
 
 pub made-call : {t u : Tables} {c : Call} {a : Answer} → CallMade t c a u → done a u ≡ call t c
@@ -59,23 +60,22 @@ made-steps no-step = refl
 made-steps {s} (a-step {k = k} m more) = made-steps more ∙ ap (λ u. stepTimes k u s) (ap (λ (d : Done Answer). d .after) (made-call m))
 
 -- ---- what an accepted clear leaves is a fresh table of as many nodes and seats as the lengths give
-reached-fresh : (t : Tables) → lengthsFit t ≡ true → Reached (nodeCount t) (seatCount t) (fresh (nodeCount t) (seatCount t))
-reached-fresh t e = let fit = lengths-fit t e in cleared (fit .some-nodes) (fit .few-nodes) (fit .some-seats) (fit .few-seats)
+pub made-accepted : {t u : Tables} {frames : ℕ} → ClearMade t frames 0 u → clear t frames .answer ≡ 0
+made-accepted m = sym (ap (λ (d : Done ℕ). d .answer) (made-clear m))
 
-cleared-fresh : (t u : Tables) → done {A = ℕ} 0 u ≡ clear t → Reached (nodeCount t) (seatCount t) u
-unfolding clear
-cleared-fresh t u p = go (lengthsFit t) refl p
-  where
-    go : (b : Bool) → lengthsFit t ≡ b → done {A = ℕ} 0 u ≡ (if not b then done 1 t else done 0 (fresh (nodeCount t) (seatCount t))) → Reached (nodeCount t) (seatCount t) u
-    go true f q = subst (Reached (nodeCount t) (seatCount t)) (sym (ap (λ (d : Done ℕ). d .after) q)) (reached-fresh t f)
-    go false f q = let z : _≡_ {A = ℕ} 0 1 = ap (λ (d : Done ℕ). d .answer) q in absurd (omega arith)
+cleared-fresh : {t u : Tables} {frames : ℕ} → ClearMade t frames 0 u → Reached (nodeCount t) (seatCount t) u
+cleared-fresh {t} {u} {frames} m =
+    let w = clear-accepted t frames (made-accepted m) in
+    let fit = lengths-fit t (w .lengths) in
+    let some : 1 ≤ frames = let d = w .some-frames in omega arith in
+    rw (ap (λ (d : Done ℕ). d .after) (made-clear m), w .makes-fresh) (cleared (fit .some-nodes) (fit .few-nodes) (fit .some-seats) (fit .few-seats) some)
 
 requests-reach : {N S : ℕ} {t u : Tables} {requests : List Request} → Reached N S t → RequestsMade t requests u → Reached N S u
 requests-reach r no-more = r
 requests-reach {N} {S} r (first {r = request} m more) = requests-reach (subst (Reached N S) (sym (made-request m)) (asked r request)) more
 
 pub lent-reached : {N S : ℕ} {t : Tables} → Lent N S t → Reached N S t
-lent-reached (lent {t} {u} c more) = requests-reach (cleared-fresh t u (made-clear c)) more
+lent-reached (lent c more) = requests-reach (cleared-fresh c) more
 
 -- ---- free count and board on sound tables are not refused 1
 pub count-not-1 : {t : Tables} {a : Counted} → sound t ≡ true → CountMade t a → a ≢ Counted.refused 1
@@ -87,3 +87,10 @@ board-not-1 {t} {rows} e m q =
   where
     not-damaged : BoardRefuses t (length rows / rowWidth) 1 → ⊥
     not-damaged (board-damaged f) = clash (sound t) e f
+
+-- ---- and a board that is accepted was of sound tables
+pub board-accepted : {t : Tables} {rows after : List ℕ} {n covered : ℕ} → BoardMade t rows (Boarded.filled n covered) after → sound t ≡ true
+board-accepted {t} {rows} m =
+    if-true (sound t) (λ e. e)
+    (λ e. let q = ap (λ (x : Shown ℕ). x .answer) (made-board m ∙ numbers-there t rows 1 (board-damaged e)) in
+    let z : _≡_ {A = ℕ} 0 1 = cc in absurd (omega arith))

@@ -1,20 +1,21 @@
 -- From the bytes of a script to everything that is printed: fresh tables, the calls, the end; or `bad L`.
-use Prim.Native.Nat.{ℕ, zero, suc, _+_, _*_, _≤_}
+use Prim.Native.Nat.{ℕ, zero, suc, _+_, _*_, _≤_, _<_}
 use native.Mathlib.Omega.{arith}
 use mathlib.Core.Bool.{true}
 use mathlib.Core.List.{List, _∷_, _++_}
 use mathlib.Core.Path.{_≡_, refl, sym, ap, _∙_}
 use lib.ListN.{length, take, drop, replicate, length-replicate}
-use lib.Seq.{length-take-le}
+use lib.Seq.{length-take-le, take-set-lt}
 use borrow.Author.Tests.{eq-eqb, ne-eqb}
-use Rattle.rules.specs.Tables.{Tables, tables, beforeNodes, nodeWidth, seatWidth, zeros, fresh, nodeCountOf, seatCountOf}
+use Rattle.rules.specs.Tables.{Tables, tables, titleAt, beforeNodes, nodeWidth, seatWidth, putTop, zeros, fresh, nodeCountOf, seatCountOf}
 use Rattle.rules.specs.Shape.{sound}
 use Rattle.rules.specs.Reached.{Reached, cleared}
+use Rattle.rules.proofs.Laws.Words.{put-top-length}
 use Rattle.rules.proofs.Laws.Shape.{is-sound}
 use Rattle.rules.proofs.Laws.RunSteps.{calls-reached}
 use Rattle.rules.proofs.Apart.{always-sound}
 use Rattle.rules.specs.Script.{readScript}
-use Rattle.rules.specs.Play.{callsOf, trace, afterAll, turnsText, endText, ascii, decimal, scriptText, play}
+use Rattle.rules.specs.Play.{callsOf, trace, afterAll, turnsText, endText, ascii, decimal, startOf, scriptText, play}
 use Rattle.rules.specs.declared.Script.{Script}
 use Rattle.script.specs.Bounded.{Bounded}
 use Rattle.script.proofs.Bounds.{read-bounded}
@@ -31,11 +32,13 @@ take-same (suc m) (suc n) h = ap (λ (l : List ℕ). 0 ∷ l) (take-same m n (om
 take-zeros : (m n : ℕ) (l : List ℕ) → l ≡ zeros m → n ≤ m → take n l ≡ zeros n
 take-zeros m n l e h = rw e (take-same m n h)
 
-length-zeros : (m n : ℕ) (l : List ℕ) → l ≡ zeros m → n ≤ m → n ≡ length (take n l)
-length-zeros m n l e h = rw (e, take-same m n h) (sym (length-replicate n 0))
+-- the title is in the part
+take-titled : (m n frames : ℕ) (l : List ℕ) → l ≡ putTop (zeros m) titleAt frames → titleAt < n → n ≤ m → take n l ≡ putTop (zeros n) titleAt frames
+take-titled m n frames l e i h = rw e (take-set-lt n (zeros m) titleAt frames i ∙ ap (λ (k : List ℕ). putTop k titleAt frames) (take-same m n h))
 
--- the tables that are lent are fresh ones of N nodes and S seats
-module _ (script : Script) (w v : ℕ) (nodes seats : List ℕ) (bounded : Bounded script) (noNodes : nodes ≡ zeros (beforeNodes + nodeWidth * 256))
+-- the tables that are lent are fresh ones of N nodes and S seats, for the script's title
+module _ (script : Script) (w v : ℕ) (nodes seats : List ℕ) (bounded : Bounded script)
+    (noNodes : nodes ≡ putTop (zeros (beforeNodes + nodeWidth * 256)) titleAt (script .title))
     (isNodes : w ≡ beforeNodes + nodeWidth * script .n) (noSeats : seats ≡ zeros (seatWidth * 64)) (isSeats : v ≡ seatWidth * script .s) where
   few-nodes : w ≤ beforeNodes + nodeWidth * 256
   few-nodes = let n = bounded .nodes in omega arith
@@ -43,18 +46,25 @@ module _ (script : Script) (w v : ℕ) (nodes seats : List ℕ) (bounded : Bound
   few-seats : v ≤ seatWidth * 64
   few-seats = let s = bounded .seats in omega arith
 
+  these-nodes : take w nodes ≡ putTop (zeros w) titleAt (script .title)
+  these-nodes = take-titled (beforeNodes + nodeWidth * 256) w (script .title) nodes noNodes (omega arith) few-nodes
+
+  these-seats : take v seats ≡ zeros v
+  these-seats = take-zeros (seatWidth * 64) v seats noSeats few-seats
+
   pub nodes-lent : w ≡ length (take w nodes)
-  nodes-lent = length-zeros (beforeNodes + nodeWidth * 256) w nodes noNodes few-nodes
+  nodes-lent = rw these-nodes (sym (put-top-length (zeros w) titleAt (script .title) ∙ length-replicate w 0))
 
   pub seats-lent : v ≡ length (take v seats)
-  seats-lent = length-zeros (seatWidth * 64) v seats noSeats few-seats
+  seats-lent = rw these-seats (sym (length-replicate v 0))
 
-  lent-fresh : tables (take w nodes) (take v seats) ≡ fresh (script .n) (script .s)
-  unfolding fresh
-  lent-fresh = rw (take-zeros (beforeNodes + nodeWidth * 256) w nodes noNodes few-nodes, take-zeros (seatWidth * 64) v seats noSeats few-seats, isNodes, isSeats)
+  lent-fresh : tables (take w nodes) (take v seats) ≡ startOf script
+  unfolding startOf fresh
+  lent-fresh = rw (these-nodes, these-seats, isNodes, isSeats)
 
   pub lent-reached : script .refusal ≡ 0 → Reached (script .n) (script .s) (tables (take w nodes) (take v seats))
-  lent-reached e = rw lent-fresh (cleared (bounded .some-nodes e) (bounded .nodes) (bounded .some-seats e) (bounded .seats))
+  unfolding startOf
+  lent-reached e = rw lent-fresh (cleared (bounded .some-nodes e) (bounded .nodes) (bounded .some-seats e) (bounded .seats) (bounded .some-frames e))
 
   pub script-played : (p q : Page) → q ≡ puts p (playedText (tables (take w nodes) (take v seats)) (callsOf script)) → q ≡ puts p (scriptText script)
   unfolding playedText scriptText

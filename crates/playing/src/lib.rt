@@ -163,7 +163,7 @@ fn play_script(out: &mut [u8], script: Script) -> usize
     ensures { λ r. ⌜ page (now (out .exit)) r ≡ puts (page (now (out .entry)) 0) (scriptText script) ⌝ }
     ensures { λ r. ⌜ r ≤ 26986 ⌝ }
 {
-    let mut nodes = words::fresh_nodes();
+    let mut nodes = words::fresh_nodes(script.title);
     let mut seats = words::fresh_seats();
     let n = words::node_words(script.n);
     let s = words::seat_words(script.s);

@@ -11,14 +11,14 @@ use lib.Seq.{drop-cons, drop-length}
 use lib.Dec.{eqb, leb}
 use borrow.Author.Tests.{ne-eqb, eq-eqb, eqb-true, eqb-false, leb-true, leb-false, not-true, not-false}
 use Rattle.rules.specs.Tables.{Tables, tables, seatWord, nodeCountOf, seatCountOf, linkWord, phaseAt, phase}
-use Rattle.rules.specs.Shape.{nodesFit, seatsFit, lengthsFit, names, countsFit, endsWithin, nodesSound, seatsSound, sound}
+use Rattle.rules.specs.Shape.{nodesFit, seatsFit, lengthsFit, sound}
 use Rattle.rules.specs.Answers.{Answer, refused, Done, done}
 use Rattle.rules.specs.Calls.{step}
 use Rattle.rules.specs.Run.{ran, refusalOf, oneMore, runSteps, run}
 use Rattle.rules.specs.declared.Ran.{Ran}
-use Rattle.rules.proofs.Ground.Logic.{branch, clash, not-of, or-case, or-neither, and-left, all6}
+use Rattle.rules.proofs.Ground.Logic.{branch, clash, not-of, or-case, or-neither, and-left}
 use Rattle.rules.proofs.Laws.Words.{same-node-count, same-seat-count}
-use Rattle.rules.proofs.Laws.Shape.{is-sound}
+use Rattle.rules.proofs.Laws.Shape.{is-sound, lengths-fit-is}
 use Rattle.rules.proofs.Rules.RefusedExactly.{refused-step-keeps}
 use Rattle.rules.proofs.Soundness.SoundKept.{step-keeps-sound}
 use Rattle.shape.specs.Parts.{listEnds}
@@ -164,10 +164,10 @@ kept-other n before after e = rw e
 
 -- a step keeps the lengths
 pub still-fit : (n n′ t : List ℕ) → sound (tables n t) ≡ true → length n′ ≡ length n → nodesFit (tables n′ []) ≡ true
-unfolding sound lengthsFit nodesFit
+unfolding lengthsFit nodesFit
 still-fit n n′ t e l =
-    let w = all6 (lengthsFit (tables n t)) (nodesSound (tables n t)) (names (tables n t) (linkWord n 0)) (seatsSound (tables n t)) (countsFit (tables n t)) (endsWithin (nodeCountOf n) (tables n t) (linkWord n 0)) e in
-    rw (l, same-node-count (tables n t) (tables n′ []) l) (and-left (nodesFit (tables n t)) (seatsFit (tables n t)) (w .0))
+    rw (l, same-node-count (tables n t) (tables n′ []) l)
+    (and-left (nodesFit (tables n t)) (seatsFit (tables n t)) (lengths-fit-is (tables n t) (is-sound (tables n t) e)))
 
 -- of the tables after a step on sound ones
 module _ (n n′ t t′ : List ℕ) (s before after : ℕ) (a : Answer) (k : Bool) (stepped : done a (tables n′ t′) ≡ step (tables n t) s) (isBefore : before ≡ seatWord t s phaseAt)

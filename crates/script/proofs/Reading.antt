@@ -163,14 +163,18 @@ module _ (src : List ℕ) (at d : ℕ) (isOne : d ≡ digitOrTen src at) where
     number-digits r n e = rw (stands, ← is-digit src at d isOne stands, ne-eqb d 0 n) e
 
 -- ---- line 1
-module _ (src : List ℕ) (n s k : Found) (isN : n ≡ numberAt src 0) (isS : s ≡ fieldAt src (n .next)) (isK : k ≡ fieldAt src (s .next)) where
-  pub contents-in : (b : Bool) (next : ℕ) → b ≡ inBounds (n .value) (s .value) (k .value) → b ≡ true → next ≡ lineEnd src (k .next) → _≡_ {A = Contents} (record { n = n .value; s = s .value; k = k .value; next = next }) (contentsOf src)
-  unfolding contentsOf
-  contents-in b next e t f = rw (← isN, ← isS, ← isK, ← e, t, f)
+module _ (src : List ℕ) (n s k title : Found) (isN : n ≡ numberAt src 0) (isS : s ≡ fieldAt src (n .next)) (isK : k ≡ fieldAt src (s .next))
+    (isTitle : title ≡ fieldAt src (k .next)) where
+  abbrev contents : ℕ → Contents
+  contents next = record { n = n .value; s = s .value; k = k .value; title = title .value; next = next }
 
-  pub contents-out : (b : Bool) (w : ℕ) → w ≡ nowhere src → b ≡ inBounds (n .value) (s .value) (k .value) → b ≡ false → _≡_ {A = Contents} (record { n = n .value; s = s .value; k = k .value; next = w }) (contentsOf src)
+  pub contents-in : (b : Bool) (next : ℕ) → b ≡ inBounds (n .value) (s .value) (k .value) (title .value) → b ≡ true → next ≡ lineEnd src (title .next) → contents next ≡ contentsOf src
   unfolding contentsOf
-  contents-out b w q e t = rw (← isN, ← isS, ← isK, ← e, t, q)
+  contents-in b next e t f = rw (← isN, ← isS, ← isK, ← isTitle, ← e, t, f)
+
+  pub contents-out : (b : Bool) (w : ℕ) → w ≡ nowhere src → b ≡ inBounds (n .value) (s .value) (k .value) (title .value) → b ≡ false → contents w ≡ contentsOf src
+  unfolding contentsOf
+  contents-out b w q e t = rw (← isN, ← isS, ← isK, ← isTitle, ← e, t, q)
 
 -- ---- the bodies: what is still to be read gives the whole, q
 pub bodies-start : (src : List ℕ) (top : Contents) (at : ℕ) (rows : List Line) (k : ℕ) → bodiesFrom src top (k - 0) 0 at rows ≡ bodiesFrom src top k 0 at rows
@@ -197,7 +201,7 @@ module _ (q : Script) (src : List ℕ) (top : Contents) (i at : ℕ) (rows : Lis
       let f : k - i ≡ 0 = omega arith in
       g ∙ (rw (f, ne-eqb at (length src) n) at p)
 
-  pub bodies-done : (k : ℕ) → bodiesFrom src top (k - i) i at rows ≡ q → k ≤ i → at ≡ length src → _≡_ {A = Script} (record { refusal = 0; wrong = 0; n = top .n; s = top .s; k = top .k; rows = rows }) q
+  pub bodies-done : (k : ℕ) → bodiesFrom src top (k - i) i at rows ≡ q → k ≤ i → at ≡ length src → _≡_ {A = Script} (record { refusal = 0; wrong = 0; n = top .n; s = top .s; k = top .k; title = top .title; rows = rows }) q
   unfolding bodiesFrom goodScript
   bodies-done k p h e =
       let f : k - i ≡ 0 = omega arith in

@@ -171,10 +171,10 @@ fn body_line(src: &[u8], at: usize) -> Body
     }
 }
 
-fn in_bounds(n: u32, s: u32, k: u32) -> bool
-    ensures { λ r. ⌜ r ≡ inBounds n s k ⌝ }
+fn in_bounds(n: u32, s: u32, k: u32, title: u32) -> bool
+    ensures { λ r. ⌜ r ≡ inBounds n s k title ⌝ }
 {
-    (1 <= n) & (n <= 256) & (1 <= s) & (s <= 64) & (k <= 1000)
+    (1 <= n) & (n <= 256) & (1 <= s) & (s <= 64) & (k <= 1000) & (1 <= title)
 }
 
 fn contents_line(src: &[u8]) -> Contents
@@ -183,12 +183,14 @@ fn contents_line(src: &[u8]) -> Contents
     let n = number(src, 0);
     let s = field(src, n.next);
     let k = field(src, s.next);
-    if in_bounds(n.value, s.value, k.value) {
-        let next = line_end(src, k.next);
+    let title = field(src, k.next);
+    if in_bounds(n.value, s.value, k.value, title.value) {
+        let next = line_end(src, title.next);
         return Contents {
             n: n.value,
             s: s.value,
             k: k.value,
+            title: title.value,
             next: next,
         };
     }
@@ -196,6 +198,7 @@ fn contents_line(src: &[u8]) -> Contents
         n: n.value,
         s: s.value,
         k: k.value,
+        title: title.value,
         next: nowhere(src),
     }
 }
@@ -210,6 +213,7 @@ fn bad_at(wrong: u32) -> Script
         n: 0,
         s: 0,
         k: 0,
+        title: 0,
         rows: [none; 1000],
     }
 }
@@ -244,6 +248,7 @@ fn bodies(src: &[u8], top: Contents) -> Script
         n: top.n,
         s: top.s,
         k: top.k,
+        title: top.title,
         rows: rows,
     }
 }

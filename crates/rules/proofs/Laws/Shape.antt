@@ -345,7 +345,7 @@ module _ (t : Tables) where
   unfolding seatsSound
   seats-sound-is w = all-of (seatCount t) (seatSound t) (λ s h. seat-sound-is t s (w .seat s))
 
-  lengths-fit-is : Sound t → lengthsFit t ≡ true
+  pub lengths-fit-is : Sound t → lengthsFit t ≡ true
   unfolding lengthsFit nodesFit seatsFit
   lengths-fit-is w =
       and-both (nodesFit t) (seatsFit t)

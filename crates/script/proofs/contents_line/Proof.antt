@@ -13,6 +13,9 @@ field-requires c κs = search needs
 field-requires-2 : tie.Need-field-requires-2
 field-requires-2 c κs = search needs
 
+field-requires-3 : tie.Need-field-requires-3
+field-requires-3 c κs = search needs
+
 in-bounds-requires : tie.Need-in-bounds-requires
 in-bounds-requires c κs = search needs
 
@@ -35,6 +38,7 @@ contents-line-spec =
     number-requires
     field-requires
     field-requires-2
+    field-requires-3
     in-bounds-requires
     line-end-requires
     returns
