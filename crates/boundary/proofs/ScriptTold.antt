@@ -1,5 +1,5 @@
 -- What `soodhiqune_read` returns and leaves tells the whole script: N, S, K, the title and every row, or the line that is wrong.
-use Prim.Native.Nat.{ℕ, zero, suc, _+_, _*_, _≤_, _<_}
+use Prim.Native.Nat.{ℕ, zero, suc, _+_, _≤_, _<_}
 use native.Mathlib.Omega.{arith}
 use mathlib.Core.List.{List, [], _∷_}
 use mathlib.Core.Logic.{_≢_}

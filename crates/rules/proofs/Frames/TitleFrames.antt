@@ -2,7 +2,7 @@
 -- step that fetches again writes the claim that its seat has. Of any tables, reached or not.
 use Prim.Native.Nat.{ℕ, _≤_}
 use mathlib.Core.Path.{_≡_, refl, sym, ap, _∙_}
-use mathlib.Core.Bool.{true, false}
+use mathlib.Core.Bool.{false}
 use mathlib.Core.List.{List}
 use native.Mathlib.Omega.{arith}
 use Rattle.rules.specs.Notation.{_is_}
@@ -16,7 +16,7 @@ use Rattle.rules.specs.Calls.{clear, begun, begin}
 use Rattle.rules.specs.Play.{Call, beginCall, stepCall, releaseCall, call}
 use Rattle.rules.specs.Reached.{Request, afterRequests, Reached}
 use Rattle.rules.specs.Refusing.{WithinTitle, Refuses, damaged, no-seat, no-frames, beyond-title, no-kind, not-idle, idle, not-holding, none-to-begin, none-again}
-use Rattle.rules.specs.Apart.{NodesKept, NoNode, NoPlace}
+use Rattle.rules.specs.Apart.{NodesKept, NoNode}
 use Rattle.rules.specs.Title.{AllWithin, BeginsBeyond, begins-beyond}
 use Rattle.rules.proofs.Ground.Logic.{branch, not-of}
 use Rattle.rules.proofs.Laws.Words.{node-put-field, node-put-link, node-put-at-most, count-not-title, fresh-title, fresh-node-word}
