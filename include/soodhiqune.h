@@ -44,9 +44,9 @@ extern "C" {
 
 /* ---- words of the node table before node 1. After every call that was not refused as damaged, nodes[SOODHIQUNE_HOLDING_READERS] is how
  * many readers hold, and nodes[SOODHIQUNE_HOLDING_WRITERS] how many writers: to be read between calls, by a display after each message
- * say; no call is needed, and nothing is walked. The calls keep them: a table with another number there is damaged. So does
- * nodes[SOODHIQUNE_TITLE] say how many frames the title has, as clear was told, for a planner to divide covered frames by: only clear
- * writes it, and a table with 0 there, or less than the end of any node, is damaged. */
+ * say; no call is needed, and nothing is walked. The calls keep them: a table with another number there is damaged.
+ * nodes[SOODHIQUNE_TITLE] is how many frames the title has, as clear was told, for a planner to divide covered frames by: only clear
+ * writes it, and a table with 0 there, or with less than the end of any node, listed or not, is damaged. */
 
 enum soodhiqune_before_nodes {
     SOODHIQUNE_HEAD,            /* the first node on the list, or 0 */

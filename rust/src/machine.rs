@@ -443,8 +443,8 @@ fn step_sound(nodes: &mut [u32], seats: &mut [u32], number: u32) -> Result<(Seat
 
 // The calls
 
-/// "Clear writes 0 everywhere." 02: "Clear takes the title's frame count, and the table remembers it in a word of its own";
-/// "clear with count 0 is refused 3".
+/// "Clear writes 0 everywhere." 02: "Clear takes the title's frame count, 1 to 4,294,967,295, and the table remembers it in a
+/// word of its own"; "clear with count 0 is refused 3".
 pub fn clear(nodes: &mut [u32], seats: &mut [u32], title: u32) -> Result<(), u32> {
     refuse(1, !lengths_fit(nodes, seats))?;
     refuse(3, title == 0)?;
