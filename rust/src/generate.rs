@@ -314,6 +314,10 @@ pub const FLAWS: &[Flaw] = &[
     ("empty", |_, script| script.clear()),
     ("a line end alone", |_, script| *script = b"\n".to_vec()),
     ("cut off before the last line end", |_, script| script.truncate(script.len() - 1)),
+    ("another byte for the last line end", |random, script| {
+        script.pop();
+        script.push(random.pick(b" 0s\r\0"));
+    }),
     ("cut off anywhere", |random, script| script.truncate(random.below(script.len() as u32) as usize)),
     ("an empty line", |random, script| put_in(random, script, line_start, b"\n")),
     ("a line end more", |_, script| script.push(b'\n')),
