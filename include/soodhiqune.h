@@ -3,8 +3,8 @@
  * `./install --prefix DIR` puts this header, the archive libsoodhiqune.a (x86-64 Linux) and soodhiqune.pc for pkg-config in place. Every
  * call takes any tables and any numbers and ends; a refused call changes nothing that it was lent. A table is lent as its address and
  * its number of 32-bit words:
- *   nodes   the head word, how many readers hold and how many writers, then N nodes of five words: start, end, kind, next, mark (N is 1
- *           to 256)
+ *   nodes   the head word, how many readers hold and how many writers, the title's frame count, then N nodes of five words: start, end,
+ *           kind, next, mark (N is 1 to 256)
  *   seats   S seats of four words: phase, own, prev, cur (S is 1 to 64)
  *
  * What is asked of the caller:
@@ -44,12 +44,15 @@ extern "C" {
 
 /* ---- words of the node table before node 1. After every call that was not refused as damaged, nodes[SOODHIQUNE_HOLDING_READERS] is how
  * many readers hold, and nodes[SOODHIQUNE_HOLDING_WRITERS] how many writers: to be read between calls, by a display after each message
- * say; no call is needed, and nothing is walked. The calls keep them: a table with another number there is damaged. */
+ * say; no call is needed, and nothing is walked. The calls keep them: a table with another number there is damaged.
+ * nodes[SOODHIQUNE_TITLE] is how many frames the title has, as clear was told, for a planner to divide covered frames by: only clear
+ * writes it, and a table with 0 there, or with less than the end of any node, listed or not, is damaged. */
 
 enum soodhiqune_before_nodes {
     SOODHIQUNE_HEAD,            /* the first node on the list, or 0 */
     SOODHIQUNE_HOLDING_READERS,
     SOODHIQUNE_HOLDING_WRITERS,
+    SOODHIQUNE_TITLE,           /* the title's frame count, from 1: a claim may end at it and not beyond */
     SOODHIQUNE_BEFORE_NODES     /* so many words stand before node 1 */
 };
 
@@ -59,7 +62,13 @@ enum soodhiqune_row { SOODHIQUNE_ROW_SEAT, SOODHIQUNE_ROW_START, SOODHIQUNE_ROW_
 
 /* ---- numbers of a script: numbers[SOODHIQUNE_SCRIPT_SEATS], numbers[SOODHIQUNE_SCRIPT_ROW(r) + SOODHIQUNE_LINE_SEAT] and the like */
 
-enum soodhiqune_script { SOODHIQUNE_SCRIPT_NODES, SOODHIQUNE_SCRIPT_SEATS, SOODHIQUNE_SCRIPT_COUNT, SOODHIQUNE_SCRIPT_ROWS };
+enum soodhiqune_script {
+    SOODHIQUNE_SCRIPT_NODES,
+    SOODHIQUNE_SCRIPT_SEATS,
+    SOODHIQUNE_SCRIPT_COUNT, /* so many lines follow the first */
+    SOODHIQUNE_SCRIPT_TITLE, /* the title's frame count */
+    SOODHIQUNE_SCRIPT_ROWS
+};
 enum soodhiqune_line {
     SOODHIQUNE_LINE_CODE,
     SOODHIQUNE_LINE_SEAT,
@@ -97,18 +106,21 @@ enum soodhiqune_answer {
     SOODHIQUNE_BACK     /* it was withdrawn, since a reader was there first; step it again, and it takes a node anew */
 };
 
+/* the numbers are not the order in which a call looks for them: beyond title is looked for between empty claim and no such kind */
 enum soodhiqune_refusal {
     SOODHIQUNE_ACCEPTED,
     SOODHIQUNE_DAMAGED,         /* tables damaged (for clear: only lengths wrong) */
     SOODHIQUNE_NO_SUCH_SEAT,    /* seat number not below S */
-    SOODHIQUNE_EMPTY_CLAIM,     /* start not below end */
+    SOODHIQUNE_EMPTY_CLAIM,     /* begin: start not below end */
+    SOODHIQUNE_EMPTY_TITLE = SOODHIQUNE_EMPTY_CLAIM, /* clear: a title of no frames. It is 3 too, under the name that fits */
     SOODHIQUNE_NO_SUCH_KIND,    /* kind not 1 or 2 */
     SOODHIQUNE_SEAT_HAS_CLAIM,  /* begin wants an idle seat */
     SOODHIQUNE_SEAT_IDLE,       /* step wants a seat with a claim */
     SOODHIQUNE_NOT_HOLDING,     /* release wants a seat that holds */
     SOODHIQUNE_NO_NODE_FREE,    /* begin, or a step that takes a node anew */
     SOODHIQUNE_BOARD_TOO_SHORT, /* fewer rows than holders */
-    SOODHIQUNE_BAD_SCRIPT       /* script not well formed */
+    SOODHIQUNE_BAD_SCRIPT,      /* script not well formed */
+    SOODHIQUNE_BEYOND_TITLE     /* begin: end beyond the title */
 };
 
 /* of begin, step and release: which answer, and its node, if it has one */
@@ -158,11 +170,13 @@ static inline uint32_t soodhiqune_wrong_line(uint64_t given)
 
 /* ---- the calls */
 
-/* Writes 0 everywhere. Refused: damaged. */
-uint64_t soodhiqune_clear(uint32_t *nodes, size_t node_words, uint32_t *seats, size_t seat_words);
+/* Writes 0 everywhere but where the title's frame count stands: that becomes title, 1 to 4,294,967,295. Refused: damaged, then empty
+ * title, which is 3, if title is 0. */
+uint64_t soodhiqune_clear(uint32_t *nodes, size_t node_words, uint32_t *seats, size_t seat_words, uint32_t title);
 
 /* Takes a node for a claim of the frames from start up to but not including end. Answers: node. Refused: damaged, no such seat, empty
- * claim, no such kind, seat has claim, no node free; the first that holds. */
+ * claim, beyond title, no such kind, seat has claim, no node free; the first that holds, in this order, which is not that of the
+ * numbers. */
 uint64_t soodhiqune_begin(uint32_t *nodes, size_t node_words, uint32_t *seats, size_t seat_words,
                           uint32_t seat, uint32_t start, uint32_t end, uint32_t kind);
 
@@ -177,7 +191,7 @@ uint64_t soodhiqune_run(uint32_t *nodes, size_t node_words, uint32_t *seats, siz
                         const uint32_t *schedule, size_t entries, uint32_t budget);
 
 /* A row for each holder, by rising seat; rows past the count stay. *covered becomes the number of frames that at least one of them covers,
- * at most 4,294,967,295. Refused: damaged, board too short; *covered is then as found. */
+ * at most the title's frame count. Refused: damaged, board too short; *covered is then as found. */
 uint64_t soodhiqune_board(const uint32_t *nodes, size_t node_words, const uint32_t *seats, size_t seat_words,
                           uint32_t *rows, size_t row_words, uint64_t *covered);
 

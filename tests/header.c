@@ -1,12 +1,12 @@
-/* H1 of document 01, every refusal, how many hold, and the edges of what may be lent, through include/soodhiqune.h and the archive: that
- * the header says how each call is made, and that its names and sizes are those of the library. It is C99 and C++. Prints what differs, and
- * a closing line 'N passed, M failed'. */
+/* H1 of document 01, every refusal, how many hold, where the title ends, and the edges of what may be lent, through include/soodhiqune.h
+ * and the archive: that the header says how each call is made, and that its names and sizes are those of the library. It is C99 and C++.
+ * Prints what differs, and a closing line 'N passed, M failed'. */
 #include "../include/soodhiqune.h"
 
 #include <stdio.h>
 #include <string.h>
 
-enum { NODES = 4, SEATS = 3, UNTOUCHED = 9 };
+enum { NODES = 4, SEATS = 3, FRAMES = 25, UNTOUCHED = 9 };
 
 #define NODE_TABLE nodes, SOODHIQUNE_NODE_WORDS(NODES)
 #define SEAT_TABLE seats, SOODHIQUNE_SEAT_WORDS(SEATS)
@@ -50,14 +50,15 @@ static int ran(uint64_t given, uint32_t steps, enum soodhiqune_refusal refusal)
 
 static int accepts_lengths(size_t node_words, size_t seat_words)
 {
-    return soodhiqune_clear(nodes, node_words, seats, seat_words) == SOODHIQUNE_ACCEPTED;
+    return soodhiqune_clear(nodes, node_words, seats, seat_words, 1) == SOODHIQUNE_ACCEPTED;
 }
 
 static void check_lengths(void)
 {
     const size_t node_words = SOODHIQUNE_NODE_WORDS(1), seat_words = SOODHIQUNE_SEAT_WORDS(1);
-    check("the numbers that documents 01 and 02 say", SOODHIQUNE_NODE_WORDS(4) == 23 && SOODHIQUNE_SEAT_WORDS(3) == 12 &&
-          SOODHIQUNE_ROW_WORDS(2) == 8 && SOODHIQUNE_SCRIPT_NUMBERS == 5003 && SOODHIQUNE_BAD_SCRIPT == 10);
+    check("the numbers that documents 01 and 02 say", SOODHIQUNE_NODE_WORDS(4) == 24 && SOODHIQUNE_SEAT_WORDS(3) == 12 &&
+          SOODHIQUNE_ROW_WORDS(2) == 8 && SOODHIQUNE_SCRIPT_NUMBERS == 5004 && SOODHIQUNE_EMPTY_CLAIM == 3 &&
+          SOODHIQUNE_EMPTY_TITLE == 3 && SOODHIQUNE_NO_SUCH_KIND == 4 && SOODHIQUNE_BAD_SCRIPT == 10 && SOODHIQUNE_BEYOND_TITLE == 11);
     check("the fewest", accepts_lengths(node_words, seat_words));
     check("the most", accepts_lengths(SOODHIQUNE_NODE_WORDS(SOODHIQUNE_MOST_NODES), SOODHIQUNE_SEAT_WORDS(SOODHIQUNE_MOST_SEATS)));
     check("a node too many", !accepts_lengths(SOODHIQUNE_NODE_WORDS(SOODHIQUNE_MOST_NODES + 1), seat_words));
@@ -77,7 +78,7 @@ static void check_claims(void)
     memset(nodes, 7, sizeof nodes);
     memset(seats, 7, sizeof seats);
     check("a table of sevens is damaged", refuses(soodhiqune_step(TABLES, 0), SOODHIQUNE_DAMAGED));
-    check("clear", soodhiqune_clear(TABLES) == SOODHIQUNE_ACCEPTED);
+    check("clear", soodhiqune_clear(TABLES, FRAMES) == SOODHIQUNE_ACCEPTED);
     check("seat 0 begins", answers(soodhiqune_begin(TABLES, 0, 10, 20, SOODHIQUNE_WRITES), SOODHIQUNE_NODE, 1));
     check("seat 0 enters", answers(soodhiqune_step(TABLES, 0), SOODHIQUNE_ON, 0));
     check("seat 0 holds", answers(soodhiqune_step(TABLES, 0), SOODHIQUNE_HELD, 0));
@@ -93,29 +94,34 @@ static void check_claims(void)
 
 static void check_refusals(void)
 {
-    check("no such seat", refuses(soodhiqune_begin(TABLES, SEATS, 7, 7, 9), SOODHIQUNE_NO_SUCH_SEAT));
-    check("an empty claim", refuses(soodhiqune_begin(TABLES, 1, 7, 7, 9), SOODHIQUNE_EMPTY_CLAIM));
-    check("no such kind", refuses(soodhiqune_begin(TABLES, 1, 7, 8, 9), SOODHIQUNE_NO_SUCH_KIND));
-    check("the seat has a claim", refuses(soodhiqune_begin(TABLES, 1, 7, 8, SOODHIQUNE_READS), SOODHIQUNE_SEAT_HAS_CLAIM));
+    check("no such seat", refuses(soodhiqune_begin(TABLES, SEATS, 26, 26, 9), SOODHIQUNE_NO_SUCH_SEAT));
+    check("an empty claim", refuses(soodhiqune_begin(TABLES, 1, 26, 26, 9), SOODHIQUNE_EMPTY_CLAIM));
+    check("beyond the title", refuses(soodhiqune_begin(TABLES, 1, 7, 26, 9), SOODHIQUNE_BEYOND_TITLE));
+    check("no such kind", refuses(soodhiqune_begin(TABLES, 1, 7, 25, 9), SOODHIQUNE_NO_SUCH_KIND));
+    check("the seat has a claim", refuses(soodhiqune_begin(TABLES, 1, 7, 25, SOODHIQUNE_READS), SOODHIQUNE_SEAT_HAS_CLAIM));
     check("the seat is idle", refuses(soodhiqune_step(TABLES, 0), SOODHIQUNE_SEAT_IDLE));
 }
 
 /* H7 */
 static void check_no_node(void)
 {
-    uint32_t node[SOODHIQUNE_NODE_WORDS(1)] = {0}, both[SOODHIQUNE_SEAT_WORDS(2)] = {0};
+    uint32_t node[SOODHIQUNE_NODE_WORDS(1)], both[SOODHIQUNE_SEAT_WORDS(2)];
     const size_t node_words = SOODHIQUNE_NODE_WORDS(1), both_words = SOODHIQUNE_SEAT_WORDS(2);
+    soodhiqune_clear(node, node_words, both, both_words, 10);
     soodhiqune_begin(node, node_words, both, both_words, 0, 0, 10, SOODHIQUNE_WRITES);
     check("no node is free",
           refuses(soodhiqune_begin(node, node_words, both, both_words, 1, 0, 10, SOODHIQUNE_WRITES), SOODHIQUNE_NO_NODE_FREE));
+    check("beyond the title, and no node is free",
+          refuses(soodhiqune_begin(node, node_words, both, both_words, 1, 0, 11, SOODHIQUNE_WRITES), SOODHIQUNE_BEYOND_TITLE));
 }
 
-/* a writer that meets a reader goes back: document 01's H9 */
+/* a writer that meets a reader goes back, and begins anew though its claim ends with the title: document 01's H9 and H10 */
 static void check_back(void)
 {
     const uint32_t first[] = {0, 0}, second[] = {1, 1, 1}, others[] = {3, 3, 2, 2, 3, 2, 2, 3};
-    uint32_t table[SOODHIQUNE_NODE_WORDS(8)] = {0}, four[SOODHIQUNE_SEAT_WORDS(4)] = {0};
+    uint32_t table[SOODHIQUNE_NODE_WORDS(8)], four[SOODHIQUNE_SEAT_WORDS(4)];
 #define H9 table, SOODHIQUNE_NODE_WORDS(8), four, SOODHIQUNE_SEAT_WORDS(4)
+    soodhiqune_clear(H9, 20);
     soodhiqune_begin(H9, 0, 1, 10, SOODHIQUNE_READS);
     soodhiqune_run(H9, ENTRIES(first), 9);
     soodhiqune_begin(H9, 1, 12, 14, SOODHIQUNE_READS);
@@ -124,6 +130,7 @@ static void check_back(void)
     soodhiqune_begin(H9, 3, 15, 20, SOODHIQUNE_WRITES);
     soodhiqune_run(H9, ENTRIES(others), 9);
     check("the writer goes back", answers(soodhiqune_step(H9, 3), SOODHIQUNE_BACK, 0));
+    check("the writer takes a node anew", answers(soodhiqune_step(H9, 3), SOODHIQUNE_ON, 0) && table[SOODHIQUNE_TITLE] == 20);
 }
 
 static void check_board(void)
@@ -150,15 +157,16 @@ static void check_board(void)
 static void check_covered(void)
 {
     const uint32_t first[] = {0, 0}, second[] = {1, 1, 1};
-    uint32_t table[SOODHIQUNE_NODE_WORDS(2)] = {0}, both[SOODHIQUNE_SEAT_WORDS(2)] = {0}, rows[SOODHIQUNE_ROW_WORDS(2)];
+    uint32_t table[SOODHIQUNE_NODE_WORDS(2)], both[SOODHIQUNE_SEAT_WORDS(2)], rows[SOODHIQUNE_ROW_WORDS(2)];
     uint64_t covered = UNTOUCHED;
 #define BOTH table, SOODHIQUNE_NODE_WORDS(2), both, SOODHIQUNE_SEAT_WORDS(2)
+    soodhiqune_clear(BOTH, 100);
     soodhiqune_begin(BOTH, 0, 0, 100, SOODHIQUNE_READS);
     soodhiqune_run(BOTH, ENTRIES(first), 9);
     soodhiqune_begin(BOTH, 1, 50, 60, SOODHIQUNE_READS);
     soodhiqune_run(BOTH, ENTRIES(second), 9);
     check("two readers hold", counts(soodhiqune_board(BOTH, rows, SOODHIQUNE_ROW_WORDS(2), &covered), 2));
-    check("their shared frames are covered once", covered == 100);
+    check("their shared frames are covered once, which is the whole title", covered == 100 && covered == table[SOODHIQUNE_TITLE]);
 }
 
 static int holding(const uint32_t *table, uint32_t readers, uint32_t writers)
@@ -181,7 +189,7 @@ static void check_counts(void)
     const uint32_t first[] = {0, 0}, second[] = {1, 1, 1}, third[] = {2, 2, 2, 2, 2, 2};
     uint32_t table[SOODHIQUNE_NODE_WORDS(4)], four[SOODHIQUNE_SEAT_WORDS(4)];
 #define FOUR table, SOODHIQUNE_NODE_WORDS(4), four, SOODHIQUNE_SEAT_WORDS(4)
-    check("nobody holds in fresh tables", soodhiqune_clear(FOUR) == SOODHIQUNE_ACCEPTED && holding(table, 0, 0));
+    check("nobody holds in fresh tables", soodhiqune_clear(FOUR, 30) == SOODHIQUNE_ACCEPTED && holding(table, 0, 0));
     soodhiqune_begin(FOUR, 0, 0, 10, SOODHIQUNE_READS);
     check("a claim that began does not hold", holding(table, 0, 0));
     check("a reader holds", ran(soodhiqune_run(FOUR, ENTRIES(first), 9), 2, SOODHIQUNE_ACCEPTED) && holding(table, 1, 0));
@@ -201,14 +209,66 @@ static void check_counts(void)
     table[SOODHIQUNE_HOLDING_WRITERS] = 1;
     check("a reader releases", answers(soodhiqune_release(FOUR, 0), SOODHIQUNE_OUT, 0) && holding(table, 1, 1));
     check("the writer releases", answers(soodhiqune_release(FOUR, 2), SOODHIQUNE_OUT, 0) && holding(table, 1, 0));
-    check("cleared, nobody holds", soodhiqune_clear(FOUR) == SOODHIQUNE_ACCEPTED && holding(table, 0, 0));
+    check("cleared, nobody holds", soodhiqune_clear(FOUR, 30) == SOODHIQUNE_ACCEPTED && holding(table, 0, 0));
+}
+
+/* a call refuses a table with this title, and leaves it */
+static int damages_title(uint32_t *table, const uint32_t *four, uint32_t title)
+{
+    table[SOODHIQUNE_TITLE] = title;
+    return refuses(soodhiqune_free_count(table, SOODHIQUNE_NODE_WORDS(4), four, SOODHIQUNE_SEAT_WORDS(4)), SOODHIQUNE_DAMAGED) &&
+           table[SOODHIQUNE_TITLE] == title;
+}
+
+/* the title has an end: document 02's third request */
+static void check_title(void)
+{
+    const uint32_t first[] = {0, 0};
+    uint32_t table[SOODHIQUNE_NODE_WORDS(4)], four[SOODHIQUNE_SEAT_WORDS(4)];
+    size_t word;
+    int zeros = 1;
+    memset(table, 7, sizeof table);
+    memset(four, 7, sizeof four);
+    check("a title of no frames", refuses(soodhiqune_clear(FOUR, 0), SOODHIQUNE_EMPTY_TITLE) && table[SOODHIQUNE_TITLE] == 0x07070707);
+    check("no frames, and a word too few",
+          refuses(soodhiqune_clear(table, SOODHIQUNE_NODE_WORDS(4) - 1, four, SOODHIQUNE_SEAT_WORDS(4), 0), SOODHIQUNE_DAMAGED));
+    check("a title of 20 frames", soodhiqune_clear(FOUR, 20) == SOODHIQUNE_ACCEPTED && table[SOODHIQUNE_TITLE] == 20);
+    for (word = 0; word < SOODHIQUNE_NODE_WORDS(4); word++) {
+        zeros = zeros && (word == SOODHIQUNE_TITLE || table[word] == 0);
+    }
+    check("0 everywhere else", zeros);
+    check("a frame beyond", refuses(soodhiqune_begin(FOUR, 0, 10, 21, SOODHIQUNE_WRITES), SOODHIQUNE_BEYOND_TITLE));
+    check("beyond, and empty", refuses(soodhiqune_begin(FOUR, 0, 21, 21, SOODHIQUNE_WRITES), SOODHIQUNE_EMPTY_CLAIM));
+    check("beyond, and of no known kind", refuses(soodhiqune_begin(FOUR, 0, 10, 21, 9), SOODHIQUNE_BEYOND_TITLE));
+    check("up to the end", answers(soodhiqune_begin(FOUR, 0, 10, 20, SOODHIQUNE_WRITES), SOODHIQUNE_NODE, 1));
+    check("beyond, by a seat that has a claim",
+          refuses(soodhiqune_begin(FOUR, 0, 10, 21, SOODHIQUNE_WRITES), SOODHIQUNE_BEYOND_TITLE));
+    check("it holds, and the title stays",
+          ran(soodhiqune_run(FOUR, ENTRIES(first), 9), 2, SOODHIQUNE_ACCEPTED) && table[SOODHIQUNE_TITLE] == 20);
+    check("no title is damage", damages_title(table, four, 0));
+    check("a frame short of an end is damage", damages_title(table, four, 19));
+    table[SOODHIQUNE_TITLE] = 20;
+    check("released, and the title stays", answers(soodhiqune_release(FOUR, 0), SOODHIQUNE_OUT, 0) && table[SOODHIQUNE_TITLE] == 20);
+    check("a released claim still needs its frames", damages_title(table, four, 19));
+    check("the longest title", soodhiqune_clear(FOUR, UINT32_MAX) == SOODHIQUNE_ACCEPTED && table[SOODHIQUNE_TITLE] == UINT32_MAX);
+    check("and all of it", answers(soodhiqune_begin(FOUR, 0, 0, UINT32_MAX, SOODHIQUNE_WRITES), SOODHIQUNE_NODE, 1));
+    check("the shortest title", soodhiqune_clear(FOUR, 1) == SOODHIQUNE_ACCEPTED && table[SOODHIQUNE_TITLE] == 1);
+    check("a frame that it does not have", refuses(soodhiqune_begin(FOUR, 0, 1, 2, SOODHIQUNE_READS), SOODHIQUNE_BEYOND_TITLE));
+    check("its frame", answers(soodhiqune_begin(FOUR, 0, 0, 1, SOODHIQUNE_READS), SOODHIQUNE_NODE, 1));
+}
+
+static int wrong_first_line(const char *script, uint32_t *numbers)
+{
+    const uint64_t given = soodhiqune_read(TEXT(script), numbers);
+    return soodhiqune_read_refusal(given) == SOODHIQUNE_BAD_SCRIPT && soodhiqune_wrong_line(given) == 1;
 }
 
 static void check_scripts(void)
 {
     static uint32_t numbers[SOODHIQUNE_SCRIPT_NUMBERS];
     static uint8_t printed[SOODHIQUNE_PRINTED_BYTES], too_long[SOODHIQUNE_MOST_SCRIPT_BYTES + 1];
-    const char *good = "4 3 2\nb 0 10 20 2\ns 2\n", *bad = "4 3 1\ns 00\n", *lines = "1 node 1\n2 no 6\nlist\ncovered 0\n";
+    const char *good = "4 3 2 20\nb 0 10 20 2\ns 2\n", *bad = "4 3 1 20\ns 00\n", *lines = "1 node 1\n2 no 6\nlist\ncovered 0\n";
+    const char *beyond = "4 3 1 20\nb 0 10 21 2\n", *refused = "1 no 11\nlist\ncovered 0\n";
     const uint32_t *first = numbers + SOODHIQUNE_SCRIPT_ROW(0), *second = numbers + SOODHIQUNE_SCRIPT_ROW(1);
     uint64_t given = soodhiqune_read(TEXT(bad), numbers);
     check("a bad line", soodhiqune_read_refusal(given) == SOODHIQUNE_BAD_SCRIPT && soodhiqune_wrong_line(given) == 2);
@@ -217,12 +277,18 @@ static void check_scripts(void)
     check("the longest is read", soodhiqune_wrong_line(soodhiqune_read(too_long, sizeof too_long - 1, numbers)) == 1);
     check("a good script", soodhiqune_read_refusal(soodhiqune_read(TEXT(good), numbers)) == SOODHIQUNE_ACCEPTED);
     check("its contents", numbers[SOODHIQUNE_SCRIPT_NODES] == 4 && numbers[SOODHIQUNE_SCRIPT_SEATS] == 3 &&
-          numbers[SOODHIQUNE_SCRIPT_COUNT] == 2);
+          numbers[SOODHIQUNE_SCRIPT_COUNT] == 2 && numbers[SOODHIQUNE_SCRIPT_TITLE] == 20);
     check("its first line", first[SOODHIQUNE_LINE_CODE] == SOODHIQUNE_BEGIN && first[SOODHIQUNE_LINE_SEAT] == 0 &&
           first[SOODHIQUNE_LINE_START] == 10 && first[SOODHIQUNE_LINE_END] == 20 && first[SOODHIQUNE_LINE_KIND] == SOODHIQUNE_WRITES);
     check("its second line", second[SOODHIQUNE_LINE_CODE] == SOODHIQUNE_STEP && second[SOODHIQUNE_LINE_SEAT] == 2);
+    check("no title", wrong_first_line("4 3 0\n", numbers));
+    check("title 0", wrong_first_line("4 3 0 0\n", numbers));
+    check("a title too large", wrong_first_line("4 3 0 4294967296\n", numbers));
+    check("a number behind the title", wrong_first_line("4 3 0 20 1\n", numbers) && numbers[SOODHIQUNE_SCRIPT_TITLE] == 20);
     check("no third line", numbers[SOODHIQUNE_SCRIPT_ROW(2) + SOODHIQUNE_LINE_CODE] == SOODHIQUNE_NO_LINE);
     check("played", soodhiqune_play(TEXT(good), printed) == strlen(lines) && memcmp(printed, lines, strlen(lines)) == 0);
+    check("played beyond its title", soodhiqune_play(TEXT(beyond), printed) == strlen(refused) &&
+          memcmp(printed, refused, strlen(refused)) == 0);
 }
 
 static void check_null(void)
@@ -230,7 +296,8 @@ static void check_null(void)
     static uint32_t numbers[SOODHIQUNE_SCRIPT_NUMBERS];
     static uint8_t printed[SOODHIQUNE_PRINTED_BYTES];
     uint64_t covered = UNTOUCHED;
-    check("no tables to clear", refuses(soodhiqune_clear(NULL, 0, NULL, 0), SOODHIQUNE_DAMAGED));
+    check("no tables to clear", refuses(soodhiqune_clear(NULL, 0, NULL, 0, 1), SOODHIQUNE_DAMAGED));
+    check("no tables to clear, and no title", refuses(soodhiqune_clear(NULL, 0, NULL, 0, 0), SOODHIQUNE_DAMAGED));
     check("no tables to begin on", refuses(soodhiqune_begin(NULL, 0, NULL, 0, 0, 1, 2, SOODHIQUNE_READS), SOODHIQUNE_DAMAGED));
     check("no nodes to step on", refuses(soodhiqune_step(NULL, 0, SEAT_TABLE, 0), SOODHIQUNE_DAMAGED));
     check("no seats to step", refuses(soodhiqune_step(NODE_TABLE, NULL, 0, 0), SOODHIQUNE_DAMAGED));
@@ -257,6 +324,7 @@ int main(void)
     check_board();
     check_covered();
     check_counts();
+    check_title();
     check_scripts();
     check_null();
     printf("%d passed, %d failed\n", passed, failed);

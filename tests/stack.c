@@ -16,7 +16,7 @@ static uint32_t nodes[SOODHIQUNE_NODE_WORDS(NODES)], seats[SOODHIQUNE_SEAT_WORDS
 static uint32_t numbers[SOODHIQUNE_SCRIPT_NUMBERS];
 static uint8_t printed[SOODHIQUNE_PRINTED_BYTES];
 static uint64_t covered, given;
-static const char script[] = "256 64 1\nb 4294967295 4294967295 4294967295 4294967295\n", lines[] = "1 no 2\nlist\ncovered 0\n";
+static const char script[] = "256 64 1 4294967295\nb 4294967295 4294967295 4294967295 4294967295\n", lines[] = "1 no 2\nlist\ncovered 0\n";
 static int passed, failed;
 
 #define TABLES nodes, SOODHIQUNE_NODE_WORDS(NODES), seats, SOODHIQUNE_SEAT_WORDS(SEATS)
@@ -26,7 +26,7 @@ static const uint32_t to_hold_0[] = {0, 0}, to_hold_1[] = {1, 1, 1}, to_withdraw
 #define STEPS(schedule) schedule, sizeof schedule / sizeof schedule[0], UINT32_MAX
 
 static void nothing(void) { }
-static void clear(void) { given = soodhiqune_clear(TABLES); }
+static void clear(void) { given = soodhiqune_clear(TABLES, UINT32_MAX); }
 static void begin(void) { given = soodhiqune_begin(TABLES, 3, 15, 20, SOODHIQUNE_WRITES); }
 static void step(void) { given = soodhiqune_step(TABLES, 3); }
 static void run(void) { given = soodhiqune_run(TABLES, STEPS(fetching)); }

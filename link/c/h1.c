@@ -1,6 +1,6 @@
-/* An example for C: H1 of document 01. Seat 0 claims frames 10 up to 20 and holds them; seat 1 claims 15 up to 25, waits, and holds once
- * seat 0 has released. Prints what `./play < scripts/h01.txt` prints, but for the list; then how many hold, as a display would show it
- * after each message.
+/* An example for C: H1 of document 01, on a title of 25 frames. Seat 0 claims frames 10 up to 20 and holds them; seat 1 claims 15 up to
+ * 25, waits, and holds once seat 0 has released. Prints what `./play < scripts/h01.txt` prints, but for the list; then how much of the
+ * title is covered, for a planner, and how many hold, as a display would show it after each message.
  *
  *     cc h1.c $(pkg-config --cflags --libs soodhiqune) -o h1      after ./install --prefix DIR, with DIR/lib/pkgconfig in PKG_CONFIG_PATH
  */
@@ -8,7 +8,7 @@
 #include <soodhiqune.h>
 #include <stdio.h>
 
-enum { NODES = 4, SEATS = 3 };
+enum { NODES = 4, SEATS = 3, FRAMES = 25 };
 static uint32_t nodes[SOODHIQUNE_NODE_WORDS(NODES)], seats[SOODHIQUNE_SEAT_WORDS(SEATS)];
 #define TABLES nodes, SOODHIQUNE_NODE_WORDS(NODES), seats, SOODHIQUNE_SEAT_WORDS(SEATS)
 
@@ -40,6 +40,7 @@ static int show_holders(void)
                row[SOODHIQUNE_ROW_END], row[SOODHIQUNE_ROW_KIND]);
     }
     printf("covered %" PRIu64 "\n", covered);
+    printf("%" PRIu64 " per cent of the title\n", 100 * covered / nodes[SOODHIQUNE_TITLE]);
     return 0;
 }
 
@@ -52,7 +53,7 @@ static void show_display(void)
 int main(void)
 {
     int message;
-    if (soodhiqune_clear(TABLES) != SOODHIQUNE_ACCEPTED) {
+    if (soodhiqune_clear(TABLES, FRAMES) != SOODHIQUNE_ACCEPTED) {
         return 1;
     }
     say(soodhiqune_begin(TABLES, 0, 10, 20, SOODHIQUNE_WRITES));

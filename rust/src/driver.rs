@@ -2,18 +2,19 @@
 //! `reading.rs` does so with scripts. Both machines are behind the functions that `library.rs` names. Nothing is assumed
 //! of the tables.
 
-use crate::generate;
+use crate::generate::{self, around};
 use crate::library::{Numbers, Printed};
 use crate::machine;
 use crate::random::Random;
 use crate::script::{read_script, BEGIN, STEP};
-use crate::tables::{any_words, damaged, many_holders, miscounted, sound_words, Tables, DAMAGES, MISCOUNTS};
+use crate::tables::{any_words, damaged, many_holders, miscounted, mistitled, sound_words};
+use crate::tables::{Tables, DAMAGES, MISCOUNTS, MISTITLES};
 
 /// The functions of one machine.
 #[derive(Clone, Copy)]
 #[allow(clippy::type_complexity)]
 pub struct Library {
-    pub clear: fn(&mut [u32], &mut [u32]) -> u64,
+    pub clear: fn(&mut [u32], &mut [u32], u32) -> u64,
     pub begin: fn(&mut [u32], &mut [u32], u32, u32, u32, u32) -> u64,
     pub step: fn(&mut [u32], &mut [u32], u32) -> u64,
     pub release: fn(&mut [u32], &mut [u32], u32) -> u64,
@@ -45,7 +46,7 @@ macro_rules! library_of {
 
 #[derive(Clone, Debug, PartialEq)]
 pub enum Call {
-    Clear,
+    Clear { title: u32 },
     Begin { seat: u32, start: u32, end: u32, kind: u32 },
     Step { seat: u32 },
     Release { seat: u32 },
@@ -113,7 +114,7 @@ pub fn make(
     covered: &mut u64,
 ) -> u64 {
     match call {
-        Call::Clear => (library.clear)(nodes, seats),
+        &Call::Clear { title } => (library.clear)(nodes, seats, title),
         &Call::Begin { seat, start, end, kind } => (library.begin)(nodes, seats, seat, start, end, kind),
         &Call::Step { seat } => (library.step)(nodes, seats, seat),
         &Call::Release { seat } => (library.release)(nodes, seats, seat),
@@ -157,10 +158,10 @@ impl Driver {
     /// The rows of a generated script as calls, with run, board, free count and rarely clear in between.
     pub fn history(&mut self, random: &mut Random) -> Result<(), Difference> {
         let script = read_script(&generate::good(random)).expect("a good script");
-        let (mut nodes, mut seats) = machine::fresh(script.nodes, script.seats);
+        let (mut nodes, mut seats) = machine::fresh(script.nodes, script.seats, script.title);
         for &row in &script.rows[..script.count as usize] {
             let call = match (random.below(1000), row) {
-                (0, _) => Call::Clear,
+                (0, _) => Call::Clear { title: random.pick(&[script.title, script.title, u32::MAX, 1, 0]) },
                 (1..=50, _) => some_run(random, script.seats),
                 (51..=150, _) => some_board(random),
                 (151..=250, _) => Call::FreeCount,
@@ -175,20 +176,9 @@ impl Driver {
 
     /// Each call once on the tables, and a run of several steps.
     fn every_call(&mut self, random: &mut Random, tables: Tables) -> Result<(), Difference> {
-        let (nodes, seats) = tables;
-        let seat_count = (seats.len() / machine::SEAT_WORDS) as u32;
-        let calls = [
-            Call::Clear,
-            some_begin(random, seat_count),
-            Call::Step { seat: some_seat(random, seat_count) },
-            Call::Step { seat: some_seat(random, seat_count) },
-            Call::Release { seat: some_seat(random, seat_count) },
-            some_run(random, seat_count),
-            some_board(random),
-            Call::FreeCount,
-        ];
-        for call in calls {
-            self.compare(Case { nodes: nodes.clone(), seats: seats.clone(), call })?;
+        for call in every_call(random, &tables) {
+            let (nodes, seats) = tables.clone();
+            self.compare(Case { nodes, seats, call })?;
         }
         Ok(())
     }
@@ -217,8 +207,35 @@ impl Driver {
             let tables = miscounted(random, miscount);
             self.every_call(random, tables)?;
         }
+        for mistitle in MISTITLES {
+            let tables = mistitled(random, mistitle);
+            self.every_call(random, tables)?;
+        }
         Ok(())
     }
+}
+
+/// Each call once, as it is made on these tables, and two steps and a begin more.
+pub fn every_call(random: &mut Random, (nodes, seats): &Tables) -> [Call; 9] {
+    let seat_count = (seats.len() / machine::SEAT_WORDS) as u32;
+    let title = nodes.get(machine::TITLE).copied().unwrap_or(0);
+    [
+        Call::Clear { title: some_title(random, title) },
+        some_begin(random, seat_count, title),
+        some_begin(random, seat_count, title),
+        Call::Step { seat: some_seat(random, seat_count) },
+        Call::Step { seat: some_seat(random, seat_count) },
+        Call::Release { seat: some_seat(random, seat_count) },
+        some_run(random, seat_count),
+        some_board(random),
+        Call::FreeCount,
+    ]
+}
+
+/// A count for clear: none, the one that the tables have, or another.
+fn some_title(random: &mut Random, title: u32) -> u32 {
+    let another = random.word();
+    random.pick(&[0, 0, 1, title, title.wrapping_add(1), another, u32::MAX])
 }
 
 fn some_seat(random: &mut Random, seat_count: u32) -> u32 {
@@ -229,13 +246,19 @@ fn some_seat(random: &mut Random, seat_count: u32) -> u32 {
     }
 }
 
-fn some_begin(random: &mut Random, seat_count: u32) -> Call {
+fn some_begin(random: &mut Random, seat_count: u32, title: u32) -> Call {
     let seat = some_seat(random, seat_count);
-    if random.percent(80) {
-        let start = random.below(9);
-        Call::Begin { seat, start, end: start + random.between(1, 5), kind: random.between(1, 2) }
-    } else {
-        Call::Begin { seat, start: random.edge(), end: random.edge(), kind: random.pick(&[0, 1, 2, 3, u32::MAX]) }
+    let any_kind = random.pick(&[0, 1, 2, 3, u32::MAX]);
+    match random.below(10) {
+        0..=5 => {
+            let start = random.below(9);
+            Call::Begin { seat, start, end: start + random.between(1, 5), kind: random.between(1, 2) }
+        }
+        6..=7 => Call::Begin { seat, start: random.edge(), end: random.edge(), kind: any_kind },
+        _ => {
+            let [start, end] = around(random, title);
+            Call::Begin { seat, start, end, kind: random.pick(&[1, 2, any_kind]) }
+        }
     }
 }
 

@@ -9,6 +9,7 @@ use crate::script::{call, BEGIN, MOST_BYTES, MOST_ROWS, RELEASE, STEP};
 struct Mix {
     nodes: u32,
     seats: u32,
+    title: u32,
     /// the seats that take part
     active: u32,
     /// claims lie within this many frames from the first one
@@ -53,12 +54,15 @@ const TABLES: [(u32, u32); 18] = [
 /// Long readers, short readers and short writers on enough nodes: what leads to withdrawals and to readers that wait.
 fn race(random: &mut Random) -> Mix {
     let (nodes, seats) = random.pick(&[(8, 6), (10, 8), (12, 6), (16, 8), (40, 16)]);
+    let first = random.pick(&[0, u32::MAX - 60]);
+    let frames = random.pick(&[12, 24, 40, 60]);
     Mix {
         nodes,
         seats,
+        title: random.pick(&[first + frames, u32::MAX]),
         active: seats,
-        first: random.pick(&[0, u32::MAX - 60]),
-        frames: random.pick(&[12, 24, 40, 60]),
+        first,
+        frames,
         longest: random.pick(&[1, 2, 4]),
         reads: random.pick(&[50, 65, 80]),
         long_reads: random.pick(&[25, 50]),
@@ -76,6 +80,7 @@ fn crowd(random: &mut Random) -> Mix {
     Mix {
         nodes: random.pick(&[63, 64, 65, 256]),
         seats: 64,
+        title: u32::MAX,
         active: 64,
         first: u32::MAX - frames,
         frames,
@@ -97,12 +102,15 @@ fn mix(random: &mut Random) -> Mix {
         _ => {}
     }
     let (nodes, seats) = random.pick(&TABLES);
-    let frames = random.pick(&[2, 4, 10, 20, 40, 200, u32::MAX]);
+    let frames = random.pick(&[1, 1, 2, 4, 10, 20, 40, 200, u32::MAX]);
+    let first = random.pick(&[0, 0, (u32::MAX - frames).min(7), u32::MAX - frames]);
     Mix {
         nodes,
         seats,
+        // where the claims may end, further, or short of it, so that some claims are beyond
+        title: random.pick(&[first + frames, first + frames, u32::MAX, first + frames - frames / 4]),
         active: random.pick(&[seats, seats.min(4), seats.min(8)]),
-        first: random.pick(&[0, 0, (u32::MAX - frames).min(7), u32::MAX - frames]),
+        first,
         frames,
         longest: random.pick(&[1, 3, frames / 8 + 1]).min(frames),
         reads: random.pick(&[0, 30, 50, 70, 100]),
@@ -128,14 +136,26 @@ fn begin_row(random: &mut Random, mix: &Mix, seat: u32, row_number: u32) -> [u32
     [BEGIN, seat, start, start + length, kind]
 }
 
+/// A start and an end about where a title ends: at it, before it or behind it, in any order.
+pub fn around(random: &mut Random, title: u32) -> [u32; 2] {
+    let near = [title.saturating_sub(1), title, title, title.saturating_add(1), title.saturating_add(1)];
+    let start = random.pick(&[0, near[0], near[1], near[3], u32::MAX]);
+    [start, random.pick(&near)]
+}
+
 /// A call that is well formed, and most likely refused.
 fn nonsense_row(random: &mut Random, mix: &Mix) -> [u32; 5] {
     let seat = if random.percent(60) { random.below(mix.seats) } else { random.pick(&[mix.seats, 64, u32::MAX]) };
-    match random.below(4) {
+    let any_kind = random.pick(&[0, 1, 2, 3, u32::MAX]);
+    match random.below(6) {
         0 => [STEP, seat, 0, 0, 0],
         1 => [RELEASE, seat, 0, 0, 0],
-        2 => [BEGIN, seat, random.edge(), random.edge(), random.pick(&[0, 1, 2, 3, u32::MAX])],
-        _ => [BEGIN, seat, random.below(9), random.below(9), random.below(4)],
+        2 => [BEGIN, seat, random.edge(), random.edge(), any_kind],
+        3 => [BEGIN, seat, random.below(9), random.below(9), random.below(4)],
+        _ => {
+            let [start, end] = around(random, mix.title);
+            [BEGIN, seat, start, end, any_kind]
+        }
     }
 }
 
@@ -164,17 +184,17 @@ pub fn row_text(row: [u32; 5]) -> String {
 }
 
 /// The whole script, with its contents line.
-fn script_text(nodes: u32, seats: u32, rows: &[String]) -> Vec<u8> {
-    format!("{nodes} {seats} {}\n{}", rows.len(), rows.concat()).into_bytes()
+fn script_text(nodes: u32, seats: u32, title: u32, rows: &[String]) -> Vec<u8> {
+    format!("{nodes} {seats} {} {title}\n{}", rows.len(), rows.concat()).into_bytes()
 }
 
 /// The longest contents line there is.
-const CONTENTS_BYTES: usize = "256 64 1000\n".len();
+const CONTENTS_BYTES: usize = "256 64 1000 4294967295\n".len();
 
 /// A good script.
 pub fn good(random: &mut Random) -> Vec<u8> {
     let mix = mix(random);
-    let (mut nodes, mut seats) = machine::fresh(mix.nodes, mix.seats);
+    let (mut nodes, mut seats) = machine::fresh(mix.nodes, mix.seats, mix.title);
     let mut rows = Vec::new();
     let mut bytes = CONTENTS_BYTES;
     let mut seat = 0;
@@ -199,12 +219,14 @@ pub fn good(random: &mut Random) -> Vec<u8> {
         let _ = call(&mut nodes, &mut seats, row);
         rows.push(text);
     }
-    script_text(mix.nodes, mix.seats, &rows)
+    script_text(mix.nodes, mix.seats, mix.title, &rows)
 }
 
 /// A script of this many bytes, about 16,384, with nothing wrong in it but perhaps its length.
 pub fn of_length(random: &mut Random, bytes: usize) -> Vec<u8> {
-    let mut left = bytes - "3 2 999\n".len();
+    // a title of ten digits, so that the length of the first line is known
+    let title = random.between(1_000_000_000, u32::MAX);
+    let mut left = bytes - "3 2 999 4294967295\n".len();
     let mut rows = Vec::new();
     while left > 0 {
         let text = if left > 60 {
@@ -217,7 +239,7 @@ pub fn of_length(random: &mut Random, bytes: usize) -> Vec<u8> {
         left -= text.len();
         rows.push(text);
     }
-    script_text(3, 2, &rows)
+    script_text(3, 2, title, &rows)
 }
 
 /// Some place of the script where the byte before it (LF before the first) and the byte there are as wanted, or any place.
@@ -266,13 +288,20 @@ fn put_for(random: &mut Random, script: &mut Vec<u8>, wanted: fn(u8, u8) -> bool
     script.splice(at..=at, bytes.iter().copied());
 }
 
-/// The number in a field of the contents line (N, S or K) becomes another.
-fn put_contents(script: &mut Vec<u8>, field: usize, change: fn(u32) -> u32) {
+/// The fields of the contents line (N, S, K and T) become others.
+fn put_contents(script: &mut Vec<u8>, change: impl Fn(&mut Vec<String>)) {
     let length = script.iter().position(|&byte| byte == b'\n').expect("a good script has a first line");
     let line = String::from_utf8(script[..length].to_vec()).expect("a good script is ASCII");
-    let mut numbers: Vec<u32> = line.split(' ').map(|digits| digits.parse().expect("it has numbers there")).collect();
-    numbers[field] = change(numbers[field]);
-    script.splice(..length, format!("{} {} {}", numbers[0], numbers[1], numbers[2]).into_bytes());
+    let mut fields: Vec<String> = line.split(' ').map(str::to_string).collect();
+    change(&mut fields);
+    script.splice(..length, fields.join(" ").into_bytes());
+}
+
+/// The number in one of these fields becomes another.
+fn put_number(script: &mut Vec<u8>, field: usize, change: fn(u32) -> u32) {
+    put_contents(script, |fields| {
+        fields[field] = change(fields[field].parse().expect("it has numbers there")).to_string();
+    });
 }
 
 type Flaw = (&'static str, fn(&mut Random, &mut Vec<u8>));
@@ -285,6 +314,10 @@ pub const FLAWS: &[Flaw] = &[
     ("empty", |_, script| script.clear()),
     ("a line end alone", |_, script| *script = b"\n".to_vec()),
     ("cut off before the last line end", |_, script| script.truncate(script.len() - 1)),
+    ("another byte for the last line end", |random, script| {
+        script.pop();
+        script.push(random.pick(b" 0s\r\0"));
+    }),
     ("cut off anywhere", |random, script| script.truncate(random.below(script.len() as u32) as usize)),
     ("an empty line", |random, script| put_in(random, script, line_start, b"\n")),
     ("a line end more", |_, script| script.push(b'\n')),
@@ -306,13 +339,19 @@ pub const FLAWS: &[Flaw] = &[
     ("an unknown letter", |random, script| put_for(random, script, letter, b"v")),
     ("a capital letter", |random, script| put_for(random, script, letter, b"S")),
     ("a letter twice", |random, script| put_for(random, script, letter, b"ss")),
-    ("K one too large", |_, script| put_contents(script, 2, |count| count + 1)),
-    ("K one too small", |_, script| put_contents(script, 2, |count| count.saturating_sub(1))),
-    ("K out of bounds", |_, script| put_contents(script, 2, |_| 1001)),
-    ("N 0", |_, script| put_contents(script, 0, |_| 0)),
-    ("N out of bounds", |_, script| put_contents(script, 0, |_| 257)),
-    ("S 0", |_, script| put_contents(script, 1, |_| 0)),
-    ("S out of bounds", |_, script| put_contents(script, 1, |_| 65)),
+    ("K one too large", |_, script| put_number(script, 2, |count| count + 1)),
+    ("K one too small", |_, script| put_number(script, 2, |count| count.saturating_sub(1))),
+    ("K out of bounds", |_, script| put_number(script, 2, |_| 1001)),
+    ("N 0", |_, script| put_number(script, 0, |_| 0)),
+    ("N out of bounds", |_, script| put_number(script, 0, |_| 257)),
+    ("S 0", |_, script| put_number(script, 1, |_| 0)),
+    ("S out of bounds", |_, script| put_number(script, 1, |_| 65)),
+    ("title 0", |_, script| put_number(script, 3, |_| 0)),
+    ("no title", |_, script| put_contents(script, |fields| fields.truncate(3))),
+    ("title one too large", |_, script| put_contents(script, |fields| fields[3] = "4294967296".to_string())),
+    ("title with a leading zero", |_, script| put_contents(script, |fields| fields[3].insert(0, '0'))),
+    ("a number behind the title", |_, script| put_contents(script, |fields| fields.push("1".to_string()))),
+    ("title before K", |_, script| put_contents(script, |fields| fields.swap(2, 3))),
     ("NUL", |random, script| put_for(random, script, any_byte, b"\0")),
     ("a byte above 127", |random, script| {
         let byte = 128 | random.word() as u8;
@@ -345,7 +384,8 @@ pub fn any_text(random: &mut Random) -> Vec<u8> {
     let count = random.pick(&[0, 1, 2, 3, 5, 9, 200, 5000]);
     let mut text = Vec::new();
     if random.percent(50) {
-        text.extend(format!("{} {} {count}\n", random.between(1, 256), random.between(1, 64)).bytes());
+        let (nodes, seats, title) = (random.between(1, 256), random.between(1, 64), random.edge());
+        text.extend(format!("{nodes} {seats} {count} {title}\n").bytes());
     }
     let pieces: Vec<&str> = PIECES.split('|').collect();
     let any_bytes = random.percent(20);

@@ -5,8 +5,8 @@
 use crate::machine::{self, Answer};
 use crate::script;
 
-/// A script's numbers: N, S and K, then five for each of 1,000 rows.
-pub const CONTENTS_WORDS: usize = 3;
+/// A script's numbers: N, S, K and the title's frame count, then five for each of 1,000 rows.
+pub const CONTENTS_WORDS: usize = 4;
 pub type Numbers = [u32; CONTENTS_WORDS + 5 * script::MOST_ROWS];
 
 /// Room for what the program prints.
@@ -34,8 +34,8 @@ fn count_word(count: Result<u32, u32>) -> u64 {
 }
 
 /// 0, or the refusal.
-pub fn clear(nodes: &mut [u32], seats: &mut [u32]) -> u64 {
-    u64::from(machine::clear(nodes, seats).err().unwrap_or(0))
+pub fn clear(nodes: &mut [u32], seats: &mut [u32], title: u32) -> u64 {
+    u64::from(machine::clear(nodes, seats, title).err().unwrap_or(0))
 }
 
 pub fn begin(nodes: &mut [u32], seats: &mut [u32], seat: u32, start: u32, end: u32, kind: u32) -> u64 {
@@ -73,7 +73,7 @@ pub fn free_count(nodes: &[u32], seats: &[u32]) -> u64 {
 pub fn read(bytes: &[u8], numbers: &mut Numbers) -> u64 {
     match script::read_script(bytes) {
         Ok(script) => {
-            let contents = [script.nodes, script.seats, script.count];
+            let contents = [script.nodes, script.seats, script.count, script.title];
             numbers.copy_from_slice(&[&contents, script.rows.concat().as_slice()].concat());
             0
         }

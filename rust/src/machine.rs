@@ -6,11 +6,13 @@ use crate::nodeset::NodeSet;
 pub use crate::nodeset::MOST_NODES;
 
 /// "Nodes: one head word, then N nodes of five words: start, end, kind, next, mark." 02: "Keep the two counts, readers
-/// first, in two words after the head word, so the length becomes 3 + 5·N."
+/// first, in two words after the head word"; the title's frame count has "a word of its own". 01: "A word added to the
+/// node table stands before node 1, after those already there." So the length is 4 + 5·N.
 pub const HEAD: usize = 0;
 pub const READERS: usize = 1;
 pub const WRITERS: usize = 2;
-pub const BEFORE_NODES: usize = 3;
+pub const TITLE: usize = 3;
+pub const BEFORE_NODES: usize = 4;
 pub const START: usize = 0;
 pub const END: usize = 1;
 pub const KIND: usize = 2;
@@ -62,7 +64,7 @@ pub enum Answer {
     Back,
 }
 
-/// A refusal is its number. The calls ask in rising number, before they change anything.
+/// A refusal is its number. The calls ask in rising number, but for 11, "after 3 and before 4", before they change anything.
 fn refuse(number: u32, when: bool) -> Result<(), u32> {
     if when {
         Err(number)
@@ -143,11 +145,15 @@ fn names_a_claim(nodes: &[u32], count: usize, name: u32) -> bool {
     name == 0 || (name as usize <= count && word(nodes, name, KIND) != 0)
 }
 
-/// "Each node is all zeros (kind 0), or has kind 1 or 2, start < end, next at most N, mark 0 or 1."
+/// "Each node is all zeros (kind 0), or has kind 1 or 2, start < end, next at most N, mark 0 or 1." 02: "A table whose
+/// remembered count is [...] below a node's end is damaged": any node's, listed or not. No count is below the end of zeros.
 fn node_is_sound(nodes: &[u32], count: usize, node: &[u32]) -> bool {
     match node[KIND] {
         0 => node[START] | node[END] | node[NEXT] | node[MARK] == 0,
-        READS | WRITES => node[START] < node[END] && node[MARK] <= 1 && names_a_claim(nodes, count, node[NEXT]),
+        READS | WRITES => {
+            let claim_fits = node[START] < node[END] && node[END] <= nodes[TITLE];
+            claim_fits && node[MARK] <= 1 && names_a_claim(nodes, count, node[NEXT])
+        }
         _ => false,
     }
 }
@@ -201,22 +207,25 @@ fn list_ends(nodes: &[u32]) -> bool {
     listed(nodes).nth(node_count(nodes)).is_none()
 }
 
-/// "Any other table is damaged."
+/// "Any other table is damaged." 02: so is one "whose remembered count is 0".
 fn sound(nodes: &[u32], seats: &[u32]) -> bool {
     if !lengths_fit(nodes, seats) {
         return false;
     }
     let count = node_count(nodes);
-    names_a_claim(nodes, count, nodes[HEAD])
+    nodes[TITLE] != 0
+        && names_a_claim(nodes, count, nodes[HEAD])
         && nodes[BEFORE_NODES..].chunks_exact(NODE_WORDS).all(|node| node_is_sound(nodes, count, node))
         && seats.chunks_exact(SEAT_WORDS).all(|seat| seat_is_sound(nodes, count, seat))
         && counts_fit(nodes, seats)
         && list_ends(nodes)
 }
 
-/// Tables of N nodes and S seats as clear leaves them: "that table is fresh".
-pub fn fresh(nodes: u32, seats: u32) -> (Vec<u32>, Vec<u32>) {
-    (vec![0; BEFORE_NODES + NODE_WORDS * nodes as usize], vec![0; SEAT_WORDS * seats as usize])
+/// Tables of N nodes and S seats as clear leaves them for a title of so many frames: "that table is fresh".
+pub fn fresh(nodes: u32, seats: u32, title: u32) -> (Vec<u32>, Vec<u32>) {
+    let mut node_words = vec![0; BEFORE_NODES + NODE_WORDS * nodes as usize];
+    node_words[TITLE] = title;
+    (node_words, vec![0; SEAT_WORDS * seats as usize])
 }
 
 // Fetch
@@ -434,19 +443,23 @@ fn step_sound(nodes: &mut [u32], seats: &mut [u32], number: u32) -> Result<(Seat
 
 // The calls
 
-/// "Clear writes 0 everywhere."
-pub fn clear(nodes: &mut [u32], seats: &mut [u32]) -> Result<(), u32> {
+/// "Clear writes 0 everywhere." 02: "Clear takes the title's frame count, 1 to 4,294,967,295, and the table remembers it in a
+/// word of its own"; "clear with count 0 is refused 3".
+pub fn clear(nodes: &mut [u32], seats: &mut [u32], title: u32) -> Result<(), u32> {
     refuse(1, !lengths_fit(nodes, seats))?;
+    refuse(3, title == 0)?;
     nodes.fill(0);
     seats.fill(0);
+    nodes[TITLE] = title;
     Ok(())
 }
 
-/// "Begin: `node n`."
+/// "Begin: `node n`." 02: "A claim may end at [the title's frame count] and not beyond"; a claim fetched again began so.
 pub fn begin(nodes: &mut [u32], seats: &mut [u32], seat: u32, start: u32, end: u32, kind: u32) -> Result<Answer, u32> {
     refuse(1, !sound(nodes, seats))?;
     let mut words = load_seat(seats, seat)?;
     refuse(3, start >= end)?;
+    refuse(11, end > nodes[TITLE])?;
     refuse(4, kind != READS && kind != WRITES)?;
     refuse(5, words[PHASE] != IDLE)?;
     fetch(nodes, seats, seat, &mut words, Claim { start, end, kind })?;

@@ -5,7 +5,13 @@ use crate::library::{Numbers, Printed};
 
 mod archive {
     extern "C" {
-        pub fn soodhiqune_clear(nodes: *mut u32, node_words: usize, seats: *mut u32, seat_words: usize) -> u64;
+        pub fn soodhiqune_clear(
+            nodes: *mut u32,
+            node_words: usize,
+            seats: *mut u32,
+            seat_words: usize,
+            title: u32,
+        ) -> u64;
         pub fn soodhiqune_begin(
             nodes: *mut u32,
             node_words: usize,
@@ -57,8 +63,8 @@ mod archive {
 
 // No function of the archive asks anything of its caller but that so many words stand where it is told, so each call is safe.
 
-pub fn clear(nodes: &mut [u32], seats: &mut [u32]) -> u64 {
-    unsafe { archive::soodhiqune_clear(nodes.as_mut_ptr(), nodes.len(), seats.as_mut_ptr(), seats.len()) }
+pub fn clear(nodes: &mut [u32], seats: &mut [u32], title: u32) -> u64 {
+    unsafe { archive::soodhiqune_clear(nodes.as_mut_ptr(), nodes.len(), seats.as_mut_ptr(), seats.len(), title) }
 }
 
 pub fn begin(nodes: &mut [u32], seats: &mut [u32], seat: u32, start: u32, end: u32, kind: u32) -> u64 {

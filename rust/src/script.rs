@@ -1,4 +1,4 @@
-//! The script and its program, from document 01 alone: reading a script, and playing it on the second machine.
+//! The script and its program, from documents 01 and 02 alone: reading a script, and playing it on the second machine.
 //! A script is bytes of any value and any number.
 
 use crate::machine::{self, Answer, MOST_NODES, MOST_SEATS, ROW_WORDS};
@@ -11,11 +11,13 @@ pub const BEGIN: u32 = 1;
 pub const STEP: u32 = 2;
 pub const RELEASE: u32 = 3;
 
-/// "N, S, K and 1,000 rows by value, each a code (b 1, s 2, r 3) and four numbers; what a script does not fill is 0."
+/// "N, S, K and 1,000 rows by value, each a code (b 1, s 2, r 3) and four numbers; what a script does not fill is 0." 02: the
+/// title's frame count is the fourth number.
 pub struct Script {
     pub nodes: u32,
     pub seats: u32,
     pub count: u32,
+    pub title: u32,
     pub rows: [[u32; 5]; MOST_ROWS],
 }
 
@@ -52,12 +54,14 @@ fn split_line(bytes: &[u8]) -> Option<(Vec<&[u8]>, &[u8])> {
     Some((bytes[..end].split(|&byte| byte == b' ').collect(), &bytes[end + 1..]))
 }
 
-/// "Line 1 is the contents: N S K, N and S within their bounds, K from 0 to 1,000."
+/// "Line 1 is the contents: N S K, N and S within their bounds, K from 0 to 1,000." 02: "the script's first line gets [the
+/// title's frame count] as a fourth number", "1 to 4,294,967,295".
 fn contents(fields: &[&[u8]]) -> Option<Script> {
-    let [nodes, seats, count] = numbers(fields)?;
+    let [nodes, seats, count, title] = numbers(fields)?;
     let within = |value: u32, least: usize, most: usize| (least..=most).contains(&(value as usize));
-    let fits = within(nodes, 1, MOST_NODES) && within(seats, 1, MOST_SEATS) && within(count, 0, MOST_ROWS);
-    fits.then_some(Script { nodes, seats, count, rows: [[0; 5]; MOST_ROWS] })
+    let tables_fit = within(nodes, 1, MOST_NODES) && within(seats, 1, MOST_SEATS) && title != 0;
+    let fits = tables_fit && within(count, 0, MOST_ROWS);
+    fits.then_some(Script { nodes, seats, count, title, rows: [[0; 5]; MOST_ROWS] })
 }
 
 /// "`b seat start end kind`, `s seat`, `r seat`."
@@ -119,7 +123,7 @@ pub fn play(bytes: &[u8]) -> String {
         Ok(script) => script,
         Err(line) => return format!("bad {line}\n"),
     };
-    let (mut nodes, mut seats) = machine::fresh(script.nodes, script.seats);
+    let (mut nodes, mut seats) = machine::fresh(script.nodes, script.seats, script.title);
     let mut lines = Vec::new();
     for (number, &row) in (1..=script.count).zip(&script.rows) {
         lines.push(format!("{number} {}", answer_text(call(&mut nodes, &mut seats, row))));

@@ -41,7 +41,7 @@ fn without_seat(case: &Case, index: usize) -> Case {
     match &mut smaller.call {
         Call::Begin { seat, .. } | Call::Step { seat } | Call::Release { seat } => renumber(seat),
         Call::Run { entries, .. } => entries.iter_mut().for_each(renumber),
-        Call::Clear | Call::Board { .. } | Call::FreeCount => {}
+        Call::Clear { .. } | Call::Board { .. } | Call::FreeCount => {}
     }
     smaller
 }
@@ -64,7 +64,8 @@ fn words(case: &mut Case) -> Vec<&mut u32> {
         Call::Step { seat } | Call::Release { seat } => words.push(seat),
         Call::Run { entries, budget } => words.extend(entries.iter_mut().chain([budget])),
         Call::Board { rows } => words.extend(rows),
-        Call::Clear | Call::FreeCount => {}
+        Call::Clear { title } => words.push(title),
+        Call::FreeCount => {}
     }
     words
 }
@@ -153,12 +154,19 @@ fn body_count(script: &[u8]) -> usize {
     lines(script).len().saturating_sub(1)
 }
 
-/// The script without some of its bodies, K lowered by as many if the first line ends in a number.
+/// Where K stands on the first line.
+const ROW_COUNT: usize = 2;
+
+/// The script without some of its bodies, K lowered by as many if the first line has a number there.
 fn without_bodies(script: &[u8], from: usize, count: usize) -> Vec<u8> {
     let kept = without(&lines(script), 1 + from, count);
     let first = String::from_utf8_lossy(kept[0]);
-    let contents = match first.trim_end().rsplit_once(' ').map(|(tables, rows)| (tables, rows.parse::<usize>())) {
-        Some((tables, Ok(rows))) => format!("{tables} {}\n", rows.saturating_sub(count)).into_bytes(),
+    let mut fields: Vec<String> = first.trim_end().split(' ').map(str::to_string).collect();
+    let contents = match fields.get(ROW_COUNT).map(|rows| rows.parse::<usize>()) {
+        Some(Ok(rows)) => {
+            fields[ROW_COUNT] = rows.saturating_sub(count).to_string();
+            format!("{}\n", fields.join(" ")).into_bytes()
+        }
         _ => kept[0].to_vec(),
     };
     [contents, kept[1..].concat()].concat()

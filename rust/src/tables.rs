@@ -1,5 +1,5 @@
 //! Tables to compare machines on that no history need have reached: any words, sound words, and sound words with one clause
-//! of sound shape broken, that of the two counts in several ways.
+//! of sound shape broken, those of the two counts and of the title in several ways.
 
 use crate::machine::*;
 use crate::random::Random;
@@ -56,10 +56,30 @@ pub fn put_counts(nodes: &mut [u32], seats: &[u32]) {
     count_among(nodes, seats.chunks_exact(SEAT_WORDS));
 }
 
-/// A table of any length and any words, mostly small ones, and mostly right counts, so that some are sound.
+/// The nodes of a table, which may be too short to have any.
+fn each_node(nodes: &[u32]) -> impl Iterator<Item = &[u32]> {
+    nodes.get(BEFORE_NODES..).unwrap_or(&[]).chunks_exact(NODE_WORDS)
+}
+
+pub fn largest_end(nodes: &[u32]) -> u32 {
+    each_node(nodes).map(|node| node[END]).max().unwrap_or(0)
+}
+
+/// Gives the table a title that no node ends beyond, often the shortest one, if it is long enough to have one.
+fn put_title(random: &mut Random, nodes: &mut [u32]) {
+    if nodes.len() < BEFORE_NODES {
+        return;
+    }
+    let shortest = largest_end(nodes).max(1);
+    let longer = random.between(shortest, u32::MAX);
+    nodes[TITLE] = random.pick(&[shortest, shortest, shortest.saturating_add(1), longer, u32::MAX]);
+}
+
+/// A table of any length and any words, mostly small ones, and mostly right counts and a title that fits, so that some are
+/// sound.
 pub fn any_words(random: &mut Random) -> Tables {
     let (node_count, seat_count) = sizes(random);
-    let (mut nodes, mut seats) = fresh(node_count, seat_count);
+    let (mut nodes, mut seats) = fresh(node_count, seat_count, 0);
     if random.percent(30) {
         nodes.resize(random.below(40) as usize, 0);
     }
@@ -75,8 +95,11 @@ pub fn any_words(random: &mut Random) -> Tables {
             *word = random.between(0, largest);
         }
     }
-    if random.percent(75) {
+    if random.percent(80) {
         put_counts(&mut nodes, &seats);
+    }
+    if random.percent(80) {
+        put_title(random, &mut nodes);
     }
     (nodes, seats)
 }
@@ -135,7 +158,7 @@ fn sound_with(
     list_length: usize,
     phases: &[u32],
 ) -> Tables {
-    let (mut nodes, mut seats) = fresh(node_count, phases.len() as u32);
+    let (mut nodes, mut seats) = fresh(node_count, phases.len() as u32, 0);
     for &node in named {
         put_claim(random, frames, &mut nodes[place(node, START)..][..NODE_WORDS], named);
     }
@@ -151,6 +174,7 @@ fn sound_with(
         put_seat(random, phase, seat, &nodes, named);
     }
     put_counts(&mut nodes, &seats);
+    put_title(random, &mut nodes);
     (nodes, seats)
 }
 
@@ -204,7 +228,7 @@ const ZERO_NODE: u32 = 5;
 
 type Damage = (&'static str, fn(&mut Random, &mut Vec<u32>, &mut Vec<u32>));
 
-/// Each clause of sound shape but that of the counts, broken alone.
+/// Each clause of sound shape but those of the counts and the title, broken alone.
 pub const DAMAGES: &[Damage] = &[
     ("no words for nodes", |_, nodes, _| nodes.clear()),
     ("a word too few before the nodes", |_, nodes, _| nodes.truncate(BEFORE_NODES - 1)),
@@ -324,6 +348,83 @@ pub fn miscounted(random: &mut Random, miscount: &Miscount) -> Tables {
         let right = nodes.clone();
         miscount.1(&mut nodes, &seats);
         if nodes != right {
+            return (nodes, seats);
+        }
+    }
+}
+
+/// Whether no node ends beyond the title, and there is one.
+fn title_fits(nodes: &[u32]) -> bool {
+    nodes[TITLE] != 0 && nodes[TITLE] >= largest_end(nodes)
+}
+
+/// The nodes that have a claim and are as wanted, by their numbers.
+fn claims(nodes: &[u32], wanted: impl Fn(u32) -> bool) -> Vec<u32> {
+    let numbered = (1..).zip(each_node(nodes));
+    numbered.filter(|(number, node)| node[KIND] != 0 && wanted(*number)).map(|(number, _)| number).collect()
+}
+
+/// The nodes met from the head, and from what these seats name.
+fn reached(nodes: &[u32], seats: &[u32]) -> BTreeSet<u32> {
+    let names = seats.chunks_exact(SEAT_WORDS).flat_map(|seat| &seat[OWN..=CUR]);
+    let mut reached = BTreeSet::new();
+    for &name in names.chain([&nodes[HEAD]]) {
+        let mut met = name;
+        while met != 0 && reached.insert(met) {
+            met = nodes[link(met)];
+        }
+    }
+    reached
+}
+
+/// One of these nodes, if there are any, becomes the only one that ends beyond the title, and that by a frame.
+fn end_beyond(random: &mut Random, nodes: &mut [u32], those: Vec<u32>) {
+    nodes[TITLE] = nodes[TITLE].min(u32::MAX - 1).max(largest_end(nodes));
+    if !those.is_empty() && nodes[TITLE] < u32::MAX {
+        nodes[place(random.pick(&those), END)] = nodes[TITLE] + 1;
+    }
+}
+
+type Mistitle = (&'static str, fn(&mut Random, &mut [u32], &mut [u32]));
+
+/// Titles that do not fit, while every other clause of sound shape holds. On some tables they come out right.
+pub const MISTITLES: &[Mistitle] = &[
+    ("no title", |_, nodes, _| nodes[TITLE] = 0),
+    ("no title and no claim", |_, nodes, seats| {
+        nodes.fill(0);
+        seats.fill(0);
+    }),
+    ("a title of one frame", |_, nodes, _| nodes[TITLE] = 1),
+    ("a frame short of the largest end", |_, nodes, _| nodes[TITLE] = largest_end(nodes).saturating_sub(1)),
+    ("half of the largest end", |_, nodes, _| nodes[TITLE] = largest_end(nodes) / 2),
+    ("a node ends a frame beyond", |random, nodes, _| end_beyond(random, nodes, claims(nodes, |_| true))),
+    ("a listed node ends a frame beyond", |random, nodes, _| {
+        let list = reached(nodes, &[]);
+        end_beyond(random, nodes, claims(nodes, |node| list.contains(&node)));
+    }),
+    ("a node off the list ends a frame beyond", |random, nodes, _| {
+        let list = reached(nodes, &[]);
+        end_beyond(random, nodes, claims(nodes, |node| !list.contains(&node)));
+    }),
+    ("a free node ends a frame beyond", |random, nodes, seats| {
+        let used = reached(nodes, seats);
+        end_beyond(random, nodes, claims(nodes, |node| !used.contains(&node)));
+    }),
+    ("a marked node ends a frame beyond", |random, nodes, _| {
+        end_beyond(random, nodes, claims(nodes, |node| marked(nodes, node)));
+    }),
+    ("a held node ends a frame beyond", |random, nodes, seats| {
+        let held: Vec<u32> = seats_in(seats, HOLDING).map(|seat| seat[OWN]).collect();
+        end_beyond(random, nodes, held);
+    }),
+];
+
+/// Sound tables, with many holders or few, but for a title that does not fit in this way.
+pub fn mistitled(random: &mut Random, mistitle: &Mistitle) -> Tables {
+    loop {
+        let (mut nodes, mut seats) = if random.percent(50) { many_holders(random) } else { sound_words(random) };
+        mistitle.1(random, &mut nodes, &mut seats);
+        if !title_fits(&nodes) {
             return (nodes, seats);
         }
     }

@@ -1,12 +1,14 @@
 //! Counts of what scripts and tables by seed really reach: a mix that never meets a rule says nothing about it.
 //! What happened in a call is told from the tables before and after it, as the second machine leaves them.
 
-use crate::machine::{self, Answer, CUR, HOLDING, KIND, MOST_SEATS, OWN, PHASE, PREV, ROW_WORDS, SEAT_WORDS};
-use crate::machine::{READERS, READER_WAITING, READS, VALIDATING, WAITING_TO_ENTER, WALKING, WITHDRAWN, WRITERS};
+use crate::driver::{every_call, Call};
+use crate::machine::{self, Answer, CUR, HOLDING, IDLE, KIND, MOST_SEATS, OWN, PHASE, PREV, ROW_WORDS, SEAT_WORDS};
+use crate::machine::{READERS, READER_WAITING, READS, TITLE, VALIDATING, WAITING_TO_ENTER, WALKING};
+use crate::machine::{WITHDRAWN, WRITERS, WRITES};
 use crate::random::Random;
 use crate::script::{call, read_script, BEGIN};
-use crate::tables::{any_words, damaged, many_holders, miscounted, put_counts, sound_words};
-use crate::tables::{Tables, DAMAGES, MISCOUNTS};
+use crate::tables::{any_words, damaged, largest_end, many_holders, miscounted, mistitled, put_counts, sound_words};
+use crate::tables::{Tables, DAMAGES, MISCOUNTS, MISTITLES};
 use std::collections::{BTreeMap, BTreeSet};
 use std::ops::Range;
 
@@ -44,6 +46,47 @@ fn step_name(nodes: &[u32], before: &[u32], after: &[u32]) -> &'static str {
         (WITHDRAWN, _) if before[OWN] == after[OWN] => "step: fetch after withdrawal, the same node",
         (WITHDRAWN, _) => "step: fetch after withdrawal, another node",
         _ => "step: of a holder",
+    }
+}
+
+fn title_name(title: u32) -> &'static str {
+    match title {
+        1 => "title of one frame",
+        2..=300 => "title of 2 to 300 frames",
+        u32::MAX => "title of 4294967295 frames",
+        _ => "title of another length",
+    }
+}
+
+/// What a clear meets that the count it takes can make go wrong.
+fn clear_name((nodes, seats): &Tables, title: u32) -> &'static str {
+    let lengths_fit = machine::clear(&mut nodes.clone(), &mut seats.clone(), 1).is_ok();
+    match (lengths_fit, title) {
+        (false, 0) => "clear: lengths wrong, and count 0",
+        (false, _) => "clear: lengths wrong",
+        (true, 0) => "clear: count 0",
+        _ if title == nodes[TITLE] => "clear: the same title",
+        _ if nodes[TITLE] == 0 => "clear: a title where there was none",
+        _ if largest_end(nodes) > title => "clear: another title, which a claim there ends beyond",
+        _ if largest_end(nodes) > 0 => "clear: another title on tables with claims",
+        _ => "clear: another title on tables without claims",
+    }
+}
+
+/// What a begin meets that 11, "end beyond the title", or its place among the refusals, can make go wrong, if it does.
+fn begin_name(nodes: &[u32], seat: &[u32], [start, end, kind]: [u32; 3]) -> Option<&'static str> {
+    let title = nodes[TITLE];
+    let known_kind = kind == READS || kind == WRITES;
+    match (start < end, known_kind, seat[PHASE] == IDLE) {
+        (false, ..) if end > title => Some("begin: beyond the title, and empty"),
+        (true, false, _) if end > title => Some("begin: beyond the title, of no known kind"),
+        (true, true, false) if end > title => Some("begin: beyond the title, by a seat that has a claim"),
+        (true, true, true) if end > title && end - title > 1 => Some("begin: beyond the title"),
+        (true, true, true) if end > title => Some("begin: beyond the title by a frame"),
+        (true, false, _) if end == title => Some("begin: up to the title, of no known kind"),
+        (true, true, false) if end == title => Some("begin: up to the title, by a seat that has a claim"),
+        (true, true, true) if end == title => Some("begin: up to the title"),
+        _ => None,
     }
 }
 
@@ -86,8 +129,19 @@ impl Tally {
         self.see("the most writers holding at once", nodes[WRITERS]);
     }
 
+    /// Counts what a begin meets at the title's end, in sound tables.
+    fn count_begin(&mut self, nodes: &[u32], seats: &[u32], seat: u32, claim: [u32; 3]) {
+        let words = seats.chunks_exact(SEAT_WORDS).nth(seat as usize);
+        if let Some(name) = words.and_then(|words| begin_name(nodes, words, claim)) {
+            self.count(name);
+        }
+    }
+
     fn count_call(&mut self, nodes: &mut [u32], seats: &mut [u32], row: [u32; 5]) {
         let (nodes_before, seats_before) = (nodes.to_vec(), seats.to_vec());
+        if let [BEGIN, seat, start, end, kind] = row {
+            self.count_begin(nodes, seats, seat, [start, end, kind]);
+        }
         let answer = call(nodes, seats, row);
         let call_name = ["begin", "step", "release"][row[0] as usize - 1];
         if let Err(refusal) = answer {
@@ -139,7 +193,8 @@ impl Tally {
             Err(line @ 0..=2) => return self.count(format!("bad {line}")),
             Err(_) => return self.count("bad, a later line"),
         };
-        let (mut nodes, mut seats) = machine::fresh(script.nodes, script.seats);
+        self.count(title_name(script.title));
+        let (mut nodes, mut seats) = machine::fresh(script.nodes, script.seats, script.title);
         let mut longest = 0;
         for &row in &script.rows[..script.count as usize] {
             self.count_call(&mut nodes, &mut seats, row);
@@ -152,33 +207,68 @@ impl Tally {
         self.see("nodes in the longest list", longest as u32);
     }
 
-    /// Counts what is wrong with tables of a name: a table is damaged by a count alone if right counts make it sound.
-    fn count_tables(&mut self, name: &str, (nodes, seats): Tables) {
-        let sound = |nodes: &[u32]| machine::free_count(nodes, &seats).is_ok();
+    /// Counts what is wrong with tables of a name: a table is damaged by a count alone if right counts make it sound, and by
+    /// its title alone if the longest title does.
+    fn count_tables(&mut self, name: &str, (nodes, seats): &Tables) {
+        let sound = |nodes: &[u32]| machine::free_count(nodes, seats).is_ok();
         let mut counted = nodes.clone();
-        put_counts(&mut counted, &seats);
-        if sound(&nodes) {
+        put_counts(&mut counted, seats);
+        let mut titled = nodes.clone();
+        titled.iter_mut().skip(TITLE).take(1).for_each(|title| *title = u32::MAX);
+        if sound(nodes) {
             self.count(format!("{name}: sound"));
-            self.count_holding(&nodes);
+            self.count(title_name(nodes[TITLE]));
+            self.count_holding(nodes);
+            if nodes[TITLE] == largest_end(nodes) {
+                self.count("title that is the end of a node");
+            }
         } else if sound(&counted) {
             self.count(format!("{name}: damaged by a count alone"));
+        } else if sound(&titled) {
+            self.count(format!("{name}: damaged by its title alone"));
         } else {
             self.count(format!("{name}: damaged otherwise"));
         }
     }
 
-    /// Counts the tables of a round: some of each family, and one for each damage and each wrong count.
+    /// Counts what the calls that are compared on such tables meet of the title.
+    fn count_calls(&mut self, random: &mut Random, tables: &Tables) {
+        let (nodes, seats) = tables;
+        for call in every_call(random, tables) {
+            match call {
+                Call::Clear { title } => self.count(clear_name(tables, title)),
+                Call::Begin { seat, start, end, kind } if machine::free_count(nodes, seats).is_ok() => {
+                    self.count_begin(nodes, seats, seat, [start, end, kind]);
+                }
+                _ => {}
+            }
+        }
+    }
+
+    /// Counts the tables of a round, and the calls on them: some of each family, and one for each damage, each wrong count
+    /// and each wrong title.
     pub fn count_round(&mut self, random: &mut Random) {
+        let mut count = |random: &mut Random, name: &str, tables: Tables| {
+            self.count_tables(name, &tables);
+            self.count_calls(random, &tables);
+        };
         for _ in 0..10 {
-            self.count_tables("any words", any_words(random));
-            self.count_tables("sound words", sound_words(random));
-            self.count_tables("many holders", many_holders(random));
+            let families = [any_words(random), sound_words(random), many_holders(random)];
+            for (name, tables) in ["any words", "sound words", "many holders"].into_iter().zip(families) {
+                count(random, name, tables);
+            }
         }
         for damage in DAMAGES {
-            self.count_tables(&format!("damage, {}", damage.0), damaged(random, damage));
+            let tables = damaged(random, damage);
+            count(random, &format!("damage, {}", damage.0), tables);
         }
         for miscount in MISCOUNTS {
-            self.count_tables(&format!("count, {}", miscount.0), miscounted(random, miscount));
+            let tables = miscounted(random, miscount);
+            count(random, &format!("count, {}", miscount.0), tables);
+        }
+        for mistitle in MISTITLES {
+            let tables = mistitled(random, mistitle);
+            count(random, &format!("title, {}", mistitle.0), tables);
         }
     }
 

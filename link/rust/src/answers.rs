@@ -70,35 +70,41 @@ impl Display for Answer {
     }
 }
 
-/// Why a call was refused. It has changed nothing.
+/// Why a call was refused. It has changed nothing. They stand in the order in which a call looks for them.
 #[derive(Clone, Copy, Debug, PartialEq, Eq, Hash)]
 #[non_exhaustive]
 pub enum Refused {
-    /// The tables are damaged; for clear, only their lengths are wrong.
-    Damaged = 1,
-    /// The seat's number is not below the number of seats.
-    NoSuchSeat = 2,
-    /// The claim starts at its end, or behind it.
-    EmptyClaim = 3,
-    /// The kind is neither 1 nor 2.
-    NoSuchKind = 4,
-    /// Begin wants an idle seat.
-    SeatHasClaim = 5,
-    /// Step wants a seat with a claim.
-    SeatIdle = 6,
-    /// Release wants a seat that holds.
-    NotHolding = 7,
-    /// Begin, or a step that takes a node anew, found no node free.
-    NoNodeFree = 8,
-    /// The board has fewer rows than there are holders.
-    BoardTooShort = 9,
+    /// 1: the tables are damaged; for clear, only their lengths are wrong.
+    Damaged,
+    /// 2: the seat's number is not below the number of seats.
+    NoSuchSeat,
+    /// 3, of begin: the claim starts at its end, or behind it.
+    EmptyClaim,
+    /// 3, of clear: the title has no frames.
+    EmptyTitle,
+    /// 11: the claim ends beyond the title.
+    BeyondTitle,
+    /// 4: the kind is neither 1 nor 2.
+    NoSuchKind,
+    /// 5: begin wants an idle seat.
+    SeatHasClaim,
+    /// 6: step wants a seat with a claim.
+    SeatIdle,
+    /// 7: release wants a seat that holds.
+    NotHolding,
+    /// 8: begin, or a step that takes a node anew, found no node free.
+    NoNodeFree,
+    /// 9: the board has fewer rows than there are holders.
+    BoardTooShort,
 }
 
 impl Refused {
-    const ALL: [Refused; 9] = [
+    const ALL: [Refused; 11] = [
         Refused::Damaged,
         Refused::NoSuchSeat,
         Refused::EmptyClaim,
+        Refused::EmptyTitle,
+        Refused::BeyondTitle,
         Refused::NoSuchKind,
         Refused::SeatHasClaim,
         Refused::SeatIdle,
@@ -107,11 +113,23 @@ impl Refused {
         Refused::BoardTooShort,
     ];
 
-    /// The number that the program prints as `no k`.
+    /// The number that the program prints as `no k`. Two have number 3, one of begin and one of clear.
     pub fn number(self) -> u32 {
-        self as u32
+        match self {
+            Refused::Damaged => 1,
+            Refused::NoSuchSeat => 2,
+            Refused::EmptyClaim | Refused::EmptyTitle => 3,
+            Refused::BeyondTitle => 11,
+            Refused::NoSuchKind => 4,
+            Refused::SeatHasClaim => 5,
+            Refused::SeatIdle => 6,
+            Refused::NotHolding => 7,
+            Refused::NoNodeFree => 8,
+            Refused::BoardTooShort => 9,
+        }
     }
 
+    /// The refusal of this number, of any call but clear.
     fn of(number: u32) -> Refused {
         let known = Refused::ALL.into_iter().find(|refused| refused.number() == number);
         known.unwrap_or_else(|| {
@@ -126,6 +144,8 @@ impl Display for Refused {
             Refused::Damaged => "the tables are damaged",
             Refused::NoSuchSeat => "there is no such seat",
             Refused::EmptyClaim => "the claim does not start below its end",
+            Refused::EmptyTitle => "the title has no frames",
+            Refused::BeyondTitle => "the claim ends beyond the title",
             Refused::NoSuchKind => "the kind is neither 1 (reads) nor 2 (writes)",
             Refused::SeatHasClaim => "the seat has a claim already",
             Refused::SeatIdle => "the seat has no claim",
@@ -159,7 +179,7 @@ pub struct Row {
 #[derive(Clone, Copy, Debug, PartialEq, Eq, Hash)]
 pub struct Shown {
     pub rows: usize,
-    /// The number of frames that at least one of them covers; at most 4,294,967,295.
+    /// The number of frames that at least one of them covers; at most the title's.
     pub covered: u64,
 }
 
@@ -193,9 +213,10 @@ fn lower(given: u64) -> u32 {
     given as u32
 }
 
-pub(crate) fn done(given: u64) -> Result<(), Refused> {
+pub(crate) fn cleared(given: u64) -> Result<(), Refused> {
     match lower(given) {
         0 => Ok(()),
+        3 => Err(Refused::EmptyTitle),
         number => Err(Refused::of(number)),
     }
 }
@@ -243,18 +264,19 @@ mod tests {
 
     #[test]
     fn every_refusal_has_its_number_and_words_of_its_own() {
-        let numbers: Vec<u32> = Refused::ALL.iter().map(|refused| refused.number()).collect();
-        assert_eq!(numbers, (1..=9).collect::<Vec<u32>>());
-        for (place, refused) in Refused::ALL.iter().enumerate() {
-            assert_eq!(Refused::of(refused.number()), *refused);
+        assert_eq!(Refused::ALL.map(Refused::number), [1, 2, 3, 3, 11, 4, 5, 6, 7, 8, 9]);
+        for (place, &refused) in Refused::ALL.iter().enumerate() {
+            let of_clear = refused == Refused::EmptyTitle;
+            assert_eq!(if of_clear { cleared(3) } else { answer(refused.number().into()).map(|_| ()) }, Err(refused));
             assert!(Refused::ALL[..place].iter().all(|other| other.to_string() != refused.to_string()));
         }
+        assert_eq!([cleared(0), cleared(1)], [Ok(()), Err(Refused::Damaged)]);
     }
 
     #[test]
-    #[should_panic(expected = "refusal 11")]
+    #[should_panic(expected = "refusal 12")]
     fn a_refusal_of_another_archive_is_not_taken_for_one_of_ours() {
-        let _ = answer(11);
+        let _ = answer(12);
     }
 
     #[test]

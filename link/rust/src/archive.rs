@@ -2,7 +2,7 @@
 //! None asks anything of its caller but that so many words stand there, and that what it may change overlaps nothing else.
 
 extern "C" {
-    pub fn soodhiqune_clear(nodes: *mut u32, node_words: usize, seats: *mut u32, seat_words: usize) -> u64;
+    pub fn soodhiqune_clear(nodes: *mut u32, node_words: usize, seats: *mut u32, seat_words: usize, title: u32) -> u64;
     pub fn soodhiqune_begin(
         nodes: *mut u32,
         node_words: usize,

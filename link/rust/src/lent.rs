@@ -1,7 +1,7 @@
 //! The calls on tables that stay the caller's: lent slices of words, as the archive takes them. Any slices and any numbers will do, and a
 //! refused call changes nothing. The two slices of a call must be those of one pair; [`Tables`](crate::Tables) keeps them together.
 
-use crate::answers::{answer, count, done, ran, well_formed, Answer, BadScript, Ran, Refused, Row, Shown};
+use crate::answers::{answer, cleared, count, ran, well_formed, Answer, BadScript, Ran, Refused, Row, Shown};
 use crate::archive;
 use std::ops::Range;
 
@@ -16,13 +16,17 @@ pub const HOLDING_READERS: usize = 1;
 /// `nodes[HOLDING_WRITERS]` is how many writers hold, likewise.
 pub const HOLDING_WRITERS: usize = 2;
 
-/// The head, the two counts of holders, and then node 1.
-const BEFORE_NODES: usize = 3;
+/// `nodes[TITLE]` is how many frames the title has, as clear was told: no claim ends beyond it, and only clear writes it. A table with 0
+/// there, or less than the end of any node, is damaged.
+pub const TITLE: usize = 3;
+
+/// The head, the two counts of holders, the title, and then node 1.
+const BEFORE_NODES: usize = 4;
 
 const ROW_WORDS: usize = std::mem::size_of::<Row>() / std::mem::size_of::<u32>();
 
 /// Where a script's rows start among its numbers, and how many numbers a row has.
-pub(crate) const CONTENTS_NUMBERS: usize = 3;
+pub(crate) const CONTENTS_NUMBERS: usize = 4;
 pub(crate) const LINE_NUMBERS: usize = 5;
 const MOST_LINES: usize = 1000;
 
@@ -43,12 +47,16 @@ pub const fn seat_words(seats: usize) -> usize {
 
 // Safety, of every call below: a slice has as many words as its length says, and what is lent to be changed overlaps nothing else.
 
-/// Writes 0 everywhere, if the lengths are those of 1 to 256 nodes and 1 to 64 seats.
-pub fn clear(nodes: &mut [u32], seats: &mut [u32]) -> Result<(), Refused> {
-    done(unsafe { archive::soodhiqune_clear(nodes.as_mut_ptr(), nodes.len(), seats.as_mut_ptr(), seats.len()) })
+/// Writes 0 everywhere but in the title's word, which becomes this frame count, if the lengths are those of 1 to 256 nodes and 1 to 64
+/// seats, and the title has a frame.
+pub fn clear(nodes: &mut [u32], seats: &mut [u32], title: u32) -> Result<(), Refused> {
+    cleared(unsafe {
+        archive::soodhiqune_clear(nodes.as_mut_ptr(), nodes.len(), seats.as_mut_ptr(), seats.len(), title)
+    })
 }
 
-/// Takes a node for a claim of these frames, and starts the seat's walk. The kind is a [`Kind`](crate::Kind) or a number.
+/// Takes a node for a claim of these frames, none of them beyond the title, and starts the seat's walk. The kind is a
+/// [`Kind`](crate::Kind) or a number.
 pub fn begin(
     nodes: &mut [u32],
     seats: &mut [u32],
@@ -120,8 +128,8 @@ pub fn free_count(nodes: &[u32], seats: &[u32]) -> Result<u32, Refused> {
     count(unsafe { archive::soodhiqune_free_count(nodes.as_ptr(), nodes.len(), seats.as_ptr(), seats.len()) })
 }
 
-/// The numbers of a script: N, S, K, then five for each of 1,000 rows: a code (b 1, s 2, r 3), seat, start, end and kind; 0 where the
-/// script has none. Of one that is not well formed they stay as they were.
+/// The numbers of a script: N, S, K and the title's frame count, then five for each of 1,000 rows: a code (b 1, s 2, r 3), seat, start,
+/// end and kind; 0 where the script has none. Of one that is not well formed they stay as they were.
 pub fn read(script: &[u8], numbers: &mut [u32; SCRIPT_NUMBERS]) -> Result<(), BadScript> {
     well_formed(unsafe { archive::soodhiqune_read(script.as_ptr(), script.len(), numbers.as_mut_ptr()) })
 }

@@ -3,11 +3,12 @@
 use crate::answers::BadScript;
 use crate::lent::{self, CONTENTS_NUMBERS, LINE_NUMBERS, PRINTED_BYTES, SCRIPT_NUMBERS};
 
-/// A script: how many nodes and seats it asks for, and its lines after the first.
+/// A script: how many nodes and seats it asks for, how many frames its title has, and its lines after the first.
 #[derive(Clone, Debug, PartialEq, Eq)]
 pub struct Script {
     pub nodes: usize,
     pub seats: usize,
+    pub title: u32,
     pub lines: Vec<Line>,
 }
 
@@ -37,7 +38,8 @@ pub fn read(script: &[u8]) -> Result<Script, BadScript> {
     lent::read(script, &mut numbers)?;
     let (contents, lines) = numbers.split_at(CONTENTS_NUMBERS);
     let [nodes, seats, count] = [contents[0], contents[1], contents[2]].map(|number| number as usize);
-    Ok(Script { nodes, seats, lines: lines.chunks_exact(LINE_NUMBERS).take(count).map(Line::of).collect() })
+    let lines = lines.chunks_exact(LINE_NUMBERS).take(count).map(Line::of).collect();
+    Ok(Script { nodes, seats, title: contents[3], lines })
 }
 
 /// What the program prints for these bytes: `bad L` if they are no script.

@@ -1,7 +1,7 @@
 //! A pair of tables that belong together, with the calls as methods.
 
 use crate::answers::{Answer, Ran, Refused, Row};
-use crate::lent::{self, node_words, seat_words, HOLDING_READERS, HOLDING_WRITERS, MOST_NODES, MOST_SEATS};
+use crate::lent::{self, node_words, seat_words, HOLDING_READERS, HOLDING_WRITERS, MOST_NODES, MOST_SEATS, TITLE};
 use std::ops::Range;
 
 /// The node table and the seat table of one sheet.
@@ -15,18 +15,18 @@ pub struct Tables {
 #[derive(Clone, Debug, PartialEq, Eq)]
 pub struct Board {
     pub rows: Vec<Row>,
-    /// The number of frames that at least one of them covers; at most 4,294,967,295.
+    /// The number of frames that at least one of them covers; at most the title's.
     pub covered: u64,
 }
 
 impl Tables {
-    /// Fresh tables of 1 to 256 nodes and 1 to 64 seats.
-    pub fn new(nodes: usize, seats: usize) -> Result<Tables, Refused> {
+    /// Fresh tables of 1 to 256 nodes and 1 to 64 seats, for a title of so many frames, from 1.
+    pub fn new(nodes: usize, seats: usize, title: u32) -> Result<Tables, Refused> {
         if nodes > MOST_NODES || seats > MOST_SEATS {
             return Err(Refused::Damaged);
         }
         let mut tables = Tables { nodes: vec![0; node_words(nodes)], seats: vec![0; seat_words(seats)] };
-        tables.clear().map(|()| tables)
+        tables.clear(title).map(|()| tables)
     }
 
     /// Tables of any words, such as were kept elsewhere; if they are damaged, the calls say so.
@@ -39,12 +39,13 @@ impl Tables {
         (&self.nodes, &self.seats)
     }
 
-    /// Makes the tables fresh again.
-    pub fn clear(&mut self) -> Result<(), Refused> {
-        lent::clear(&mut self.nodes, &mut self.seats)
+    /// Makes the tables fresh again, for a title of so many frames, the same or another.
+    pub fn clear(&mut self, title: u32) -> Result<(), Refused> {
+        lent::clear(&mut self.nodes, &mut self.seats, title)
     }
 
-    /// Takes a node for a claim of these frames, and starts the seat's walk. The kind is a [`Kind`](crate::Kind) or a number.
+    /// Takes a node for a claim of these frames, none of them beyond the title, and starts the seat's walk. The kind is a
+    /// [`Kind`](crate::Kind) or a number.
     pub fn begin(&mut self, seat: u32, frames: Range<u32>, kind: impl Into<u32>) -> Result<Answer, Refused> {
         lent::begin(&mut self.nodes, &mut self.seats, seat, frames, kind)
     }
@@ -82,7 +83,12 @@ impl Tables {
         self.kept(HOLDING_WRITERS)
     }
 
-    /// Tables of any words may be too short to have it: they are damaged, and nobody holds.
+    /// How many frames the title has, as [`new`](Tables::new) or [`clear`](Tables::clear) was told.
+    pub fn title(&self) -> u32 {
+        self.kept(TITLE)
+    }
+
+    /// Tables of any words may be too short to have it: they are damaged, nobody holds, and there is no title.
     fn kept(&self, word: usize) -> u32 {
         self.nodes.get(word).copied().unwrap_or(0)
     }

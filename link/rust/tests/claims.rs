@@ -7,7 +7,7 @@ const SEAT_1_HOLDS: Row = Row { seat: 1, start: 15, end: 25, kind: 2 };
 
 /// H1 up to its end: seat 1 holds frames 15 up to 25.
 fn h1() -> Tables {
-    let mut tables = Tables::new(4, 3).unwrap();
+    let mut tables = Tables::new(4, 3, 25).unwrap();
     assert_eq!(tables.begin(0, 10..20, Kind::Writes), Ok(Answer::Node(1)));
     assert_eq!(tables.step(0), Ok(Answer::On));
     assert_eq!(tables.step(0), Ok(Answer::Held));
@@ -28,7 +28,7 @@ fn h1_on_tables_that_are_owned() {
 fn h1_on_lent_tables_ends_in_the_same_words() {
     let (mut nodes, mut seats) = (vec![7; node_words(4)], vec![7; seat_words(3)]);
     assert_eq!(lent::step(&mut nodes, &mut seats, 0), Err(Refused::Damaged));
-    assert_eq!(lent::clear(&mut nodes, &mut seats), Ok(()));
+    assert_eq!(lent::clear(&mut nodes, &mut seats, 25), Ok(()));
     assert_eq!(lent::begin(&mut nodes, &mut seats, 0, 10..20, Kind::Writes), Ok(Answer::Node(1)));
     assert_eq!(lent::run(&mut nodes, &mut seats, &[0, 0], 9), Ran { steps: 2, refused: None });
     assert_eq!(lent::begin(&mut nodes, &mut seats, 1, 15..25, 2_u32), Ok(Answer::Node(2)));
@@ -52,7 +52,7 @@ fn the_rows_past_the_holders_stay() {
 
 #[test]
 fn a_frame_that_two_readers_hold_is_covered_once() {
-    let mut tables = Tables::new(4, 4).unwrap();
+    let mut tables = Tables::new(4, 4, 100).unwrap();
     for (seat, frames) in [(0, 0..100), (1, 50..60)] {
         tables.begin(seat, frames, Kind::Reads).unwrap();
         while tables.step(seat).unwrap() != Answer::Held {}
@@ -70,7 +70,7 @@ fn holding(tables: &Tables) -> [u32; 2] {
 
 #[test]
 fn how_many_hold_is_known_after_every_call() {
-    let mut tables = Tables::new(4, 4).unwrap();
+    let mut tables = Tables::new(4, 4, 30).unwrap();
     assert_eq!(holding(&tables), [0, 0]);
     for (seat, frames, kind, then) in
         [(0, 0..10, Kind::Reads, [1, 0]), (1, 5..10, Kind::Reads, [2, 0]), (2, 20..30, Kind::Writes, [2, 1])]
@@ -87,7 +87,7 @@ fn how_many_hold_is_known_after_every_call() {
     assert_eq!((tables.release(3), holding(&tables)), (Err(Refused::NotHolding), [2, 1]));
     assert_eq!((tables.release(0), holding(&tables)), (Ok(Answer::Out), [1, 1]));
     assert_eq!((tables.release(2), holding(&tables)), (Ok(Answer::Out), [1, 0]));
-    assert_eq!((tables.clear(), holding(&tables)), (Ok(()), [0, 0]));
+    assert_eq!((tables.clear(30), holding(&tables)), (Ok(()), [0, 0]));
 }
 
 #[test]
@@ -104,7 +104,7 @@ fn run_stops_at_its_end_its_budget_and_a_refused_entry() {
 
 #[test]
 fn a_writer_that_meets_a_reader_goes_back() {
-    let mut tables = Tables::new(8, 4).unwrap();
+    let mut tables = Tables::new(8, 4, 20).unwrap();
     tables.begin(0, 1..10, Kind::Reads).unwrap();
     tables.run(&[0; 2], 9);
     tables.begin(1, 12..14, Kind::Reads).unwrap();
@@ -118,8 +118,8 @@ fn a_writer_that_meets_a_reader_goes_back() {
 #[test]
 fn clear_makes_tables_fresh_again() {
     let mut tables = h1();
-    tables.clear().unwrap();
-    assert_eq!(Ok(tables), Tables::new(4, 3));
+    tables.clear(25).unwrap();
+    assert_eq!(Ok(tables), Tables::new(4, 3, 25));
 }
 
 #[test]

@@ -3,7 +3,7 @@
 use soodhiqune::lent::{self, PRINTED_BYTES, SCRIPT_NUMBERS};
 use soodhiqune::{play, read, BadScript, Line, Script};
 
-const GOOD: &[u8] = b"4 3 3\nb 0 10 20 2\ns 0\nr 4294967295\n";
+const GOOD: &[u8] = b"4 3 3 20\nb 0 10 20 2\ns 0\nr 4294967295\n";
 
 #[test]
 fn a_good_script_is_read() {
@@ -12,15 +12,16 @@ fn a_good_script_is_read() {
         Line::Step { seat: 0 },
         Line::Release { seat: u32::MAX },
     ];
-    assert_eq!(read(GOOD), Ok(Script { nodes: 4, seats: 3, lines }));
-    assert_eq!(read(b"256 64 0\n"), Ok(Script { nodes: 256, seats: 64, lines: Vec::new() }));
+    assert_eq!(read(GOOD), Ok(Script { nodes: 4, seats: 3, title: 20, lines }));
+    let longest = Script { nodes: 256, seats: 64, title: u32::MAX, lines: Vec::new() };
+    assert_eq!(read(b"256 64 0 4294967295\n"), Ok(longest));
 }
 
 #[test]
 fn what_a_script_does_not_fill_is_0() {
     let mut numbers = [9; SCRIPT_NUMBERS];
     assert_eq!(lent::read(GOOD, &mut numbers), Ok(()));
-    let filled = [4, 3, 3, 1, 0, 10, 20, 2, 2, 0, 0, 0, 0, 3, u32::MAX];
+    let filled = [4, 3, 3, 20, 1, 0, 10, 20, 2, 2, 0, 0, 0, 0, 3, u32::MAX];
     let (found, rest) = numbers.split_at(filled.len());
     assert_eq!(found, filled);
     assert!(rest.iter().all(|&number| number == 0));
@@ -29,14 +30,17 @@ fn what_a_script_does_not_fill_is_0() {
 #[test]
 fn a_bad_script_names_its_line_and_changes_nothing() {
     let mut numbers = [9; SCRIPT_NUMBERS];
-    assert_eq!(lent::read(b"4 3 1\ns 00\n", &mut numbers), Err(BadScript::Line(2)));
+    assert_eq!(lent::read(b"4 3 1 20\ns 00\n", &mut numbers), Err(BadScript::Line(2)));
     assert_eq!(numbers, [9; SCRIPT_NUMBERS]);
     assert_eq!(read(b""), Err(BadScript::Line(1)));
-    assert_eq!(read(b"4 3 1\n"), Err(BadScript::Line(2)));
-    assert_eq!(read(b"4 3 0\n\n"), Err(BadScript::Line(2)));
+    assert_eq!(read(b"4 3 1 20\n"), Err(BadScript::Line(2)));
+    assert_eq!(read(b"4 3 0 20\n\n"), Err(BadScript::Line(2)));
+    for first in [&b"4 3 0\n"[..], b"4 3 0 0\n", b"4 3 0 4294967296\n", b"4 3 0 20 1\n", b"4 3 0 \n"] {
+        assert_eq!(read(first), Err(BadScript::Line(1)), "{}", first.escape_ascii());
+    }
     assert_eq!(read(&[b'1'; 16384]), Err(BadScript::Line(1)));
     assert_eq!(read(&[b'1'; 16385]), Err(BadScript::TooLong));
-    let error: Box<dyn std::error::Error> = read(b"4 3 1\ns 00\n").unwrap_err().into();
+    let error: Box<dyn std::error::Error> = read(b"4 3 1 20\ns 00\n").unwrap_err().into();
     assert_eq!(error.to_string(), "line 2 of the script is wrong");
     assert_eq!(BadScript::TooLong.to_string(), "the script is too long");
 }
@@ -44,7 +48,8 @@ fn a_bad_script_names_its_line_and_changes_nothing() {
 #[test]
 fn a_script_is_played() {
     assert_eq!(play(GOOD), "1 node 1\n2 on\n3 no 2\nlist 1\ncovered 0\n");
-    assert_eq!(play(b"4 3 1\ns 00\n"), "bad 2\n");
+    assert_eq!(play(b"4 3 1 20\ns 00\n"), "bad 2\n");
+    assert_eq!(play(b"4 3 2 20\nb 0 10 21 2\nb 0 10 20 2\n"), "1 no 11\n2 node 1\nlist\ncovered 0\n");
     let mut printed = [9; PRINTED_BYTES];
     assert_eq!(lent::play(b"", &mut printed), 6);
     let (found, rest) = printed.split_at(6);

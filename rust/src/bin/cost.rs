@@ -17,6 +17,9 @@ const MACHINES: &[(&str, Library)] = &[("second", second::library_of!(second::li
 const READS: u32 = 1;
 const WRITES: u32 = 2;
 
+/// No claim ends beyond it.
+const TITLE: u32 = u32::MAX;
+
 /// Tables on their way to the call that is measured: all seats but two hold, one behind the other.
 struct Bench {
     nodes: Vec<u32>,
@@ -29,7 +32,7 @@ struct Bench {
 /// Each seat in turn holds at the place that the list gives it; the places lie apart, and two seats more are idle.
 fn holders_at(node_count: u32, places: Vec<u32>, kind: u32) -> Bench {
     let seat_count = places.len() as u32 + 2;
-    let (nodes, seats) = machine::fresh(node_count, seat_count);
+    let (nodes, seats) = machine::fresh(node_count, seat_count, TITLE);
     let mut bench = Bench { nodes, seats, last: seat_count - 1, beside: seat_count - 2 };
     for (seat, place) in (0..).zip(places) {
         bench.begin(seat, 10 * (place + 1), 10 * (place + 1) + 5, kind);
@@ -88,7 +91,7 @@ impl Bench {
     }
 
     fn over(self, seat: u32, kind: u32, steps: u32) -> Bench {
-        self.begun(seat, 0, u32::MAX, kind, steps)
+        self.begun(seat, 0, TITLE, kind, steps)
     }
 
     fn behind(self, seat: u32, kind: u32, steps: u32) -> Bench {
@@ -156,7 +159,7 @@ fn reader_before_writer(nodes: u32, seats: u32) -> Bench {
 
 /// All seats have begun, every fourth reads over all the others' frames, and a thousand steps follow in no order.
 fn long_run(node_count: u32, seat_count: u32) -> Case {
-    let (nodes, seats) = machine::fresh(node_count, seat_count);
+    let (nodes, seats) = machine::fresh(node_count, seat_count, TITLE);
     let mut bench = Bench { nodes, seats, last: seat_count - 1, beside: seat_count - 2 };
     for seat in 0..seat_count {
         let (start, end, kind) =
@@ -171,7 +174,7 @@ fn long_run(node_count: u32, seat_count: u32) -> Case {
 type Operation = (&'static str, fn(u32, u32) -> Case);
 
 const OPERATIONS: &[Operation] = &[
-    ("clear", |nodes, seats| holders(nodes, seats, WRITES).call(Call::Clear)),
+    ("clear", |nodes, seats| holders(nodes, seats, WRITES).call(Call::Clear { title: TITLE })),
     ("begin", |nodes, seats| holders(nodes, seats, WRITES).begins()),
     ("begin, marked nodes are taken out", |nodes, seats| holders(nodes, seats, WRITES).full(1).begins()),
     ("begin, refused 8", |nodes, seats| holders(nodes, seats, WRITES).full(0).begins()),

@@ -1,13 +1,14 @@
 //! Each refusal, the board, run, and a step that damages.
 
 use crate::machine::{begin, board, clear, free_count, fresh, place, release, run, step, Answer, WALKING};
-use crate::machine::{END, HEAD, KIND, NEXT, OWN, PHASE, PREV, START};
+use crate::machine::{END, HEAD, KIND, NEXT, OWN, PHASE, PREV, START, TITLE};
 
 #[test]
-fn the_lowest_refusal_that_holds_is_given() {
-    let (mut nodes, mut seats) = fresh(1, 2);
-    assert_eq!(begin(&mut nodes, &mut seats, 2, 7, 7, 9), Err(2));
-    assert_eq!(begin(&mut nodes, &mut seats, 0, 7, 7, 9), Err(3));
+fn the_first_refusal_that_holds_is_given() {
+    let (mut nodes, mut seats) = fresh(1, 2, 8);
+    assert_eq!(begin(&mut nodes, &mut seats, 2, 9, 9, 9), Err(2));
+    assert_eq!(begin(&mut nodes, &mut seats, 0, 9, 9, 9), Err(3));
+    assert_eq!(begin(&mut nodes, &mut seats, 0, 7, 9, 9), Err(11));
     assert_eq!(begin(&mut nodes, &mut seats, 0, 7, 8, 9), Err(4));
     assert_eq!(begin(&mut nodes, &mut seats, 0, 7, 8, 2), Ok(Answer::Node(1)));
     assert_eq!(begin(&mut nodes, &mut seats, 0, 7, 8, 2), Err(5));
@@ -22,29 +23,34 @@ fn the_lowest_refusal_that_holds_is_given() {
     assert_eq!(release(&mut nodes, &mut seats, 2), Err(1));
     assert_eq!(free_count(&nodes, &seats), Err(1));
     assert_eq!(board(&nodes, &seats, &mut []), Err(1));
-    assert_eq!(clear(&mut nodes, &mut seats), Ok(()));
-    assert_eq!((nodes, seats), fresh(1, 2));
+    assert_eq!(clear(&mut nodes, &mut seats, 0), Err(3));
+    assert_eq!(clear(&mut nodes, &mut seats, 9), Ok(()));
+    assert_eq!((nodes, seats), fresh(1, 2, 9));
 }
 
 #[test]
 fn lengths_that_do_not_fit_are_refused() {
-    let node_words = |count| fresh(count, 0).0.len();
-    let seat_words = |count| fresh(0, count).1.len();
+    let node_words = |count| fresh(count, 0, 1).0.len();
+    let seat_words = |count| fresh(0, count, 1).1.len();
     let (one, seat) = (node_words(1), seat_words(1));
     let no_node = node_words(0);
     let wrong_nodes = [0, 1, no_node - 1, no_node, one - 1, one + 1, node_words(257)].map(|nodes| (nodes, seat));
     let wrong_seats = [0, seat - 1, seat + 1, seat_words(65)].map(|seats| (one, seats));
     for (nodes, seats) in wrong_nodes.into_iter().chain(wrong_seats) {
-        assert_eq!(clear(&mut vec![7; nodes], &mut vec![7; seats]), Err(1), "{nodes} {seats}");
-        assert_eq!(free_count(&vec![0; nodes], &vec![0; seats]), Err(1), "{nodes} {seats}");
+        assert_eq!(clear(&mut vec![7; nodes], &mut vec![7; seats], 1), Err(1), "{nodes} {seats}");
+        let mut zeros = vec![0; nodes];
+        zeros.iter_mut().skip(TITLE).take(1).for_each(|title| *title = 1);
+        assert_eq!(free_count(&zeros, &vec![0; seats]), Err(1), "{nodes} {seats}");
     }
-    assert_eq!(free_count(&vec![0; node_words(256)], &vec![0; seat_words(64)]), Ok(256));
-    assert_eq!(free_count(&vec![0; one], &vec![0; seat]), Ok(1));
+    for (nodes, seats) in [(256, 64), (1, 1)] {
+        let (node_table, seat_table) = fresh(nodes, seats, 1);
+        assert_eq!(free_count(&node_table, &seat_table), Ok(nodes));
+    }
 }
 
 /// A writer of each seat's own frame that holds.
 fn all_hold(seat_count: u32) -> (Vec<u32>, Vec<u32>) {
-    let (mut nodes, mut seats) = fresh(seat_count, seat_count);
+    let (mut nodes, mut seats) = fresh(seat_count, seat_count, seat_count);
     for seat in 0..seat_count {
         begin(&mut nodes, &mut seats, seat, seat, seat + 1, 2).unwrap();
         while step(&mut nodes, &mut seats, seat).expect("the seat is under way") != Answer::Held {}
@@ -78,7 +84,7 @@ fn run_stops_at_the_end_at_its_budget_and_at_a_refused_entry() {
 
 #[test]
 fn a_step_can_damage_sound_tables_that_were_never_reached() {
-    let (mut nodes, mut seats) = fresh(1, 1);
+    let (mut nodes, mut seats) = fresh(1, 1, 1);
     nodes[HEAD] = 1;
     for (field, value) in [(START, 0), (END, 1), (KIND, 2)] {
         nodes[place(1, field)] = value;

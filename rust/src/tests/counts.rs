@@ -18,7 +18,7 @@ fn assert_counted(nodes: &[u32], seats: &[u32], what: &str) {
 /// The two counts after each call of a script, which are those over the seats.
 pub fn counts_after_each_call(script: &[u8]) -> Vec<[u32; 2]> {
     let script = read_script(script).expect("a good script");
-    let (mut nodes, mut seats) = fresh(script.nodes, script.seats);
+    let (mut nodes, mut seats) = fresh(script.nodes, script.seats, script.title);
     let rows = script.rows.into_iter().take(script.count as usize);
     rows.map(|row| {
         // refused or not
@@ -195,7 +195,7 @@ fn the_board_has_as_many_rows_as_are_counted() {
 
 /// Seats 0 and 1 read the same frames and seat 2 writes others, each on a node of its own; seat 3 is idle.
 fn two_readers_and_a_writer() -> Tables {
-    let (mut nodes, mut seats) = fresh(4, 4);
+    let (mut nodes, mut seats) = fresh(4, 4, 30);
     for (seat, start, kind) in [(0, 0, 1), (1, 0, 1), (2, 20, 2)] {
         begin(&mut nodes, &mut seats, seat, start, start + 10, kind).expect("a node is free");
         while step(&mut nodes, &mut seats, seat).expect("the seat is under way") != Answer::Held {}
@@ -211,8 +211,8 @@ fn assert_counts(tables: &Tables, right: [u32; 2], wrong: &[[u32; 2]]) {
         [nodes[READERS], nodes[WRITERS]] = *counts;
         refused_by_every_call(&format!("{counts:?} for {right:?}"), &nodes, &seats);
     }
-    assert_eq!(clear(&mut nodes, &mut seats), Ok(()));
-    assert_eq!((nodes, seats), fresh(4, 4));
+    assert_eq!(clear(&mut nodes, &mut seats, 30), Ok(()));
+    assert_eq!((nodes, seats), fresh(4, 4, 30));
 }
 
 #[test]
@@ -221,7 +221,7 @@ fn a_wrong_count_is_damage() {
     let too_few = [[1, 1], [2, 0], [0, 1], [0, 0]];
     let right_sum = [[1, 2], [3, 0], [0, 3]];
     assert_counts(&two_readers_and_a_writer(), [2, 1], &[&too_many[..], &too_few, &right_sum].concat());
-    assert_counts(&fresh(4, 4), [0, 0], &[[1, 0], [0, 1], [1, 1], [u32::MAX, 0], [0, u32::MAX], [u32::MAX, 1]]);
+    assert_counts(&fresh(4, 4, 30), [0, 0], &[[1, 0], [0, 1], [1, 1], [u32::MAX, 0], [0, u32::MAX], [u32::MAX, 1]]);
 }
 
 #[test]

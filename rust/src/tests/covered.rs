@@ -5,6 +5,7 @@ use crate::machine::{begin, board, fresh, link, place, step, Answer};
 use crate::machine::{END, HOLDING, KIND, MARK, MOST_SEATS, OWN, PHASE, ROW_WORDS, SEAT_WORDS, START};
 use crate::random::Random;
 use crate::tables::{many_holders, put_counts};
+use crate::tests::LONGEST_TITLE;
 use std::ops::Range;
 
 /// The covered frames of any sound tables.
@@ -14,7 +15,7 @@ fn covered(nodes: &[u32], seats: &[u32]) -> u64 {
 
 /// The frames covered once each seat in turn has claimed its run for reading and holds it: readers keep nobody out.
 fn covered_by_readers(runs: &[Range<u32>]) -> u64 {
-    let (mut nodes, mut seats) = fresh(runs.len() as u32, runs.len() as u32);
+    let (mut nodes, mut seats) = fresh(runs.len() as u32, runs.len() as u32, LONGEST_TITLE);
     for (seat, run) in (0..).zip(runs) {
         begin(&mut nodes, &mut seats, seat, run.start, run.end, 1).expect("a node is free");
         while step(&mut nodes, &mut seats, seat).expect("the seat is under way") != Answer::Held {}
@@ -85,7 +86,7 @@ fn the_order_by_seat_does_not_matter() {
 
 #[test]
 fn no_holder_covers_nothing() {
-    let (nodes, seats) = fresh(1, 1);
+    let (nodes, seats) = fresh(1, 1, LONGEST_TITLE);
     assert_eq!(covered(&nodes, &seats), 0);
 }
 
@@ -99,7 +100,7 @@ fn held(nodes: &[u32], seats: &[u32]) -> Vec<Range<u32>> {
 /// frames, some marked; of the seats most hold, some of them the same node.
 fn small_tables(random: &mut Random) -> (Vec<u32>, Vec<u32>) {
     let node_count = random.between(1, 9);
-    let (mut nodes, mut seats) = fresh(node_count, random.between(1, 9));
+    let (mut nodes, mut seats) = fresh(node_count, random.between(1, 9), 30);
     for node in 1..=node_count {
         let length = random.pick(&[1, 2, 3, 8, 15]);
         let start = random.between(0, 30 - length);

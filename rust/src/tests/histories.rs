@@ -1,4 +1,4 @@
-//! The histories H1 to H11 of document 01, with covered frames as 02 counts them, and one more.
+//! The histories H1 to H11 of document 01, with covered frames and the title as 02 has them, and one more.
 
 use crate::script::play;
 use crate::tests::counts::counts_after_each_call;
@@ -40,7 +40,7 @@ fn played((nodes, seats, bodies): History) -> String {
 
 #[test]
 fn h1_the_script_of_the_document() {
-    let script = b"4 3 10\nb 0 10 20 2\ns 0\ns 0\nb 1 15 25 2\ns 1\nr 0\ns 1\ns 1\ns 1\ns 1\n";
+    let script = b"4 3 10 4294967295\nb 0 10 20 2\ns 0\ns 0\nb 1 15 25 2\ns 1\nr 0\ns 1\ns 1\ns 1\ns 1\n";
     let printed = "1 node 1\n2 on\n3 held\n4 node 2\n5 wait 1\n6 out\n7 on\n8 on\n9 on\n10 held\n\
                    list 2\nhold 1 15 25 2\ncovered 10\n";
     assert_eq!(script_of(H1.0, H1.1, H1.2).as_bytes(), script);

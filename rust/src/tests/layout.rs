@@ -4,7 +4,8 @@
 pub const HEAD: usize = 0;
 pub const READERS: usize = 1;
 pub const WRITERS: usize = 2;
-pub const WORDS_BEFORE_NODES: usize = 3;
+pub const TITLE: usize = 3;
+pub const WORDS_BEFORE_NODES: usize = 4;
 pub const NODE_WORDS: usize = 5;
 pub const START: usize = 0;
 pub const END: usize = 1;
@@ -34,4 +35,10 @@ pub fn counts_kept(nodes: &[u32]) -> [u32; 2] {
 pub fn counts_over_seats(nodes: &[u32], seats: &[u32]) -> [u32; 2] {
     let holds = |seat: &[u32], kind: u32| seat[PHASE] == 5 && word(nodes, seat[OWN], KIND) == kind;
     [1, 2].map(|kind| seats.chunks(SEAT_WORDS).filter(|seat| holds(seat, kind)).count() as u32)
+}
+
+/// 02: "A table whose remembered count is 0 or below a node's end is damaged": node by node, whatever they are.
+pub fn title_is_damage(nodes: &[u32]) -> bool {
+    let node_count = ((nodes.len() - WORDS_BEFORE_NODES) / NODE_WORDS) as u32;
+    nodes[TITLE] == 0 || (1..=node_count).any(|node| nodes[TITLE] < word(nodes, node, END))
 }

@@ -10,11 +10,20 @@ mod histories;
 mod layout;
 mod scripts;
 mod tables;
+mod title;
 
-/// The script of bodies separated by `;` on N nodes and S seats.
+/// 02: "the histories take 4,294,967,295".
+const LONGEST_TITLE: u32 = 4_294_967_295;
+
+/// The script of bodies separated by `;` on N nodes and S seats, of a title that no claim ends beyond.
 fn script_of(nodes: u32, seats: u32, bodies: &str) -> String {
+    script_on(nodes, seats, LONGEST_TITLE, bodies)
+}
+
+/// The same for a title of so many frames.
+fn script_on(nodes: u32, seats: u32, title: u32, bodies: &str) -> String {
     let bodies: Vec<&str> = bodies.split("; ").collect();
-    format!("{nodes} {seats} {}\n{}\n", bodies.len(), bodies.join("\n"))
+    format!("{nodes} {seats} {} {title}\n{}\n", bodies.len(), bodies.join("\n"))
 }
 
 /// Every call but clear finds these tables damaged, and leaves all that it is lent as it was.
@@ -36,6 +45,22 @@ fn refused_by_every_call(name: &str, nodes: &[u32], seats: &[u32]) {
         assert!(after.rows.words().iter().all(|&word| word == 7), "{text}");
     }
 }
+
+/// What begins must meet at the title's end, in the generated scripts and on the tables of a seed.
+const BEGINS: [&str; 8] = [
+    "begin: beyond the title, and empty",
+    "begin: beyond the title, of no known kind",
+    "begin: beyond the title, by a seat that has a claim",
+    "begin: beyond the title",
+    "begin: beyond the title by a frame",
+    "begin: up to the title, of no known kind",
+    "begin: up to the title, by a seat that has a claim",
+    "begin: up to the title",
+];
+
+/// The titles that they must have.
+const TITLES: [&str; 4] =
+    ["title of one frame", "title of 2 to 300 frames", "title of 4294967295 frames", "title of another length"];
 
 /// How holders must meet on the boards of the generated scripts, and on those of tables with many holders.
 const BOARDS: [&str; 8] = [

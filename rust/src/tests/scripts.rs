@@ -4,25 +4,29 @@ use crate::generate::{any_text, good, put_change, script, FLAWS};
 use crate::random::Random;
 use crate::script::read_script;
 use crate::tally::Tally;
-use crate::tests::BOARDS;
+use crate::tests::{BEGINS, BOARDS, TITLES};
 
 #[test]
 fn bad_scripts_name_the_first_wrong_line() {
     let line = |script: &[u8]| read_script(script).err();
     assert_eq!(line(b""), Some(1));
-    assert_eq!(line(b"1 1 0"), Some(1));
-    assert_eq!(line(b"1 1 0\n"), None);
-    assert_eq!(line(b"1 1 0\n\n"), Some(2));
-    assert_eq!(line(b"1 1 0\nx"), Some(2));
-    assert_eq!(line(b"256 64 0\n"), None);
-    for contents in ["0 1 0", "257 1 0", "1 0 0", "1 65 0", "1 1 1001", "1 1", "1 1 0 0", "01 1 0", "1  1 0", " 1 1 0"]
+    assert_eq!(line(b"1 1 0 9"), Some(1));
+    assert_eq!(line(b"1 1 0 9\n"), None);
+    assert_eq!(line(b"1 1 0 9\n\n"), Some(2));
+    assert_eq!(line(b"1 1 0 9\nx"), Some(2));
+    assert_eq!(line(b"256 64 0 4294967295\n"), None);
+    for contents in
+        ["0 1 0 9", "257 1 0 9", "1 0 0 9", "1 65 0 9", "1 1 1001 9", "01 1 0 9", "1  1 0 9", " 1 1 0 9", ""]
     {
         assert_eq!(line(format!("{contents}\n").as_bytes()), Some(1), "{contents}");
     }
-    for contents in ["1 1 0 ", "1\t1 0", "1 1 0\r", "+1 1 0", "-1 1 0", "1 1 \u{e9}", "1 1 0\0", "4294967297 1 0", ""] {
+    for contents in ["1 1", "1 1 0", "1 1 0 9 ", "1\t1 0 9", "1 1 0 9\r", "+1 1 0 9", "-1 1 0 9", "4294967297 1 0 9"] {
         assert_eq!(line(format!("{contents}\n").as_bytes()), Some(1), "{contents}");
     }
-    assert_eq!(line(b"1 1 1\nb 4294967295 0 4294967295 9\n"), None);
+    for title in ["0", "", "00", "09", "+9", "-1", "9 9", "9\0", "\u{e9}", "4294967296", "42949672950"] {
+        assert_eq!(line(format!("1 1 0 {title}\n").as_bytes()), Some(1), "{title}");
+    }
+    assert_eq!(line(b"1 1 1 1\nb 4294967295 0 4294967295 9\n"), None);
     for body in [
         "",
         "s",
@@ -37,12 +41,12 @@ fn bad_scripts_name_the_first_wrong_line() {
         "r 0 0",
         "ss 0",
     ] {
-        assert_eq!(line(format!("1 1 2\ns 0\n{body}\n").as_bytes()), Some(3), "{body}");
+        assert_eq!(line(format!("1 1 2 9\ns 0\n{body}\n").as_bytes()), Some(3), "{body}");
     }
-    assert_eq!(line(b"1 1 2\ns 0\n"), Some(3));
-    assert_eq!(line(b"1 1 2\ns 0\ns 0"), Some(3));
-    assert_eq!(line(b"1 1 2\nx\ns 0"), Some(2));
-    assert_eq!(line(b"1 1 1\ns 0\ns 0\n"), Some(3));
+    assert_eq!(line(b"1 1 2 9\ns 0\n"), Some(3));
+    assert_eq!(line(b"1 1 2 9\ns 0\ns 0"), Some(3));
+    assert_eq!(line(b"1 1 2 9\nx\ns 0"), Some(2));
+    assert_eq!(line(b"1 1 1 9\ns 0\ns 0\n"), Some(3));
     assert_eq!(line(&[b'1'; 16385]), Some(0));
     assert_eq!(line(&[b'1'; 16384]), Some(1));
 }
@@ -79,19 +83,23 @@ fn the_generated_scripts_reach_every_rule() {
         "release of a writer",
     ];
     let refusals =
-        ["2 of begin", "3 of begin", "4 of begin", "5 of begin", "8 of begin", "2 of step", "6 of step", "8 of step"];
-    for name in steps.iter().chain(&BOARDS) {
+        ["2 of begin", "3 of begin", "11 of begin", "4 of begin", "5 of begin", "8 of begin", "2 of step", "6 of step"];
+    for name in steps.iter().chain(&BOARDS).chain(&BEGINS) {
         assert!(tally.of(name) >= 10, "{name}");
     }
-    for refusal in refusals.iter().chain(&["2 of release", "7 of release"]) {
+    for name in TITLES {
+        assert!(tally.of(name) >= 5, "{name}");
+    }
+    for refusal in refusals.iter().chain(&["8 of step", "2 of release", "7 of release"]) {
         assert!(tally.of(&format!("refusal {refusal}")) >= 10, "{refusal}");
     }
     for name in ["the most readers holding at once", "the most writers holding at once"] {
         assert!(tally.most(name) >= 30, "{name}");
     }
     for (flaw, _) in FLAWS {
-        assert!(tally.of(&format!("script: {flaw}")) >= 3, "{flaw}");
+        assert!(tally.of(&format!("script: {flaw}")) >= 2, "{flaw}");
     }
+    assert_eq!(tally.of("refusal 11 of step"), 0);
     for line in ["bad 0", "bad 1", "bad 2", "bad, a later line"] {
         assert!(tally.of(line) >= 3, "{line}");
     }

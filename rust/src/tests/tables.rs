@@ -3,11 +3,12 @@
 
 use crate::machine::{begin, free_count, listed, run, step, Answer};
 use crate::random::Random;
-use crate::tables::{any_words, damaged, many_holders, miscounted, put_counts, sound_words, DAMAGES, MISCOUNTS};
+use crate::tables::{any_words, damaged, many_holders, miscounted, mistitled, put_counts, sound_words};
+use crate::tables::{DAMAGES, MISCOUNTS, MISTITLES};
 use crate::tally::Tally;
 use crate::tests::layout::{counts_kept, counts_over_seats, place, word, CUR, END, HEAD, KIND, MARK, NEXT, NODE_WORDS};
-use crate::tests::layout::{OWN, PHASE, PREV, SEAT_WORDS, START, WORDS_BEFORE_NODES};
-use crate::tests::{refused_by_every_call, BOARDS};
+use crate::tests::layout::{title_is_damage, OWN, PHASE, PREV, SEAT_WORDS, START, TITLE, WORDS_BEFORE_NODES};
+use crate::tests::{refused_by_every_call, BEGINS, BOARDS, LONGEST_TITLE, TITLES};
 
 fn node_count(nodes: &[u32]) -> usize {
     nodes.len().saturating_sub(WORDS_BEFORE_NODES) / NODE_WORDS
@@ -46,7 +47,10 @@ fn is_sound(nodes: &[u32], seats: &[u32]) -> bool {
                 && (![2, 4].contains(&phase) || seat[CUR] != 0)
         }
     });
-    if !nodes_fit || !seats_fit || !named(nodes[HEAD]) || counts_kept(nodes) != counts_over_seats(nodes, seats) {
+    if !nodes_fit || !seats_fit || !named(nodes[HEAD]) || title_is_damage(nodes) {
+        return false;
+    }
+    if counts_kept(nodes) != counts_over_seats(nodes, seats) {
         return false;
     }
     let mut met = nodes[HEAD];
@@ -161,6 +165,18 @@ fn each_wrong_count_alone_is_refused_and_nothing_changes() {
 }
 
 #[test]
+fn each_wrong_title_alone_is_refused_and_nothing_changes() {
+    let mut random = Random::new(15);
+    for mistitle in MISTITLES.iter().cycle().take(60 * MISTITLES.len()) {
+        let (mut nodes, seats) = mistitled(&mut random, mistitle);
+        assert!(title_is_damage(&nodes), "{}", mistitle.0);
+        refused_by_every_call(mistitle.0, &nodes, &seats);
+        nodes[TITLE] = LONGEST_TITLE;
+        assert!(is_sound(&nodes, &seats), "{}", mistitle.0);
+    }
+}
+
+#[test]
 fn the_tables_of_a_seed_are_what_their_names_say() {
     let mut random = Random::new(1);
     let mut tally = Tally::default();
@@ -173,9 +189,26 @@ fn the_tables_of_a_seed_are_what_their_names_say() {
     for (name, _) in MISCOUNTS {
         assert_eq!(tally.of(&format!("count, {name}: damaged by a count alone")), 50, "{name}");
     }
+    for (name, _) in MISTITLES {
+        assert_eq!(tally.of(&format!("title, {name}: damaged by its title alone")), 50, "{name}");
+    }
     assert_eq!([tally.of("sound words: sound"), tally.of("many holders: sound")], [500, 500]);
     for name in ["the most readers holding at once", "the most writers holding at once"] {
         assert!(tally.most(name) >= 20, "{name}");
+    }
+    let clears = [
+        "clear: lengths wrong, and count 0",
+        "clear: lengths wrong",
+        "clear: count 0",
+        "clear: the same title",
+        "clear: a title where there was none",
+        "clear: another title, which a claim there ends beyond",
+        "clear: another title on tables with claims",
+        "clear: another title on tables without claims",
+        "title that is the end of a node",
+    ];
+    for name in clears.iter().chain(&BEGINS).chain(&TITLES) {
+        assert!(tally.of(name) >= 10, "{name}");
     }
 }
 
@@ -185,7 +218,8 @@ fn fetch_and_free_count_are_what_the_rule_says() {
     let mut taken_out_first = 0;
     let mut refused = 0;
     for _ in 0..4_000 {
-        let (nodes, seats) = sound_words(&mut random);
+        let (mut nodes, seats) = sound_words(&mut random);
+        nodes[TITLE] = LONGEST_TITLE;
         assert_eq!(
             free_count(&nodes, &seats),
             Ok(free_nodes(&nodes, &seats, None).len() as u32),
