@@ -28,7 +28,7 @@ fn fill_with_zeros(table: &mut [u32])
     }
 }
 
-// 0, or the refusal; title is its frame count
+// 0, or the refusal; `title` is the title's frame count
 pub fn clear(nodes: &mut [u32], seats: &mut [u32], title: u32) -> u32
     ensures { λ r. ⌜ done r (tables (now (nodes .exit)) (now (seats .exit))) ≡ call.clear (tables (now (nodes .entry)) (now (seats .entry))) title ⌝ }
 {

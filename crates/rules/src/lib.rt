@@ -34,13 +34,13 @@ pub struct Found {
     pub next: usize,
 }
 
-// A line and the place after it, or 0 where the line is wrong.
+// A line and the place after it, or one past the end of the script where the line is wrong.
 pub struct Body {
     pub line: Line,
     pub next: usize,
 }
 
-// The numbers of line 1 and the place after it, or 0 where the line is wrong.
+// The numbers of line 1 and the place after it, or one past the end of the script where the line is wrong.
 pub struct Contents {
     pub n: u32,
     pub s: u32,

@@ -113,6 +113,7 @@ fn a_writer_that_meets_a_reader_goes_back() {
     tables.begin(3, 15..20, Kind::Writes).unwrap();
     tables.run(&[3, 3, 2, 2, 3, 2, 2, 3], 9);
     assert_eq!((tables.step(3), holding(&tables)), (Ok(Answer::Back), [2, 0]));
+    assert_eq!(tables.step(3), Ok(Answer::On), "it takes a node anew, though its claim ends at the title");
 }
 
 #[test]

@@ -47,17 +47,3 @@ fn the_whole_title_may_be_covered_and_no_more() {
     }
     assert_eq!(tables.board().unwrap().covered, u64::from(tables.title()));
 }
-
-/// A writer that goes back takes a node anew, though its claim ends at the title.
-#[test]
-fn a_step_takes_a_node_for_a_claim_up_to_the_title() {
-    let mut tables = Tables::new(8, 4, 20).unwrap();
-    tables.begin(0, 1..10, Kind::Reads).unwrap();
-    tables.run(&[0; 2], 9);
-    tables.begin(1, 12..14, Kind::Reads).unwrap();
-    tables.run(&[1; 3], 9);
-    tables.begin(2, 5..20, Kind::Reads).unwrap();
-    tables.begin(3, 15..20, Kind::Writes).unwrap();
-    tables.run(&[3, 3, 2, 2, 3, 2, 2, 3], 9);
-    assert_eq!([(); 2].map(|()| tables.step(3)), [Ok(Answer::Back), Ok(Answer::On)]);
-}
