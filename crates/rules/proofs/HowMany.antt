@@ -45,11 +45,11 @@ at-most-64 = laws.at-most-64
 
 -- ---- who keeps them so
 -- "Clear ..": it makes both 0, and nobody holds
-pub cleared : (t : Tables) (title : ℕ) → clear t title .answer ≡ 0 → (readers (clear t title .after) ≡ 0) × (writers (clear t title .after) ≡ 0)
+pub cleared : (t : Tables) (count : ℕ) → clear t count .answer ≡ 0 → (readers (clear t count .after) ≡ 0) × (writers (clear t count .after) ≡ 0)
 cleared = frames.clear-words
 
-pub cleared-right : (t : Tables) (title : ℕ) → clear t title .answer ≡ 0 → CountsRight (clear t title .after)
-cleared-right t title e = laws.as-right (frames.clear-counts t title e)
+pub cleared-right : (t : Tables) (count : ℕ) → clear t count .answer ≡ 0 → CountsRight (clear t count .after)
+cleared-right t count e = laws.as-right (frames.clear-counts t count e)
 
 -- ".. step and release keep them", and begin: one that is accepted leaves them right, whatever sound tables it finds; one that is refused leaves
 -- them as found

@@ -60,7 +60,7 @@ pub data Refuses (t : Tables) : Call → ℕ → Type 0 where
 -- ---- clear, given the title's frame count: "1: .. for clear: only lengths wrong", then "clear with count 0 is refused 3"
 pub data ClearRefuses (t : Tables) (frames : ℕ) : ℕ → Type 0 where
   lengths-wrong : lengthsFit t ≡ false → ClearRefuses t frames 1
-  no-frames-at-all : lengthsFit t ≡ true → frames ≡ 0 → ClearRefuses t frames 3
+  title-of-none : lengthsFit t ≡ true → frames ≡ 0 → ClearRefuses t frames 3
 
 -- ---- run as a whole and free count: "1: tables damaged"
 pub data DamageRefuses (t : Tables) : ℕ → Type 0 where

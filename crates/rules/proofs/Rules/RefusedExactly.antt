@@ -19,7 +19,7 @@ use Rattle.rules.specs.FreeCount.{Counted, freeCount}
 use Rattle.rules.specs.Board.{Boarded, Shown, shown, holders, board, rowWidth, boardNumbers}
 use Rattle.rules.specs.Run.{refusalOf}
 use Rattle.rules.specs.Play.{Call, beginCall, stepCall, releaseCall, call, seatOf}
-use Rattle.rules.specs.Refusing.{HasSeat, Proper, WithinTitle, NoNodeFree, Refuses, damaged, no-seat, no-frames, beyond-title, no-kind, not-idle, idle, not-holding, none-to-begin, none-again, ClearRefuses, lengths-wrong, no-frames-at-all, DamageRefuses, tables-damaged, BoardRefuses, board-damaged, too-few-rows}
+use Rattle.rules.specs.Refusing.{HasSeat, Proper, WithinTitle, NoNodeFree, Refuses, damaged, no-seat, no-frames, beyond-title, no-kind, not-idle, idle, not-holding, none-to-begin, none-again, ClearRefuses, lengths-wrong, title-of-none, DamageRefuses, tables-damaged, BoardRefuses, board-damaged, too-few-rows}
 use Rattle.rules.specs.declared.Row.{Row}
 use Rattle.rules.proofs.Ground.Logic.{branch, not-true, neither, or-left, or-right}
 use Rattle.rules.proofs.Laws.Answers.{refused-as, answers-no-refusal}
@@ -137,13 +137,13 @@ clear-by-table t frames k =
     branch (λ (d : Done ℕ). d .answer ≡ k → k ≢ 0 → ClearRefuses t frames k) (not (lengthsFit t))
     (λ e q z. subst (ClearRefuses t frames) q (lengths-wrong (not-true (lengthsFit t) e)))
     (λ e. branch (λ (d : Done ℕ). d .answer ≡ k → k ≢ 0 → ClearRefuses t frames k) (frames is 0)
-    (λ f q z. subst (ClearRefuses t frames) q (no-frames-at-all (not-false (lengthsFit t) e) (eqb-true frames 0 f)))
+    (λ f q z. subst (ClearRefuses t frames) q (title-of-none (not-false (lengthsFit t) e) (eqb-true frames 0 f)))
     (λ f q z. absurd (z (sym q))))
 
 pub clear-refused : (t : Tables) (frames k : ℕ) → ClearRefuses t frames k → clear t frames ≡ done k t
 unfolding clear
 clear-refused t frames k (lengths-wrong e) = rw e
-clear-refused t frames k (no-frames-at-all e z) = rw (e, eq-eqb frames 0 z)
+clear-refused t frames k (title-of-none e z) = rw (e, eq-eqb frames 0 z)
 
 -- what is accepted makes the tables fresh, of a title with some frames
 pub record ClearAccepted (t : Tables) (frames : ℕ) (u : Tables) : Type 0 where
