@@ -17,7 +17,7 @@ use Rattle.rules.specs.Refusing.{Refuses, ClearRefuses, DamageRefuses, B
 use Rattle.rules.specs.declared.Row.{Row}
 use Rattle.rules.proofs.Laws.RunSteps.{damaged-run-refused}
 use Rattle.rules.proofs.Laws.ScriptRefused.{script-by-table, script-refused}
-use Rattle.rules.proofs.Rules.Accepting.{refuses-some}
+use Rattle.rules.proofs.Rules.Accepting.{refusal-tells}
 use Rattle.rules.proofs.Rules.RefusedExactly as exact
 
 -- ---- begin, step and release are refused only as the table says
@@ -33,7 +33,7 @@ refused-changes-nothing t c k q = ap (λ (d : Done Answer). d .after) (refused-t
 
 -- a refusal always has a number, so that 0 is never one: "the refusal met or 0" of a run tells which
 pub refused-by-number : (t : Tables) (c : Call) (k : ℕ) → call t c .answer ≡ refused k → k ≢ 0
-refused-by-number t c k q = refuses-some (refused-only t c k q)
+refused-by-number t c k q = refusal-tells (refused-only t c k q) .not-0
 
 -- ---- clear: what is not 0 is its refusal
 pub clear-only : (t : Tables) (frames k : ℕ) → clear t frames .answer ≡ k → k ≢ 0 → ClearRefuses t frames k

@@ -15,15 +15,15 @@ use Rattle.rules.specs.Steps.{kindOf, refetched}
 use Rattle.rules.specs.Calls.{clear, begun, begin}
 use Rattle.rules.specs.Play.{Call, beginCall, stepCall, releaseCall, call}
 use Rattle.rules.specs.Reached.{Request, afterRequests, Reached}
-use Rattle.rules.specs.Refusing.{WithinTitle, Refuses, damaged, no-seat, no-frames, beyond-title, no-kind, not-idle, idle, not-holding, none-to-begin, none-again}
+use Rattle.rules.specs.Refusing.{WithinTitle, damaged}
 use Rattle.rules.specs.Apart.{NodesKept, NoNode}
-use Rattle.rules.specs.Title.{AllWithin, BeginsBeyond, begins-beyond}
+use Rattle.rules.specs.Title.{AllWithin, BeginsBeyond}
 use Rattle.rules.proofs.Ground.Logic.{branch, not-of}
 use Rattle.rules.proofs.Laws.Words.{node-put-field, node-put-link, node-put-at-most, count-not-title, fresh-title, fresh-node-word}
 use Rattle.rules.proofs.Laws.Shape.{is-sound}
 use Rattle.rules.proofs.Laws.RunSteps.{requests-keep, reached-has}
 use Rattle.rules.proofs.Rules.Reasons.{Fetching, found, found-then, none, Stepping, in-1, in-2, in-3, in-4, in-6, at-rest}
-use Rattle.rules.proofs.Rules.Accepting.{Beginning, begin-refused, begin-accepted, beginning, Stepped, step-refused, step-accepted, stepped, Releasing, release-refused, release-accepted, releasing}
+use Rattle.rules.proofs.Rules.Accepting.{refusal-tells, Beginning, begin-refused, begin-accepted, beginning, Stepped, step-refused, step-accepted, stepped, Releasing, release-refused, release-accepted, releasing}
 use Rattle.rules.proofs.Rules.RefusedExactly.{call-by-table, table-refused, clear-accepted}
 use Rattle.rules.proofs.Frames.NodeFrames.{walking, waking, validating, leaving, fetching, taking, taking-out}
 
@@ -137,20 +137,8 @@ begun-within (begin-accepted e h p i z w) q = i
 pub node-within : (t : Tables) (s n : ℕ) (c : Claim) → begin t s c .answer ≡ node n → WithinTitle t c
 node-within t s n c = begun-within (beginning t s c)
 
-is-beyond : {t : Tables} {c : Call} {k : ℕ} → Refuses t c k → k ≡ 11 → BeginsBeyond t c
-is-beyond (damaged e) q = absurd (omega arith)
-is-beyond (no-seat e h) q = absurd (omega arith)
-is-beyond (no-frames w h) q = absurd (omega arith)
-is-beyond (beyond-title w h b) q = begins-beyond b
-is-beyond (no-kind w h i k k′) q = absurd (omega arith)
-is-beyond (not-idle w p i d) q = absurd (omega arith)
-is-beyond (idle w e) q = absurd (omega arith)
-is-beyond (not-holding w d) q = absurd (omega arith)
-is-beyond (none-to-begin w p i e n) q = absurd (omega arith)
-is-beyond (none-again w e n) q = absurd (omega arith)
-
 pub refused-11 : (t : Tables) (c : Call) → call t c .answer ≡ refused 11 → BeginsBeyond t c
-refused-11 t c q = is-beyond (call-by-table t c 11 q) refl
+refused-11 t c q = refusal-tells (call-by-table t c 11 q) .if-11 refl
 
 -- ---- damage
 pub beyond-damaged : (t : Tables) → (AllWithin t → ⊥) → sound t ≡ false

@@ -17,32 +17,29 @@ use Rattle.rules.specs.Play.{Call, beginCall, stepCall, releaseCall}
 use Rattle.rules.proofs.Ground.Logic.{branch, not-true, or-neither}
 use Rattle.rules.proofs.Laws.Shape.{is-kind}
 use Rattle.rules.specs.Refusing.{HasSeat, Proper, WithinTitle, Refuses, damaged, no-seat, no-frames, beyond-title, no-kind, not-idle, idle, not-holding, none-to-begin, none-again}
+use Rattle.rules.specs.Title.{BeginsBeyond, begins-beyond}
 use Rattle.rules.proofs.Rules.Reasons.{Fetching, fetching, Stepping, steps}
 
--- a refusal has a number other than 0, which is 1 only for damaged tables
-pub refuses-some : {t : Tables} {c : Call} {number : ℕ} → Refuses t c number → number ≢ 0
-refuses-some (damaged e) = omega arith
-refuses-some (no-seat e h) = omega arith
-refuses-some (no-frames w h) = omega arith
-refuses-some (beyond-title w h b) = omega arith
-refuses-some (no-kind w h i k k′) = omega arith
-refuses-some (not-idle w p i d) = omega arith
-refuses-some (idle w e) = omega arith
-refuses-some (not-holding w d) = omega arith
-refuses-some (none-to-begin w p i e n) = omega arith
-refuses-some (none-again w e n) = omega arith
+-- what a refusal's number tells: it is never 0, 1 only for damaged tables, and 11 only of a begin that ends beyond the title
+pub record Tells (t : Tables) (c : Call) (number : ℕ) : Type 0 where
+  pub not-0 : number ≢ 0
+  pub if-1 : number ≡ 1 → sound t ≡ false
+  pub if-11 : number ≡ 11 → BeginsBeyond t c
 
-pub refuses-1 : {t : Tables} {c : Call} {number : ℕ} → Refuses t c number → number ≡ 1 → sound t ≡ false
-refuses-1 (damaged e) q = e
-refuses-1 (no-seat e h) q = absurd (omega arith)
-refuses-1 (no-frames w h) q = absurd (omega arith)
-refuses-1 (beyond-title w h b) q = absurd (omega arith)
-refuses-1 (no-kind w h i k k′) q = absurd (omega arith)
-refuses-1 (not-idle w p i d) q = absurd (omega arith)
-refuses-1 (idle w e) q = absurd (omega arith)
-refuses-1 (not-holding w d) q = absurd (omega arith)
-refuses-1 (none-to-begin w p i e n) q = absurd (omega arith)
-refuses-1 (none-again w e n) q = absurd (omega arith)
+neither-1-nor-11 : {t : Tables} {c : Call} {number : ℕ} → number ≢ 0 → number ≢ 1 → number ≢ 11 → Tells t c number
+neither-1-nor-11 x y z = record { not-0 = x; if-1 = λ q. absurd (y q); if-11 = λ q. absurd (z q) }
+
+pub refusal-tells : {t : Tables} {c : Call} {number : ℕ} → Refuses t c number → Tells t c number
+refusal-tells (damaged e) = record { not-0 = omega arith; if-1 = λ q. e; if-11 = λ q. absurd (omega arith) }
+refusal-tells (no-seat e h) = neither-1-nor-11 (omega arith) (omega arith) (omega arith)
+refusal-tells (no-frames w h) = neither-1-nor-11 (omega arith) (omega arith) (omega arith)
+refusal-tells (beyond-title w h b) = record { not-0 = omega arith; if-1 = λ q. absurd (omega arith); if-11 = λ q. begins-beyond b }
+refusal-tells (no-kind w h i k k′) = neither-1-nor-11 (omega arith) (omega arith) (omega arith)
+refusal-tells (not-idle w p i d) = neither-1-nor-11 (omega arith) (omega arith) (omega arith)
+refusal-tells (idle w e) = neither-1-nor-11 (omega arith) (omega arith) (omega arith)
+refusal-tells (not-holding w d) = neither-1-nor-11 (omega arith) (omega arith) (omega arith)
+refusal-tells (none-to-begin w p i e n) = neither-1-nor-11 (omega arith) (omega arith) (omega arith)
+refusal-tells (none-again w e n) = neither-1-nor-11 (omega arith) (omega arith) (omega arith)
 
 no-such-kind : (k : ℕ) → not (isKind k) ≡ true → (k ≢ 1) × (k ≢ 2)
 unfolding isKind

@@ -22,7 +22,7 @@ use Rattle.rules.proofs.Ground.Logic.{branch, clash}
 use Rattle.rules.proofs.Laws.Answers.{refused-as, answer-accepts}
 use Rattle.rules.proofs.Rules.Reasons.{Stepping, in-1, in-2, in-3, in-4, in-6, at-rest}
 use Rattle.rules.proofs.Soundness.SoundReached.{reached-sound}
-use Rattle.rules.proofs.Rules.Accepting.{refuses-1, Beginning, begin-refused, begin-accepted, beginning, Stepped, step-refused, step-accepted, stepped, Releasing, release-refused, release-accepted, releasing}
+use Rattle.rules.proofs.Rules.Accepting.{refusal-tells, Beginning, begin-refused, begin-accepted, beginning, Stepped, step-refused, step-accepted, stepped, Releasing, release-refused, release-accepted, releasing}
 
 -- the refusals of an accepted begin and an accepted step: none, or 8
 pub data NoneOr8 (a : Answer) : Type 0 where
@@ -52,7 +52,7 @@ none-or-8-not-1 (refusal-8 e) q = let z = ap refusalOf (sym e ∙ q) in omega ar
 
 module _ (t : Tables) (e : sound t ≡ true) (s : ℕ) where
   refused-not-1 : {c : Call} {number : ℕ} → Refuses t c number → refused number ≢ refused 1
-  refused-not-1 r q = clash (sound t) e (refuses-1 r (ap refusalOf q))
+  refused-not-1 r q = clash (sound t) e (refusal-tells r .if-1 (ap refusalOf q))
 
   begin-not-1 : {c : Claim} {d : Done Answer} → Beginning t s c d → d .answer ≢ refused 1
   begin-not-1 (begin-refused k r) = refused-not-1 r
