@@ -76,6 +76,7 @@ fn begin_claim(
     requires { ⌜ sound (tables (now nodes) (now seats)) ≡ true ⌝ }
     ensures { λ r. ⌜ done (means r) (tables (now (nodes .exit)) (now (seats .exit))) ≡ part.beginClaim (tables (now (nodes .entry)) (now (seats .entry))) s (claim start end kind) ⌝ }
 {
+    // 3, then 11, then 4: what they look at is read first, so that each is one test, and their order is that of the lines
     let title = words::title(nodes);
     let known = shape::is_kind(kind);
     if end <= start {

@@ -168,12 +168,12 @@ unfolding rules
 known-at-once = (refl, refl, refl, refl, refl)
 
 -- ---- 02 (iii): a title of 20 frames, one node. A claim that meets two refusals at once is told the one that stands first, 2, 3, 11, 4, 5, 8, for each
--- neighbouring pair and across; one that ends at the title is taken
+-- neighbouring pair and across; one that ends at the title is taken. In the second part seat 0 holds the one node, so that it is free for nobody
 abbrev pub BeyondTitle : Type 0
 BeyondTitle =
     (answers (fresh 1 2 20) (b 2 10 10 2 ∷ b 0 21 21 2 ∷ b 0 20 10 9 ∷ b 0 10 21 9 ∷ b 0 10 20 9 ∷ b 0 10 21 1 ∷ b 0 10 20 2 ∷ [])
     ≡ refused 2 ∷ refused 3 ∷ refused 3 ∷ refused 11 ∷ refused 4 ∷ refused 11 ∷ node 1 ∷ [])
-    × (answers (afterAll (fresh 1 2 20) (b 0 10 20 2 ∷ [])) (b 0 20 20 2 ∷ b 0 0 21 2 ∷ b 0 0 20 9 ∷ b 0 0 20 2 ∷ b 1 0 21 2 ∷ b 1 0 20 2 ∷ [])
+    × (answers (afterAll (fresh 1 2 20) (b 0 10 20 2 ∷ s 0 ∷ s 0 ∷ [])) (b 0 20 20 2 ∷ b 0 0 21 2 ∷ b 0 0 20 9 ∷ b 0 0 20 2 ∷ b 1 0 21 2 ∷ b 1 0 20 2 ∷ [])
     ≡ refused 3 ∷ refused 11 ∷ refused 4 ∷ refused 5 ∷ refused 11 ∷ refused 8 ∷ [])
 
 -- a title of one frame, played; a title of none, and none at all

@@ -6,8 +6,6 @@ use mathlib.Core.Path.{_≡_, _∙_}
 use mathlib.Core.Bool.{true, false}
 use mathlib.Core.List.{List}
 use mathlib.Core.Logic.{_≢_}
-use native.Mathlib.Nat.{div-le-of-le-mul, mul-div-cancel}
-use native.Mathlib.Omega.{arith}
 use Rattle.rules.specs.Tables.{Tables, title, fresh}
 use Rattle.rules.specs.Comparison.{Claim}
 use Rattle.rules.specs.Shape.{sound}
@@ -25,7 +23,7 @@ use Rattle.rules.proofs.Laws.Shape.{is-sound}
 use Rattle.rules.proofs.Rules.RefusedExactly.{clear-accepted}
 use Rattle.rules.proofs.Frames.TitleFrames as frames
 use Rattle.rules.proofs.Soundness.SoundReached.{reached-sound}
-use Rattle.rules.proofs.Holding.CoveredOnce.{ends-in-title}
+use Rattle.rules.proofs.Holding.CoveredOnce.{ends-in-title, per-cent-small, per-cent-whole}
 use Rattle.rules.proofs.Covered as covered
 
 -- ---- "Clear takes the title's frame count .. and the table remembers it": one of some frames
@@ -92,7 +90,7 @@ always-covered-within {t = t} r = covered-within t (reached-sound r)
 
 -- and their per cent at most 100
 pub at-most-100 : (t : Tables) → sound t ≡ true → perCent (coveredBy (holders t)) (title t) ≤ 100
-at-most-100 t e = div-le-of-le-mul (title t) (let h = covered-within t e in omega arith)
+at-most-100 t e = per-cent-small (coveredBy (holders t)) (title t) (covered-within t e)
 
 pub always-at-most-100 : {N S : ℕ} {t : Tables} → Reached N S t → perCent (coveredBy (holders t)) (title t) ≤ 100
 always-at-most-100 {t = t} r = at-most-100 t (reached-sound r)
@@ -103,4 +101,4 @@ whole t e all = covered.whole-title t (title t) all (ends-in-title t (within-if-
 
 pub whole-is-100 : (t : Tables) → sound t ≡ true → ((frame : ℕ) → frame < title t → (s : ℕ) × HolderCovers t s frame)
     → perCent (coveredBy (holders t)) (title t) ≡ 100
-whole-is-100 t e all = rw (whole t e all) (mul-div-cancel 100 (within-if-sound t e .some))
+whole-is-100 t e all = rw (whole t e all) (per-cent-whole (title t) (within-if-sound t e .some))

@@ -24,7 +24,7 @@ use Rattle.rules.proofs.Laws.Shape.{is-sound}
 use Rattle.rules.proofs.Laws.RunSteps.{requests-keep, reached-has}
 use Rattle.rules.proofs.Rules.Reasons.{Fetching, found, found-then, none, Stepping, in-1, in-2, in-3, in-4, in-6, at-rest}
 use Rattle.rules.proofs.Rules.Accepting.{refusal-tells, Beginning, begin-refused, begin-accepted, beginning, Stepped, step-refused, step-accepted, stepped, Releasing, release-refused, release-accepted, releasing}
-use Rattle.rules.proofs.Rules.RefusedExactly.{call-by-table, table-refused, clear-accepted}
+use Rattle.rules.proofs.Rules.RefusedExactly.{not-refused, call-by-table, table-refused, clear-accepted}
 use Rattle.rules.proofs.Frames.NodeFrames.{walking, waking, validating, leaving, fetching, taking, taking-out}
 
 -- from t to u the title stays, and so does that all claims are within it
@@ -131,7 +131,7 @@ all-kept t requests = requests-keep AllWithin within-kept requests t
 
 -- ---- a claim is begun only within the title, and nothing but a begin is refused for ending beyond it
 begun-within : {t : Tables} {s n : ℕ} {c : Claim} {d : Done Answer} → Beginning t s c d → d .answer ≡ node n → WithinTitle t c
-begun-within (begin-refused k x) q = let z : _≡_ {A = ℕ} 0 1 = cc in absurd (omega arith)
+begun-within (begin-refused k x) q = not-refused (sym q)
 begun-within (begin-accepted e h p i z w) q = i
 
 pub node-within : (t : Tables) (s n : ℕ) (c : Claim) → begin t s c .answer ≡ node n → WithinTitle t c

@@ -1,15 +1,16 @@
--- Why covered frames fit 32 bits where the tables' words do, why holders stay before the title's end, and why no two of them share a frame where
--- all of them write.
+-- Why covered frames fit 32 bits where the tables' words do, why holders stay before the title's end and what that is in per cent, and why no two
+-- of them share a frame where all of them write.
 use Prim.Native.Nat.{ℕ, zero, suc, _≤_, _<_}
 use mathlib.Core.Path.{_≡_}
 use mathlib.Core.List.{List}
 use mathlib.Core.Logic.{_≢_}
+use native.Mathlib.Nat.{div-le-of-le-mul, mul-div-cancel}
 use native.Mathlib.Omega.{arith}
 use Rattle.rules.specs.Tables.{Tables, nodeWord, title, own, endAt}
 use Rattle.rules.specs.Reached.{Reached}
 use Rattle.rules.specs.Apart.{claimOfSeat, Holds}
 use Rattle.rules.specs.Covered.{HolderCovers, In32Bits}
-use Rattle.rules.specs.Title.{AllWithin}
+use Rattle.rules.specs.Title.{AllWithin, perCent}
 use Rattle.rules.proofs.Keeping.CallKeeps.{good}
 use Rattle.rules.proofs.Holding.Exclusion.{both-read}
 
@@ -29,6 +30,12 @@ ends-in-title t w s frame h =
     let e = w .within (own t s) in
     let c = h .2 .1 in
     omega arith
+
+pub per-cent-small : (covered frames : ℕ) → covered ≤ frames → perCent covered frames ≤ 100
+per-cent-small covered frames h = div-le-of-le-mul frames (omega arith)
+
+pub per-cent-whole : (frames : ℕ) → 1 ≤ frames → perCent frames frames ≡ 100
+per-cent-whole frames h = mul-div-cancel 100 h
 
 pub writers-apart : {N S : ℕ} {t : Tables} → Reached N S t → ((s : ℕ) → Holds t s → claimOfSeat t s .kind ≡ 2)
     → (i j frame : ℕ) → i ≢ j → HolderCovers t i frame → HolderCovers t j frame → ⊥

@@ -30,7 +30,7 @@ use Rattle.rules.proofs.Rules.Accepting.{Beginning, begin-refused, begi
 same-number : {t : Tables} {c : Call} {j k : ℕ} → Refuses t c j → refused j ≡ refused k → Refuses t c k
 same-number {t} {c} r q = subst (Refuses t c) (ap refusalOf q) r
 
-not-refused : {A : Type 0} {n k : ℕ} → node n ≡ refused k → A
+pub not-refused : {A : Type 0} {n k : ℕ} → node n ≡ refused k → A
 not-refused q = let z : _≡_ {A = ℕ} 0 1 = cc in absurd (omega arith)
 
 module _ (t : Tables) (s k : ℕ) (has : HasSeat t s) where
