@@ -7,6 +7,9 @@ pub mod Shape
 pub mod Counts
 pub mod NodesAlone
 pub mod Listed
+pub mod Kept
+pub mod Stores
+pub mod StoreCounts
 pub mod Free
 pub mod Compared
 pub mod Answers

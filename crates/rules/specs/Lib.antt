@@ -20,3 +20,4 @@ pub mod Cause
 pub mod Covered
 pub mod HowMany
 pub mod Title
+pub mod Stores

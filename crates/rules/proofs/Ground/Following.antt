@@ -162,18 +162,21 @@ module _ (link new : ℕ → ℕ) (prev out : ℕ) (out-pos : 0 < out) (joined :
       if-same 0 prev (λ e. rw (ap link e ∙ joined) (there out-pos (rw (e, new-prev) at q))) (λ e. rw (old 0 e) at q)
 
 -- ---- the link of one node changes: walks that do not come to it are the same
-module _ (link new : ℕ → ℕ) (own : ℕ) (own-pos : 0 < own) (old : (a : ℕ) → a ≢ own → new a ≡ link a) where
+module _ (link new : ℕ → ℕ) (own : ℕ) (old : (a : ℕ) → a ≢ own → new a ≡ link a) where
+  not-it : {a : ℕ} → 0 < a → (Reach link own a → ⊥) → a ≢ own
+  not-it h f e = f (rw (← e) (here h))
+
   pub away-keeps-reach : {b a : ℕ} → (Reach link own a → ⊥) → Reach link b a → Reach new b a
   away-keeps-reach f (here h) = here h
-  away-keeps-reach f (there {a = a} h r) = there h (rw (old a (λ e. f (rw e (here own-pos)))) (away-keeps-reach (λ q. f (there h q)) r))
+  away-keeps-reach f (there {a = a} h r) = there h (rw (old a (not-it h f)) (away-keeps-reach (λ q. f (there h q)) r))
 
   pub away-adds-none : {b a : ℕ} → (Reach link own a → ⊥) → Reach new b a → Reach link b a
   away-adds-none f (here h) = here h
   away-adds-none f (there {a = a} h r) =
-      let k : new a ≡ link a = old a (λ e. f (rw e (here own-pos))) in
+      let k : new a ≡ link a = old a (not-it h f) in
       there h (rw k at (away-adds-none (rw k (λ q. f (there h q))) r))
 
   pub away-keeps-ends : {a k : ℕ} → (Reach link own a → ⊥) → Ends link a k → Ends new a k
   away-keeps-ends f stop = stop
   away-keeps-ends f (more {a = a} {n = k} h e) =
-      more {n = k} h (rw (old a (λ q. f (rw q (here own-pos)))) (away-keeps-ends (λ q. f (there h q)) e))
+      more {n = k} h (rw (old a (not-it h f)) (away-keeps-ends (λ q. f (there h q)) e))

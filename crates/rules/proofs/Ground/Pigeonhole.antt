@@ -10,7 +10,7 @@ use Rattle.rules.proofs.Ground.Following.{Ends, stop, more, no-circle}
 use Rattle.rules.specs.Reach.{Reach, here, there}
 
 -- x is not in the list
-data Off (x : ℕ) : List ℕ → Type 0 where
+pub data Off (x : ℕ) : List ℕ → Type 0 where
   off-none : Off x []
   off-more : {y : ℕ} {l : List ℕ} → x ≢ y → Off x l → Off x (y ∷ l)
 

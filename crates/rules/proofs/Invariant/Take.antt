@@ -84,10 +84,10 @@ module _ {N : ℕ} {n n′ : Nodes} {s u : Seats} {i o C : ℕ} (v : Invariant N
   away-not-o c e = c (rw e (here (f .is-node)))
 
   keeps : {b a : ℕ} → Away a → Reach (n .link) b a → Reach (n′ .link) b a
-  keeps c r = away-keeps-reach (n .link) (n′ .link) o (f .is-node) (w .link-a) c r
+  keeps c r = away-keeps-reach (n .link) (n′ .link) o (w .link-a) c r
 
   adds-none : {b a : ℕ} → Away a → Reach (n′ .link) b a → Reach (n .link) b a
-  adds-none c r = away-adds-none (n .link) (n′ .link) o (f .is-node) (w .link-a) c r
+  adds-none c r = away-adds-none (n .link) (n′ .link) o (w .link-a) c r
 
   head-same : n′ .link 0 ≡ n .link 0
   head-same = w .link-a 0 (omega (arith, f .is-node))
@@ -175,7 +175,7 @@ module _ {N : ℕ} {n n′ : Nodes} {s u : Seats} {i o C : ℕ} (v : Invariant N
     seen-listed = λ z e. let q = seen-was z in on-list-keeps (v .seen-listed (q .0) (rw (w .mark-a _ (away-not-o (q .1))) at e));
     ordered = λ z. let q = seen-was z in ordered (q .0) (q .1);
     ends = λ z. let q = seen-was z in
-        let e = v .ends (q .0) in (e .0, away-keeps-ends (n .link) (n′ .link) o (f .is-node) (w .link-a) (q .1) (e .1));
+        let e = v .ends (q .0) in (e .0, away-keeps-ends (n .link) (n′ .link) o (w .link-a) (q .1) (e .1));
     passed = λ j x p. if-same j i
         (λ e. absurd (let q : u .prev j ≡ 0 = ap (u .prev) e ∙ m .prev-i in omega arith))
         (λ d. rw (m .own-j j d, m .prev-j j d)

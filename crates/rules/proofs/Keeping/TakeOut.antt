@@ -7,11 +7,11 @@ use native.Mathlib.Omega.{arith}
 use lib.ListN.{length}
 use borrow.Author.Tests.{eqb-true, eqb-false}
 use Rattle.rules.specs.Notation.{_is_}
-use Rattle.rules.specs.Tables.{Tables, tables, beforeNodes, nodeWidth, nodeCount, markAt, putLink, mark, marked, link, next, head, setLink}
+use Rattle.rules.specs.Tables.{Tables, tables, beforeNodes, nodeWidth, nodeCount, mark, marked, link, next, head, setLink}
 use Rattle.rules.specs.Fetch.{keptFrom, kept, linkThrough, takenOut}
 use Rattle.rules.proofs.Ground.Logic.{branch}
-use Rattle.rules.proofs.Ground.Deciding.{if-true}
-use Rattle.rules.proofs.Laws.Words.{link-put-same, link-put-other, node-put-link, node-count, put-link-self, put-link-twice}
+use Rattle.rules.proofs.Laws.Words.{link-put-same, link-put-other, node-count, same-link, put-link-twice}
+use Rattle.rules.proofs.Laws.Kept.{kept-away}
 use Rattle.rules.proofs.Ground.Following.{reach-target, reach-next, Ends, stop, more, ends-tail, no-circle, unlink-keeps-ends}
 use Rattle.rules.specs.Reach.{Reach, here, there}
 use Rattle.rules.proofs.Ground.Pigeonhole.{short}
@@ -20,18 +20,6 @@ use Rattle.rules.proofs.Invariant.Clauses.{OnList, from-head, Owner}
 use Rattle.rules.proofs.Invariant.Known.{Known, known-head, known-ends, named-in}
 use Rattle.rules.proofs.Keeping.Aside.{node-room}
 use Rattle.rules.proofs.Keeping.Good.{Good, passes-over}
-
--- ---- what a store to a link that is not ahead leaves of the kept nodes
-module _ (t : Tables) (p v : ℕ) where
-  kept-away : (h a : ℕ) → (Reach (link t) p a → ⊥) → keptFrom h (setLink t p v) a ≡ keptFrom h t a
-  unfolding keptFrom
-  kept-away zero a f = refl
-  kept-away (suc h) a f =
-      if-true (a is 0)
-      (λ z. rw z)
-      (λ z. let pos : 0 < a = let y = eqb-false a 0 z in omega arith in
-      let d : p ≢ a = λ e. f (rw (← e) (here (rw (← e) at pos))) in
-      rw (z, link-put-other (t .nodes) p a v d, node-put-link (t .nodes) p a markAt v (omega arith) (omega arith), kept-away h (next t a) (λ r. f (there pos r))))
 
 -- ---- prev is the head, or a standing claim
 abbrev Firm : Tables → ℕ → Type 0
@@ -62,10 +50,6 @@ through-again : (ks : List ℕ) (t : Tables) (p v : ℕ) → linkThrough (setLin
 unfolding linkThrough
 through-again [] t p v = ap (λ l. tables l (t .seats)) (put-link-twice (t .nodes) p v 0)
 through-again (a ∷ ks) t p v = ap (λ l. linkThrough (tables l (t .seats)) a ks) (put-link-twice (t .nodes) p v a)
-
--- what is stored is there already
-same-link : (t : Tables) (p v : ℕ) → link t p ≡ v → setLink t p v ≡ t
-same-link t p v e = ap (λ l. tables l (t .seats)) (ap (putLink (t .nodes) p) (sym e) ∙ put-link-self (t .nodes) p)
 
 through-kept : (t : Tables) (p c : ℕ) (ks : List ℕ) → link t p ≡ c → linkThrough t p (c ∷ ks) ≡ linkThrough t c ks
 unfolding linkThrough

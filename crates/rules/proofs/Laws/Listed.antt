@@ -1,5 +1,5 @@
--- The test `met` against following links: what is met is reached and, where no link leads past N and the hops are N, the other way round,
--- also if the walk goes round in a circle.
+-- The tests `met` and `endsWithin` against following links. What is met is reached and, where no link leads past N and the hops are N, the other
+-- way round, also if the walk goes round in a circle. A walk ends within so many hops if it passes at most as many nodes.
 use Prim.Native.Nat.{ℕ, zero, suc, _≤_, _<_}
 use mathlib.Core.Path.{_≡_, refl}
 use mathlib.Core.Bool.{true, false, not, _||_}
@@ -8,6 +8,7 @@ use native.Mathlib.Omega.{arith}
 use borrow.Author.Tests.{eqb-true, eqb-false, eq-eqb, ne-eqb}
 use Rattle.rules.specs.Notation.{if_then_else_, _is_}
 use Rattle.rules.specs.Tables.{Tables, link, next}
+use Rattle.rules.specs.Shape.{endsWithin}
 use Rattle.rules.specs.Reach.{met, Reach, here, there}
 use Rattle.rules.proofs.Ground.Logic.{branch, both, and-both, or-case, or-left, or-right, not-true, of-not, clash}
 use Rattle.rules.proofs.Ground.Following.{not-from-0, beyond, Ends, stop, more}
@@ -65,3 +66,22 @@ module _ (t : Tables) (x : ℕ) where
   -- where no link leads past N, N hops are enough
   pub reach-met : (N : ℕ) → ((b : ℕ) → link t b ≤ N) → {a : ℕ} → a ≤ N → Reach (link t) x a → met N t a x ≡ true
   reach-met N small l r = let q = cut-ends (link t) x r in cut-met (q .1) N (short N (cut-small (link t) x N small) l (q .1)) r
+
+-- ---- where the list ends
+pub ends-within : (t : Tables) {a k : ℕ} → Ends (link t) a k → (h : ℕ) → k ≤ h → endsWithin h t a ≡ true
+unfolding endsWithin
+ends-within t stop zero l = refl
+ends-within t stop (suc h) l = refl
+ends-within t (more p e) zero l = absurd (omega arith)
+ends-within t (more {a = a} p e) (suc h) l = or-right (a is 0) (endsWithin h t (next t a)) (ends-within t e h (omega arith))
+
+pub within-ends : (t : Tables) (h a : ℕ) → endsWithin h t a ≡ true → (k : ℕ) × Ends (link t) a k × (k ≤ h)
+unfolding endsWithin
+within-ends t zero a e = rw (eqb-true a 0 e) (0, stop, omega arith)
+within-ends t (suc h) a e =
+    if-same a 0
+    (λ z. rw z (0, stop, omega arith))
+    (λ d. let on : endsWithin h t (next t a) ≡ true =
+    elim (or-case (a is 0) (endsWithin h t (next t a)) e) [ inl z ↦ absurd (d (eqb-true a 0 z)) | inr q ↦ q ] in
+    let rest = within-ends t h (next t a) on in
+    (suc (rest .0), more (omega arith) (rest .1), omega arith))

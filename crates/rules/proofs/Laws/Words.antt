@@ -2,14 +2,14 @@
 -- one place beside specs/Tables.antt that knows where a word stands. Stated over the node, the seat, the field and the value; all above
 -- cites these.
 use Prim.Native.Nat.{ℕ, zero, suc, _+_, _-_, _*_, _/_, _<_, _≤_}
-use mathlib.Core.Path.{_≡_, refl, sym, _∙_}
+use mathlib.Core.Path.{_≡_, refl, sym, ap, _∙_}
 use mathlib.Core.List.{List}
 use mathlib.Core.Logic.{_≢_}
 use native.Mathlib.Omega.{arith}
 use native.Mathlib.Decide.{decLt}
 use lib.ListN.{getD, set, length, length-set, length-replicate, getD-replicate, List·getD-eq-default}
 use lib.Seq.{ext-getD, set-getD, getD-set-same, getD-set-other}
-use Rattle.rules.specs.Tables.{Tables, headAt, titleAt, countAt, countWord, setCount, beforeNodes, nodeWidth, seatWidth, nextAt, topWord, putTop, nodeWord, putNode, linkWord, putLink, seatWord, putSeat, nodeCountOf, seatCountOf, nodeCount, seatCount, title, zeros, fresh}
+use Rattle.rules.specs.Tables.{Tables, tables, headAt, titleAt, countAt, countWord, setCount, beforeNodes, nodeWidth, seatWidth, nextAt, topWord, putTop, nodeWord, putNode, linkWord, putLink, seatWord, putSeat, nodeCountOf, seatCountOf, nodeCount, seatCount, title, link, setLink, zeros, fresh}
 use Rattle.rules.specs.Notation.{_is_}
 use Rattle.rules.proofs.Ground.Deciding.{if-same}
 use Rattle.rules.proofs.Ground.Logic.{branch}
@@ -40,6 +40,13 @@ same-node-count t u e = rw e
 pub same-seat-count : (t u : Tables) → length (u .seats) ≡ length (t .seats) → seatCount u ≡ seatCount t
 unfolding seatCountOf
 same-seat-count t u e = rw e
+
+-- ---- a word that is not 0 stands in the table
+put-there : (l : List ℕ) (i v : ℕ) → getD l i 0 ≢ 0 → getD (set l i v) i 0 ≡ v
+put-there l i v d = elim (decLt i (length l)) [
+  | yes h ↦ getD-set-same l i v 0 h
+  | no h ↦ absurd (d (List·getD-eq-default l 0 {n = i} (omega arith)))
+]
 
 -- ---- a node's words after a store to a node's word
 pub node-put-same : (l : List ℕ) (a f v : ℕ) → f < nodeWidth → a ≢ 0 → beforeNodes + nodeWidth * a ≤ length l → nodeWord (putNode l a f v) a f ≡ v
@@ -109,6 +116,12 @@ pub link-put-same : (l : List ℕ) (a v : ℕ) → beforeNodes + nodeWidth * a �
 unfolding linkWord putLink
 link-put-same l zero v h = getD-set-same l headAt v 0 (omega arith)
 link-put-same l (suc m) v h = node-put-same l (suc m) nextAt v (omega arith) (λ e. omega arith) h
+
+-- a link that is not 0 stands in the table
+pub link-put-there : (l : List ℕ) (a v : ℕ) → linkWord l a ≢ 0 → linkWord (putLink l a v) a ≡ v
+unfolding linkWord putLink nodeWord putNode
+link-put-there l zero v d = put-there l headAt v d
+link-put-there l (suc m) v d = put-there l (beforeNodes + nodeWidth * m + nextAt) v d
 
 pub link-put-other : (l : List ℕ) (a b v : ℕ) → a ≢ b → linkWord (putLink l a v) b ≡ linkWord l b
 unfolding linkWord putLink nodeWord putNode
@@ -261,6 +274,9 @@ pub put-link-self : (l : List ℕ) (a : ℕ) → putLink l a (linkWord l a) ≡ 
 unfolding putLink putNode linkWord nodeWord
 put-link-self l zero = set-getD l headAt 0
 put-link-self l (suc m) = set-getD l (beforeNodes + nodeWidth * m + nextAt) 0
+
+pub same-link : (t : Tables) (a v : ℕ) → link t a ≡ v → setLink t a v ≡ t
+same-link t a v e = ap (λ l. tables l (t .seats)) (ap (putLink (t .nodes) a) (sym e) ∙ put-link-self (t .nodes) a)
 
 set-twice : (l : List ℕ) (i v w : ℕ) → set (set l i v) i w ≡ set l i w
 set-twice l i v w =

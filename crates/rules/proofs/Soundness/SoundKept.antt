@@ -41,7 +41,7 @@ use Rattle.rules.proofs.Frames.CountFrames.{counts-kept}
 use Rattle.rules.proofs.Frames.TitleFrames.{within-kept}
 use Rattle.rules.proofs.Keeping.FetchKeeps.{written}
 use Rattle.rules.proofs.Keeping.TakeOut.{taken-out-keeps}
-use Rattle.rules.proofs.Soundness.SoundShape.{SoundView, Shaped, within-ends, seat-moves, link-passes-over, claim-marked, claim-put, count-put, sound-shaped}
+use Rattle.rules.proofs.Soundness.SoundShape.{SoundView, Shaped, list-ending, seat-moves, link-passes-over, claim-marked, claim-put, count-put, sound-shaped}
 use Rattle.rules.proofs.Soundness.SoundReached.{shaped-sound}
 
 -- ---- fetch
@@ -221,11 +221,11 @@ module _ {N S : ℕ} {t : Tables} (g : Shaped N S t) (s : ℕ) (s-in : s < S) (b
   starting-shaped : {u : Tables} → endsWithin (nodeCount u) u (head u) ≡ true → Starting (linkIn t s) s u → Shaped N S u
   unfolding linkIn
   starting-shaped {u} e (as-reader k) =
-      let h = linked-shaped (within-ends u (nodeCount u) (head u) e) in
+      let h = linked-shaped (list-ending u e) in
       seat-moves h (start-stored t s (room g s s-in busy) 3 (own t s) (next (linkIn t s) (own t s))) (not-idle (omega arith))
       (on-foot h s s-in busy (inr refl) (h .view .seats s .own-named) (h .view .nodes .links (own t s)))
   starting-shaped {u} e (as-writer k) =
-      let h = linked-shaped (within-ends u (nodeCount u) (head u) e) in
+      let h = linked-shaped (list-ending u e) in
       seat-moves h (start-stored t s (room g s s-in busy) 3 0 (head (linkIn t s))) (not-idle (omega arith))
       (on-foot h s s-in busy (inr refl) (nothing refl) (h .view .nodes .links 0))
 

@@ -1,19 +1,17 @@
 -- What has sound shape in the theory's words, within the bounds, counts that are right and claims within the title, passes the test `sound`. Every
 -- table that is reached has all of it.
-use Prim.Native.Nat.{ℕ, zero, suc, _≤_}
+use Prim.Native.Nat.{ℕ, _≤_}
 use mathlib.Core.Path.{_≡_, refl}
 use mathlib.Core.Bool.{true}
 use mathlib.Core.Logic.{_≢_, _⊎_, inl, inr}
 use native.Mathlib.Omega.{arith}
-use Rattle.rules.specs.Notation.{_is_}
 use Rattle.rules.specs.Tables.{Tables, nodeCount, link, next}
-use Rattle.rules.specs.Shape.{endsWithin, sound}
+use Rattle.rules.specs.Shape.{sound}
 use Rattle.rules.specs.Reached.{Reached, cleared, asked}
 use Rattle.rules.specs.Title.{AllWithin}
-use Rattle.rules.proofs.Ground.Logic.{or-right}
 use Rattle.rules.proofs.Laws.Shape.{Names, ZeroNode, ClaimNode, SeatSound, Counts, Sound, sound-is}
+use Rattle.rules.proofs.Laws.Listed.{ends-within}
 use Rattle.rules.proofs.Laws.Words.{node-count, seat-count}
-use Rattle.rules.proofs.Ground.Following.{Ends, stop, more}
 use Rattle.rules.proofs.Ground.Pigeonhole.{short}
 use Rattle.rules.proofs.Invariant.View.{nodesOf, claimAt}
 use Rattle.rules.proofs.Invariant.Clauses.{Named, nothing, node}
@@ -23,13 +21,6 @@ use Rattle.rules.proofs.Frames.TitleFrames.{reached-within}
 use Rattle.rules.proofs.Keeping.Good.{Good}
 use Rattle.rules.proofs.Soundness.SoundShape.{Shaped}
 use Rattle.rules.proofs.Keeping.CallKeeps.{good}
-
-ends-within : (t : Tables) {a k : ℕ} → Ends (link t) a k → (h : ℕ) → k ≤ h → endsWithin h t a ≡ true
-unfolding endsWithin
-ends-within t stop zero l = refl
-ends-within t stop (suc h) l = refl
-ends-within t (more p e) zero l = absurd (omega arith)
-ends-within t (more {a = a} p e) (suc h) l = or-right (a is 0) (endsWithin h t (next t a)) (ends-within t e h (omega arith))
 
 -- "N is 1 to 256", "S is 1 to 64"
 pub record Bounds (N S : ℕ) : Type 0 where

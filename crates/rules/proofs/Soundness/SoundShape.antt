@@ -1,23 +1,21 @@
 -- Sound shape in the theory's words: what the invariant says of the nodes and of each seat alone, and that the list ends. The changes
 -- that keep it: a seat moves; a node is passed over, marked, or written anew. Tables that pass the test `sound` have it.
-use Prim.Native.Nat.{ℕ, zero, suc, _≤_, _<_}
+use Prim.Native.Nat.{ℕ, _≤_, _<_}
 use mathlib.Core.Path.{_≡_, sym, ap, _∙_, subst}
 use mathlib.Core.Bool.{true}
 use mathlib.Core.List.{List}
 use mathlib.Core.Logic.{_≢_, _⊎_, inl, inr}
 use native.Mathlib.Omega.{arith}
 use native.Mathlib.Decide.{decLt}
-use borrow.Author.Tests.{eqb-true}
-use Rattle.rules.specs.Notation.{_is_}
 use Rattle.rules.specs.Tables.{Tables, tables, nodeCount, seatCount, startAt, endAt, kindAt, markAt, phaseAt, ownAt, prevAt, curAt, mark, link, next, head, setCount, setLink, setMark}
 use Rattle.rules.specs.Comparison.{Claim, claimOf}
 use Rattle.rules.specs.Shape.{endsWithin}
 use Rattle.rules.specs.Fetch.{writeClaim}
-use Rattle.rules.proofs.Ground.Logic.{or-case}
 use Rattle.rules.proofs.Ground.Deciding.{if-same}
 use Rattle.rules.proofs.Laws.Words.{link-put-same, link-put-other, link-put-field, node-put-link, node-put-same, node-put-field, node-put-node, node-zero, node-past, link-past}
 use Rattle.rules.proofs.Laws.Shape.{Names, ClaimNode, Sound}
-use Rattle.rules.proofs.Ground.Following.{stop, more, ends-tail, unlink-keeps-ends, away-keeps-ends}
+use Rattle.rules.proofs.Laws.Listed.{within-ends}
+use Rattle.rules.proofs.Ground.Following.{ends-tail, unlink-keeps-ends, away-keeps-ends}
 use Rattle.rules.proofs.Invariant.View.{Nodes, Seats, nodesOf, seatsOf, claimAt, relink, remark, Reseated}
 use Rattle.rules.proofs.Invariant.Clauses.{Named, nothing, node, Blank, NodeShape, SeatShape, OnList, Ending}
 use Rattle.rules.specs.Refusing.{Proper}
@@ -79,7 +77,7 @@ module _ {N : ℕ} {n : Nodes} {s : Seats} (v : SoundView N n s) where
   write-keeps-shape {n′} o w pos off = record {
     nodes = written-shape w pos (v .nodes);
     seats = λ i. seat-same w (v .seats i);
-    ends = let e = v .ends in rw (w .link-a 0 (omega arith)) (e .0, away-keeps-ends (n .link) (n′ .link) o pos (w .link-a) off (e .1));
+    ends = let e = v .ends in rw (w .link-a 0 (omega arith)) (e .0, away-keeps-ends (n .link) (n′ .link) o (w .link-a) off (e .1));
   }
 
 -- ---- over the tables
@@ -132,16 +130,8 @@ module _ {N S : ℕ} {t : Tables} (g : Shaped N S t) where
   count-put k v = record { aside = aside.count-put (g .aside) k v; view = subst (λ n. SoundView N n (seatsOf t)) (same-nodes t k v) (g .view) }
 
 -- ---- sound tables have it
-pub within-ends : (t : Tables) (h a : ℕ) → endsWithin h t a ≡ true → Ending (link t) a
-unfolding endsWithin
-within-ends t zero a e = rw (eqb-true a 0 e) (0, stop)
-within-ends t (suc h) a e =
-    if-same a 0
-    (λ z. rw z (0, stop))
-    (λ d. let on : endsWithin h t (next t a) ≡ true =
-    elim (or-case (a is 0) (endsWithin h t (next t a)) e) [ inl z ↦ absurd (d (eqb-true a 0 z)) | inr q ↦ q ] in
-    let rest = within-ends t h (next t a) on in
-    (suc (rest .0), more (omega arith) (rest .1)))
+pub list-ending : (t : Tables) → endsWithin (nodeCount t) t (head t) ≡ true → Ending (link t) (head t)
+list-ending t e = let w = within-ends t (nodeCount t) (head t) e in (w .0, w .1)
 
 module _ {t : Tables} (w : Sound t) where
   -- a node past the last one reads as blank
@@ -200,6 +190,6 @@ module _ {t : Tables} (w : Sound t) where
         prev-named = named (h .prev-names);
         cur-named = named (h .cur-names);
       };
-      ends = within-ends t (nodeCount t) (head t) (w .ends);
+      ends = list-ending t (w .ends);
     };
   }
