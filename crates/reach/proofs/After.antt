@@ -7,20 +7,22 @@ use mathlib.Core.List.{List, [], _∷_}
 use mathlib.Core.Logic.{_≢_, _⊎_, ⊎-elim}
 use native.Mathlib.Omega.{arith}
 use lib.ListN.{length}
-use borrow.Author.Tests.{eq-eqb, eqb-true, eqb-false}
+use borrow.Author.Tests.{eq-eqb, ne-eqb, eqb-true, eqb-false}
 use Rattle.rules.specs.Notation.{_is_}
 use Rattle.rules.specs.Tables.{Tables, beforeNodes, nodeWidth, nodeCount, seatCount, link, next, head, mark, marked, own, prev, cur, setLink}
 use Rattle.rules.specs.Reach.{met, listed, free}
 use Rattle.rules.specs.Fetch.{keptFrom, kept, linkThrough, takenOut}
-use Rattle.rules.proofs.Ground.Logic.{either, or-left, or-right, or-case, or-neither, clash, not-of}
+use Rattle.rules.proofs.Ground.Logic.{either, or-left, or-right, or-case, or-neither, neither, clash, not-of}
+use Rattle.rules.proofs.Ground.Pigeonhole.{Off, off-none, off-more}
 use Rattle.rules.proofs.Laws.Words.{put-link-length, same-node-count, same-seat-count, link-put-same, link-put-other}
 use Rattle.rules.proofs.Laws.Shape.{Sound}
+use Rattle.rules.proofs.Laws.Kept.{kept-end, kept-in, kept-out, kept-away, kept-off, at-end, prev-not-cur, prev-behind}
 use Rattle.nodesets.specs.Set.{has, none, add}
 use Rattle.nodesets.proofs.Set.{has-none, none-length, has-add, add-length}
 use Rattle.reach.specs.Walks.{Links, reachFrom, reachSeat, reachSeats, reachOthers, addAll}
 use Rattle.reach.proofs.Walk.{met-none, met-zero, met-next, met-case, swap, inside, outside, closed-alike, add-keeps}
 use Rattle.reach.proofs.Used.{Grown, Named, sound-named, joins-list, joins-others}
-use Rattle.reach.proofs.TakingOut.{ends-zero, kept-end, kept-in, kept-out, not-ahead, ahead-kept, Going, going-start, going-end, going-skip, going-keep}
+use Rattle.reach.proofs.TakingOut.{Going, going-start, going-end, going-skip, going-keep}
 
 -- ---- the members of a list
 unfoldable pub isIn : List ℕ → ℕ → Bool
@@ -40,6 +42,11 @@ in-head a ks = in-more a a ks ∙ or-left (a is a) (isIn ks a) (eq-eqb a a refl)
 
 in-tail : (a x : ℕ) (ks : List ℕ) → isIn ks x ≡ true → isIn (a ∷ ks) x ≡ true
 in-tail a x ks e = in-more a x ks ∙ or-right (a is x) (isIn ks x) e
+
+off-out : (x : ℕ) {ks : List ℕ} → Off x ks → isIn ks x ≡ false
+unfolding isIn
+off-out x off-none = refl
+off-out x (off-more {y = y} d o) = neither (y is x) _ (ne-eqb y x (λ e. d (sym e))) (off-out x o)
 
 -- every member is one of the nodes 1 to n
 Within : List ℕ → ℕ → Type 0
@@ -130,7 +137,7 @@ relinked-end h g whole t p a n x s l w e =
     met-zero g whole (link whole p) x q ∙ sym (ap (λ (ks : List ℕ). isIn ks x) (kept-end h t a e) ∙ in-none x)
 
 relinked-is-kept : (h g : ℕ) (whole t : Tables) (p a n x : ℕ) → Sized t n → p ≤ n → a ≤ n → h ≤ g → Going whole t h p a → met g whole (link whole p) x ≡ isIn (keptFrom h t a) x
-relinked-is-kept zero g whole t p a n x s l b o w = relinked-end 0 g whole t p a n x s l w (ends-zero t a (w .ends))
+relinked-is-kept zero g whole t p a n x s l b o w = relinked-end 0 g whole t p a n x s l w (at-end (w .stands))
 relinked-is-kept (suc h) zero whole t p a n x s l b o w = absurd (omega arith)
 relinked-is-kept (suc h) (suc g) whole t p a n x s l b o w =
     ⊎-elim
@@ -142,13 +149,12 @@ relinked-is-kept (suc h) (suc g) whole t p a n x s l b o w =
     ∙ ap (λ (ks : List ℕ). isIn ks x) (sym (kept-out h t a z m)))
     (λ y. let m = eqb-false (mark t a) 1 y in
     let u : Tables = setLink t p a in
-    let d = not-ahead h t a p z (w .behind) in
+    let far = prev-behind (w .stands) z in
     let k = going-keep whole t p a h w z m in
-    let same : keptFrom h u (next t a) ≡ keptFrom h t (next t a) = ahead-kept t p a h (next t a) (d .1) in
-    let gone : isIn (keptFrom h u (next t a)) p ≡ false =
-    not-of (isIn (keptFrom h u (next t a)) p) (λ i. clash (met h t (next t a) p) (kept-met h t (next t a) p (rw same at i)) (d .1)) in
+    let same : keptFrom h u (next t a) ≡ keptFrom h t (next t a) = kept-away t p a h (next t a) far in
+    let gone : isIn (keptFrom h u (next t a)) p ≡ false = rw same (off-out p (kept-off h t p (next t a) far)) in
     let first : link whole p ≡ a =
-    ap (λ (v : Tables). link v p) (sym (k .rest)) ∙ through-other (keptFrom h u (next t a)) u a p (λ q. d .0 (sym q)) gone
+    ap (λ (v : Tables). link v p) (sym (k .rest)) ∙ through-other (keptFrom h u (next t a)) u a p (λ q. prev-not-cur (w .stands) z (sym q)) gone
     ∙ link-put-same (t .nodes) p a (omega (arith, s .long)) in
     rw first (met-next g whole a x z
     ∙ ap (λ (c : Bool). a is x || c) (relinked-is-kept h g whole u a (next t a) n x (sized-put t p a n s l b) b (s .small a) (omega arith) k ∙ ap (λ (ks : List ℕ). isIn ks x) same)
@@ -256,7 +262,7 @@ module _ (t : Tables) (w : Sound t) where
   listed-after x =
       rw after-count
       (relinked-is-kept (nodeCount t) (nodeCount t) (takenOut t) t 0 (head t) (nodeCount t) x sized (omega arith) (sized .small 0) (omega arith)
-      (going-start t (nodeCount t) (head t) refl refl (w .ends)))
+      (going-start t (w .ends)))
 
   kept-has : (x : ℕ) → has (addAll none (kept t)) x ≡ listed (takenOut t) x
   kept-has x = all-has (kept t) none x (nodeCount t) none-length (w .few-nodes) kept-within ∙ rw (has-none x) (sym (listed-after x))

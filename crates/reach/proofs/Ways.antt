@@ -23,7 +23,7 @@ use Rattle.nodesets.proofs.Set.{add-again}
 use Rattle.reach.specs.Walks.{Links, reachFrom, reachSeat, reachSeats, reachOthers, addAll}
 use Rattle.reach.specs.FreeSet.{IsFreeSet}
 use Rattle.reach.proofs.Used.{Named, sound-named, used-free}
-use Rattle.reach.proofs.TakingOut.{kept-end, kept-in, kept-out}
+use Rattle.rules.proofs.Laws.Kept.{kept-end, kept-in, kept-out}
 use Rattle.rules.proofs.Laws.NodesAlone.{kept-alone}
 use Rattle.reach.proofs.After.{after-count, after-free}
 

@@ -1,19 +1,21 @@
 -- The unmarked nodes from a node on, which stay when marked ones are taken out: by the ways on, with hops to spare, and after a store to a link that is
--- not ahead.
+-- not ahead; and the walk that takes out, where it stands and how it goes on.
 use Prim.Native.Nat.{ℕ, zero, suc, _≤_, _<_}
 use mathlib.Core.Path.{_≡_, refl, sym, ap, _∙_}
 use mathlib.Core.List.{List, [], _∷_}
-use mathlib.Core.Logic.{_≢_}
+use mathlib.Core.Logic.{_≢_, _⊎_, inl, inr}
 use native.Mathlib.Omega.{arith}
-use borrow.Author.Tests.{ne-eqb, eqb-true, eqb-false}
+use borrow.Author.Tests.{ne-eqb, eqb-false}
 use Rattle.rules.specs.Notation.{_is_}
-use Rattle.rules.specs.Tables.{Tables, markAt, mark, marked, link, next, setLink}
+use Rattle.rules.specs.Tables.{Tables, nodeCount, markAt, mark, link, next, head, setLink}
 use Rattle.rules.specs.Reach.{Reach, here, there}
 use Rattle.rules.specs.Fetch.{keptFrom}
+use Rattle.rules.specs.Stores.{ListEnds}
 use Rattle.rules.proofs.Ground.Deciding.{if-same, if-true}
-use Rattle.rules.proofs.Ground.Following.{Ends, stop, more}
+use Rattle.rules.proofs.Ground.Following.{reach-target, Ends, stop, more, ends-tail, no-circle, away-keeps-ends}
 use Rattle.rules.proofs.Ground.Pigeonhole.{Off, off-none, off-more}
 use Rattle.rules.proofs.Laws.Words.{link-put-other, node-put-link}
+use Rattle.rules.proofs.Laws.Listed.{within-ends}
 
 pub kept-end : (h : ℕ) (t : Tables) (a : ℕ) → a ≡ 0 → keptFrom h t a ≡ []
 unfolding keptFrom
@@ -67,3 +69,93 @@ module _ (t : Tables) (p v : ℕ) where
       (λ z. let pos : 0 < a = let y = eqb-false a 0 z in omega arith in
       let d : p ≢ a = λ e. f (rw (← e) (here (rw (← e) at pos))) in
       rw (z, link-put-other (t .nodes) p a v d, mark-stays a, kept-away h (next t a) (λ r. f (there pos r))))
+
+-- ---- the walk that takes the marked nodes out. It stands at cur, with prev behind it, and hops enough to the end. Prev's link is cur, or a marked node that was passed over
+pub record At (t : Tables) (h prev cur : ℕ) : Type 0 where
+  pub left : ℕ
+  pub ends : Ends (link t) cur left
+  pub enough : left ≤ h
+  pub behind : Reach (link t) prev cur → ⊥
+  pub joined : (link t prev ≡ cur) ⊎ ((link t prev ≢ 0) × (mark t (link t prev) ≡ 1))
+
+module _ {t : Tables} {q c : ℕ} where
+  pub at-end : At t 0 q c → c ≡ 0
+  at-end w = none (w .ends) (w .enough)
+    where
+      none : {a k : ℕ} → Ends (link t) a k → k ≤ 0 → a ≡ 0
+      none stop l = refl
+      none (more p e) l = absurd (omega arith)
+
+  -- a link that differs is no 0
+  pub at-there : {h : ℕ} → At t h q c → link t q ≢ c → link t q ≢ 0
+  at-there w d = elim (w .joined) [ inl e ↦ absurd (d e) | inr y ↦ y .0 ]
+
+  module _ {h : ℕ} (w : At t (suc h) q c) (z : c ≢ 0) where
+    pub cur-pos : 0 < c
+    cur-pos = omega arith
+
+    pub on-ends : (m : ℕ) × Ends (link t) (next t c) m × (suc m ≡ w .left)
+    on-ends = ends-tail (w .ends) z
+
+    pub on-few : on-ends .0 ≤ h
+    on-few = let l = w .enough in let e = on-ends .2 in omega arith
+
+    pub prev-not-cur : q ≢ c
+    prev-not-cur e = w .behind (rw e (here cur-pos))
+
+    pub prev-behind : Reach (link t) q (next t c) → ⊥
+    prev-behind r = w .behind (there cur-pos r)
+
+    pub at-skip : mark t c ≡ 1 → At t h q (next t c)
+    at-skip m = record {
+      left = on-ends .0;
+      ends = on-ends .1;
+      enough = on-few;
+      behind = prev-behind;
+      joined = inr (elim (w .joined) [ inl e ↦ (λ y. z (sym e ∙ y), ap (mark t) e ∙ m) | inr y ↦ y ]);
+    }
+
+    pub at-on : At t h c (next t c)
+    at-on = record {
+      left = on-ends .0;
+      ends = on-ends .1;
+      enough = on-few;
+      behind = no-circle (w .ends) cur-pos;
+      joined = inl refl;
+    }
+
+    -- each is one node nearer the end
+    pub skip-left : (m : mark t c ≡ 1) → suc (at-skip m .left) ≡ w .left
+    unfolding at-skip
+    skip-left m = on-ends .2
+
+    pub on-left : suc (at-on .left) ≡ w .left
+    unfolding at-on
+    on-left = on-ends .2
+
+    -- the same once prev's link is stored
+    pub stored-same : (a v : ℕ) → a ≢ q → link (setLink t q v) a ≡ link t a
+    stored-same a v d = link-put-other (t .nodes) q a v (λ e. d (sym e))
+
+    pub stored-next : (v : ℕ) → next (setLink t q v) c ≡ next t c
+    stored-next v = stored-same c v (λ e. prev-not-cur (sym e))
+
+    pub stored-ends : (v : ℕ) → Ends (link (setLink t q v)) (next (setLink t q v) c) (on-ends .0)
+    stored-ends v = rw (stored-next v) (away-keeps-ends (link t) (link (setLink t q v)) q (λ a d. stored-same a v d) prev-behind (on-ends .1))
+
+    pub at-stored : At (setLink t q c) h c (next (setLink t q c) c)
+    at-stored = record {
+      left = on-ends .0;
+      ends = stored-ends c;
+      enough = on-few;
+      behind = no-circle (more cur-pos (stored-ends c)) cur-pos;
+      joined = inl refl;
+    }
+
+    pub kept-stored : keptFrom h (setLink t q c) (next (setLink t q c) c) ≡ keptFrom h t (next t c)
+    kept-stored = rw (stored-next c) (kept-away t q c h (next t c) prev-behind)
+
+pub at-head : (t : Tables) → ListEnds t → At t (nodeCount t) 0 (head t)
+at-head t e =
+    let w = within-ends t (nodeCount t) (head t) e in
+    record { left = w .0; ends = w .1; enough = w .2; behind = λ r. let p = reach-target r in omega arith; joined = inl refl }

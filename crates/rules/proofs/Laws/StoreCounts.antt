@@ -17,8 +17,8 @@ use Rattle.rules.specs.Stores.{Store, store, storesAlong, stores, ListEn
 use Rattle.rules.proofs.Ground.Deciding.{if-same, if-true}
 use Rattle.rules.proofs.Laws.Words.{put-link-length, same-node-count, link-past}
 use Rattle.rules.proofs.Laws.Shape.{Sound}
-use Rattle.rules.proofs.Laws.Kept.{kept-end, kept-in, kept-out, kept-ways}
-use Rattle.rules.proofs.Laws.Stores.{along-ended, along-end, along-same, along-other, At, at-end, at-skip, at-on, at-head, all-else, come-to, once-where-other}
+use Rattle.rules.proofs.Laws.Kept.{kept-end, kept-in, kept-out, kept-ways, At, at-end, at-skip, at-on, at-head}
+use Rattle.rules.proofs.Laws.Stores.{along-ended, along-end, along-same, along-other, all-else, come-to, once-where-other}
 
 -- ---- one of them apart
 record Without (a : ℕ) (ys : List Store) : Type 0 where

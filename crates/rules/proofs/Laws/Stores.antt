@@ -9,16 +9,15 @@ use native.Mathlib.Omega.{arith}
 use borrow.Author.Tests.{eq-eqb, ne-eqb}
 use Rattle.rules.specs.Notation.{if_then_else_, _is_}
 use Rattle.rules.specs.Tables.{Tables, nodeCount, mark, link, next, head, setLink}
-use Rattle.rules.specs.Shape.{endsWithin}
 use Rattle.rules.specs.Reach.{Reach, here, there}
 use Rattle.rules.specs.Fetch.{keptFrom, kept, linkThrough, takenOut}
 use Rattle.rules.specs.Stores.{Store, store, storesAlong, stores, ListEnds, storeAll, timesTo}
 use Rattle.rules.proofs.Ground.Deciding.{if-same}
-use Rattle.rules.proofs.Ground.Following.{reach-target, Ends, stop, more, ends-tail, no-circle, away-keeps-ends, away-adds-none}
+use Rattle.rules.proofs.Ground.Following.{Ends, stop, more}
 use Rattle.rules.proofs.Ground.Pigeonhole.{Off, off-none, off-more}
 use Rattle.rules.proofs.Laws.Words.{link-put-there, link-put-other, same-link, put-link-length, same-node-count}
-use Rattle.rules.proofs.Laws.Listed.{ends-within, within-ends}
-use Rattle.rules.proofs.Laws.Kept.{kept-end, kept-in, kept-out, kept-ways, kept-enough, kept-away, kept-off, mark-stays}
+use Rattle.rules.proofs.Laws.Listed.{ends-within}
+use Rattle.rules.proofs.Laws.Kept.{kept-end, kept-in, kept-out, kept-ways, kept-enough, kept-off, mark-stays, At, at-end, at-there, cur-pos, on-ends, on-few, prev-not-cur, prev-behind, at-skip, at-on, skip-left, on-left, stored-ends, at-stored, kept-stored, at-head}
 
 -- ---- the list of stores, by the ways on
 module _ (t : Tables) (q : ℕ) where
@@ -37,87 +36,6 @@ module _ (t : Tables) (q : ℕ) where
   pub along-other : (a : ℕ) (ks : List ℕ) → link t q ≢ a → storesAlong t q (a ∷ ks) ≡ store q a ∷ storesAlong t a ks
   unfolding storesAlong
   along-other a ks d = rw (ne-eqb (link t q) a d)
-
--- ---- where the walk stands: at cur, with prev behind it, and hops enough to the end. Prev's link is cur, or a marked node that was passed over
-pub record At (t : Tables) (h prev cur : ℕ) : Type 0 where
-  pub left : ℕ
-  pub ends : Ends (link t) cur left
-  pub enough : left ≤ h
-  pub behind : Reach (link t) prev cur → ⊥
-  pub joined : (link t prev ≡ cur) ⊎ ((link t prev ≢ 0) × (mark t (link t prev) ≡ 1))
-
-module _ {t : Tables} {q c : ℕ} where
-  pub at-end : At t 0 q c → c ≡ 0
-  at-end w = none (w .ends) (w .enough)
-    where
-      none : {a k : ℕ} → Ends (link t) a k → k ≤ 0 → a ≡ 0
-      none stop l = refl
-      none (more p e) l = absurd (omega arith)
-
-  -- a link that differs is no 0
-  at-there : {h : ℕ} → At t h q c → link t q ≢ c → link t q ≢ 0
-  at-there w d = elim (w .joined) [ inl e ↦ absurd (d e) | inr y ↦ y .0 ]
-
-  module _ {h : ℕ} (w : At t (suc h) q c) (z : c ≢ 0) where
-    pos : 0 < c
-    pos = omega arith
-
-    rest : (m : ℕ) × Ends (link t) (next t c) m × (suc m ≡ w .left)
-    rest = ends-tail (w .ends) z
-
-    rest-few : rest .0 ≤ h
-    rest-few = let l = w .enough in let e = rest .2 in omega arith
-
-    prev-not-cur : q ≢ c
-    prev-not-cur e = w .behind (rw e (here pos))
-
-    prev-behind : Reach (link t) q (next t c) → ⊥
-    prev-behind r = w .behind (there pos r)
-
-    pub at-skip : mark t c ≡ 1 → At t h q (next t c)
-    at-skip m = record {
-      left = rest .0;
-      ends = rest .1;
-      enough = rest-few;
-      behind = prev-behind;
-      joined = inr (elim (w .joined) [ inl e ↦ (λ y. z (sym e ∙ y), ap (mark t) e ∙ m) | inr y ↦ y ]);
-    }
-
-    pub at-on : At t h c (next t c)
-    at-on = record {
-      left = rest .0;
-      ends = rest .1;
-      enough = rest-few;
-      behind = no-circle (w .ends) pos;
-      joined = inl refl;
-    }
-
-    -- the same once prev's link is stored
-    stored-same : (a v : ℕ) → a ≢ q → link (setLink t q v) a ≡ link t a
-    stored-same a v d = link-put-other (t .nodes) q a v (λ e. d (sym e))
-
-    stored-next : (v : ℕ) → next (setLink t q v) c ≡ next t c
-    stored-next v = stored-same c v (λ e. prev-not-cur (sym e))
-
-    stored-ends : (v : ℕ) → Ends (link (setLink t q v)) (next (setLink t q v) c) (rest .0)
-    stored-ends v = rw (stored-next v) (away-keeps-ends (link t) (link (setLink t q v)) q (λ a d. stored-same a v d) prev-behind (rest .1))
-
-    at-stored : At (setLink t q c) h c (next (setLink t q c) c)
-    at-stored = record {
-      left = rest .0;
-      ends = stored-ends c;
-      enough = rest-few;
-      behind = no-circle (more pos (stored-ends c)) pos;
-      joined = inl refl;
-    }
-
-    kept-stored : keptFrom h (setLink t q c) (next (setLink t q c) c) ≡ keptFrom h t (next t c)
-    kept-stored = rw (stored-next c) (kept-away t q c h (next t c) prev-behind)
-
-pub at-head : (t : Tables) → ListEnds t → At t (nodeCount t) 0 (head t)
-at-head t e =
-    let w = within-ends t (nodeCount t) (head t) e in
-    record { left = w .0; ends = w .1; enough = w .2; behind = λ r. let p = reach-target r in omega arith; joined = inl refl }
 
 -- ---- how many go to a link
 times-none : (a : ℕ) → timesTo a [] ≡ 0
@@ -294,31 +212,30 @@ made-here {t} {h} {q} {c} w z m d =
       stands = at-there w d;
       same-kept = λ g l. rw new (kept-on g l);
       others = along-same u q c ks new ∙ along-off q t c c ks (prev-not-cur w z) (kept-off h t q (next t c) (prev-behind w z));
-      ends = rw new (suc (rest w z .0), more (pos w z) (stored-ends w z c), let e = rest w z .2 in omega arith);
+      ends = rw new (suc (on-ends w z .0), more (cur-pos w z) (stored-ends w z c), let e = on-ends w z .2 in omega arith);
     }
   where
     kept-on : (g : ℕ) → suc h ≤ g → keptFrom g (setLink t q c) c ≡ c ∷ keptFrom h t (next t c)
     kept-on zero l = absurd (omega arith)
     kept-on (suc g) l =
-        let few = rest-few w z in
+        let few = on-few w z in
         kept-in g (setLink t q c) c z (λ e. m (sym (mark-stays t q c c) ∙ e))
         ∙ ap (λ ks. c ∷ ks) (kept-enough (setLink t q c) (stored-ends w z c) h g few (omega arith) ∙ kept-stored w z)
 
 -- or a later one: prev's link is right, and stays
 made-later : {t : Tables} {h q c : ℕ} {x : Store} {xs : List Store} (w : At t (suc h) q c) (z : c ≢ 0) → mark t c ≢ 1 → link t q ≡ c
     → Made t h c (next t c) (at-on w z .left) (keptFrom h t (next t c)) x xs → Made t (suc h) q c (w .left) (c ∷ keptFrom h t (next t c)) x xs
-unfolding at-on
 made-later {t} {h} {q} {c} {x} w z m e r =
     let u = made t x in
     let ks = keptFrom h t (next t c) in
-    let ahead : Reach (link t) (x .whose) c = elim (r .to-prev-or-ahead) [ inl y ↦ rw y (here (pos w z)) | inr y ↦ there (pos w z) y ] in
+    let ahead : Reach (link t) (x .whose) c = elim (r .to-prev-or-ahead) [ inl y ↦ rw y (here (cur-pos w z)) | inr y ↦ there (cur-pos w z) y ] in
     let new : link u q ≡ c = link-put-other (t .nodes) (x .whose) q (x .value) (λ y. w .behind (rw y at ahead)) ∙ e in
     record {
       to-prev-or-ahead = inr ahead;
       stands = r .stands;
       same-kept = λ g l. rw new (kept-on g l);
       others = along-same u q c ks new ∙ r .others;
-      ends = let k = r .ends in rw new (suc (k .0), more (pos w z) (k .1), let f = rest w z .2 in let l = k .2 in omega arith);
+      ends = let k = r .ends in rw new (suc (k .0), more (cur-pos w z) (k .1), let f = on-left w z in let l = k .2 in omega arith);
     }
   where
     kept-on : (g : ℕ) → suc h ≤ g → keptFrom g (made t x) c ≡ c ∷ keptFrom h t (next t c)
@@ -330,13 +247,12 @@ made-later {t} {h} {q} {c} {x} w z m e r =
 -- passed over a marked node, the walk is as far from the end as it was
 made-skipped : {t : Tables} {h q c : ℕ} {x : Store} {xs : List Store} {ks : List ℕ} (w : At t (suc h) q c) (z : c ≢ 0) (m : mark t c ≡ 1)
     → Made t h q (next t c) (at-skip w z m .left) ks x xs → Made t (suc h) q c (w .left) ks x xs
-unfolding at-skip
 made-skipped w z m r = record {
-  to-prev-or-ahead = elim (r .to-prev-or-ahead) [ inl y ↦ inl y | inr y ↦ inr (there (pos w z) y) ];
+  to-prev-or-ahead = elim (r .to-prev-or-ahead) [ inl y ↦ inl y | inr y ↦ inr (there (cur-pos w z) y) ];
   stands = r .stands;
   same-kept = λ g l. r .same-kept g (omega arith);
   others = r .others;
-  ends = let k = r .ends in (k .0, k .1, let f = rest w z .2 in let l = k .2 in omega arith);
+  ends = let k = r .ends in (k .0, k .1, let f = skip-left w z m in let l = k .2 in omega arith);
 }
 
 at-last : (h left : ℕ) (t : Tables) (q c : ℕ) (x : Store) (xs : List Store) → c ≡ 0
