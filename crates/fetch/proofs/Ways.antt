@@ -9,36 +9,19 @@ use borrow.Author.Tests.{eq-eqb, ne-eqb}
 use Rattle.rules.specs.Notation.{_is_}
 use Rattle.rules.specs.Tables.{Tables, tables, markAt, nodeWord, linkWord, putLink, nodeCountOf, nodeCount, seatCount, head, next}
 use Rattle.rules.specs.Comparison.{Claim}
-use Rattle.rules.specs.Shape.{endsWithin, sound}
+use Rattle.rules.specs.Shape.{sound}
 use Rattle.rules.specs.Reach.{free, lowestFree, countFree}
+use Rattle.rules.specs.Stores.{ListEnds}
 use Rattle.rules.specs.Fetch.{takenOut, writeClaim, enterAtHead, takeNode, Fetched, fetched, fetchAgain, fetch}
 use Rattle.rules.proofs.Ground.Counting.{count-cut}
 use Rattle.rules.proofs.Laws.Shape.{is-sound}
 use Rattle.rules.proofs.Rules.Reasons.{fetch-none}
 use Rattle.nodesets.specs.Set.{has, members}
 use Rattle.reach.specs.FreeSet.{IsFreeSet}
-use Rattle.reach.proofs.TakingOut.{Going, going-end, going-left, going-skip, going-keep}
 use Rattle.rules.proofs.Laws.NodesAlone.{ends-alone, taken-out-alone}
 
 -- ---- taking out
-module _ (whole t : Tables) (prev cur : ℕ) where
-  pub out-less : (h : ℕ) → Going whole t h prev cur → cur ≢ 0 → h - 1 < h
-  out-less h g z = let i = going-left whole t prev cur h g z in omega arith
-
-  pub out-skip : (h x m : ℕ) → Going whole t h prev cur → cur ≢ 0 → x ≡ next t cur → m ≡ nodeWord (t .nodes) cur markAt → m ≡ 1 → Going whole t (h - 1) prev x
-  out-skip zero x m g z p q e = absurd (omega (arith, going-left whole t prev cur 0 g z))
-  out-skip (suc h) x m g z p q e = let y : suc h - 1 ≡ h = omega arith in rw (y, p) (going-skip whole t prev cur h g z (sym q ∙ e))
-
-pub out-keep : (whole : Tables) (nodes nodes′ : List ℕ) (h prev cur x m : ℕ) → Going whole (tables nodes []) h prev cur → cur ≢ 0 → nodes′ ≡ putLink nodes prev cur → x ≡ linkWord nodes cur → m ≡ nodeWord nodes cur markAt → m ≢ 1 → Going whole (tables nodes′ []) (h - 1) cur x
-out-keep whole nodes nodes′ zero prev cur x m g z s p q e = absurd (omega (arith, going-left whole (tables nodes []) prev cur 0 g z))
-out-keep whole nodes nodes′ (suc h) prev cur x m g z s p q e =
-    let y : suc h - 1 ≡ h = omega arith in
-    rw (y, p, s) (going-keep whole (tables nodes []) prev cur h g z (λ i. e (q ∙ i)))
-
-pub out-end : (whole : Tables) (nodes nodes′ : List ℕ) (h prev cur : ℕ) → Going whole (tables nodes []) h prev cur → cur ≡ 0 → nodes′ ≡ putLink nodes prev 0 → nodes′ ≡ whole .nodes
-out-end whole nodes nodes′ h prev cur g e s = s ∙ ap (λ (u : Tables). u .nodes) (going-end whole (tables nodes []) prev cur h g e)
-
-pub list-ends : (nodes seats : List ℕ) → sound (tables nodes seats) ≡ true → endsWithin (nodeCount (tables nodes [])) (tables nodes []) (head (tables nodes [])) ≡ true
+pub list-ends : (nodes seats : List ℕ) → sound (tables nodes seats) ≡ true → ListEnds (tables nodes [])
 list-ends nodes seats ok = ends-alone (nodeCountOf nodes) nodes seats (linkWord nodes 0) ∙ is-sound (tables nodes seats) ok .ends
 
 -- ---- free count

@@ -2,11 +2,13 @@
 // where no node is free, even with the marked ones taken out, nothing is stored.
 ghost use mathlib.Core.Path.{_≡_};
 ghost use mathlib.Core.Bool.{true};
-ghost use mathlib.Core.List.{[]};
-ghost use Rattle.rules.specs.Tables.{tables, nodeCount, head};
+ghost use mathlib.Core.List.{[], _∷_};
+ghost use lib.ListN.{drop};
+ghost use Rattle.rules.specs.Tables.{tables, putLink};
 ghost use Rattle.rules.specs.Comparison.{claim};
-ghost use Rattle.rules.specs.Shape.{endsWithin, sound};
+ghost use Rattle.rules.specs.Shape.{sound};
 ghost use Rattle.rules.specs.Reach.{countFree};
+ghost use Rattle.rules.specs.Stores.{store, stores, ListEnds};
 ghost use Rattle.rules.specs.Fetch.{takenOut, writeClaim, enterAtHead, takeNode, fetched, fetchAgain, fetch as fetchRule};
 
 // How many nodes are free, every seat counted: no seat has the number of seats.
@@ -48,27 +50,47 @@ fn take_node(nodes: &mut [u32], seats: &mut [u32], s: u32, a: u32, start: u32, e
     enter_at_head(nodes, seats, s, a);
 }
 
-// Head and the unmarked listed nodes then link to the next unmarked one.
+// ---- taking marked nodes out, by the fewest stores
+
+// One store of those that take marked nodes out: the first that is left of them, and then the others are left. It goes to a link that differs.
+// Nothing else stores for `take_out`, so its stores are those of the tables that it is lent, all of them and in their order.
+fn store_link(nodes: &mut [u32], whose: u32, value: u32)
+    requires { ⌜ ListEnds (tables (now nodes) []) ⌝ }
+    requires { ⌜ stores (tables (now nodes) []) ≡ store whose value ∷ drop 1 (stores (tables (now nodes) [])) ⌝ }
+    ensures stored { λ r. ⌜ now (nodes .exit) ≡ putLink (now (nodes .entry)) whose value ⌝ }
+    ensures left { λ r. ⌜ stores (tables (now (nodes .exit)) []) ≡ drop 1 (stores (tables (now (nodes .entry)) [])) ⌝ }
+{
+    words::put_link(nodes, whose, value);
+}
+
+// Head and the unmarked listed nodes then link to the next unmarked one. `link` is prev's link as it stands.
 fn take_out(nodes: &mut [u32])
-    requires { ⌜ endsWithin (nodeCount (tables (now nodes) [])) (tables (now nodes) []) (head (tables (now nodes) [])) ≡ true ⌝ }
-    ensures { λ r. ⌜ now (nodes .exit) ≡ takenOut (tables (now (nodes .entry)) []) .nodes ⌝ }
+    requires { ⌜ ListEnds (tables (now nodes) []) ⌝ }
+    ensures out { λ r. ⌜ now (nodes .exit) ≡ takenOut (tables (now (nodes .entry)) []) .nodes ⌝ }
+    ensures none_left { λ r. ⌜ stores (tables (now (nodes .exit)) []) ≡ [] ⌝ }
 {
     let mut left = words::node_count(nodes);
     let mut prev: u32 = 0;
-    let mut cur = words::link(nodes, 0);
+    let mut link = words::link(nodes, 0);
+    let mut cur = link;
     while cur != 0 {
         let next = words::link(nodes, cur);
         if words::node_word(nodes, cur, words::MARK) == 1 {
             cur = next;
             left -= 1;
         } else {
-            words::put_link(nodes, prev, cur);
+            if link != cur {
+                store_link(nodes, prev, cur);
+            }
             prev = cur;
+            link = next;
             cur = next;
             left -= 1;
         }
     }
-    words::put_link(nodes, prev, 0);
+    if link != 0 {
+        store_link(nodes, prev, 0);
+    }
 }
 
 // ---- fetch
