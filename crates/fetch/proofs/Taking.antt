@@ -9,9 +9,10 @@ use lib.ListN.{drop}
 use Rattle.rules.specs.Tables.{Tables, tables, markAt, nodeWord, linkWord, putLink, nodeCountOf, nodeCount, mark, link, next, head, setLink}
 use Rattle.rules.specs.Fetch.{keptFrom, kept, takenOut}
 use Rattle.rules.specs.Stores.{Store, store, storesAlong, stores, ListEnds}
-use Rattle.rules.proofs.Laws.Words.{same-link}
+use Rattle.rules.proofs.Laws.Words.{put-link-length, same-node-count, link-put-at-most, same-link}
 use Rattle.rules.proofs.Laws.Kept.{kept-end, kept-in, kept-out, kept-off, prev-not-cur, prev-behind, stored-next, kept-stored}
 use Rattle.rules.proofs.Laws.Stores.{along-ended, along-end, along-same, along-other, along-off, others-left, still-ends}
+use Rattle.reach.specs.Walks.{Links}
 use Rattle.reach.proofs.TakingOut.{Going, going-start, going-end, going-left, going-skip, going-keep}
 
 -- ---- one store, the first that is left
@@ -26,10 +27,13 @@ pub record Taking (whole t : Tables) (h prev at-prev cur : ℕ) : Type 0 where
   pub left : stores t ≡ storesAlong t prev (keptFrom h t cur)
   pub ends : ListEnds t
   pub as-it-stands : at-prev ≡ link t prev
+  pub links : Links (t .nodes)
+  pub inside : cur ≤ nodeCount t
 
-pub taking-start : (t : Tables) (n a : ℕ) → n ≡ nodeCount t → a ≡ head t → ListEnds t → Taking (takenOut t) t n 0 a a
+pub taking-start : (t : Tables) (n a : ℕ) → n ≡ nodeCount t → a ≡ head t → ListEnds t → Links (t .nodes) → Taking (takenOut t) t n 0 a a
 unfolding stores kept
-taking-start t n a q p e = rw (p, q) (record { going = going-start t e; left = refl; ends = e; as-it-stands = refl })
+taking-start t n a q p e l =
+    rw (p, q) (record { going = going-start t e; left = refl; ends = e; as-it-stands = refl; links = l; inside = l .small 0 })
 
 module _ {whole t : Tables} {prev at-prev cur : ℕ} where
   -- there are hops left
@@ -46,6 +50,8 @@ module _ {whole t : Tables} {prev at-prev cur : ℕ} where
     left = g .left ∙ ap (storesAlong t prev) (kept-out h t cur z m);
     ends = g .ends;
     as-it-stands = g .as-it-stands;
+    links = g .links;
+    inside = g .links .small cur;
   }
 
   -- a node stays, and prev's link is right already
@@ -57,6 +63,8 @@ module _ {whole t : Tables} {prev at-prev cur : ℕ} where
         left = g .left ∙ ap (storesAlong t prev) (kept-in h t cur z m) ∙ along-same t prev cur (keptFrom h t (next t cur)) e;
         ends = g .ends;
         as-it-stands = refl;
+        links = g .links;
+        inside = g .links .small cur;
       }
 
   -- or it is stored
@@ -72,12 +80,15 @@ module _ {whole t : Tables} {prev at-prev cur : ℕ} where
       let p = taking-next h g z m d in
       let w = g .going .stands in
       let off = kept-off h t prev (next t cur) (prev-behind w z) in
+      let same : nodeCount (setLink t prev cur) ≡ nodeCount t = same-node-count t (setLink t prev cur) (put-link-length (t .nodes) prev cur) in
       record {
         going = going-keep whole t prev cur h (g .going) z m;
         left = others-left t (g .ends) p ∙ sym (along-off prev t cur cur (keptFrom h t (next t cur)) (prev-not-cur w z) off)
             ∙ ap (storesAlong (setLink t prev cur) cur) (sym (kept-stored w z) ∙ ap (keptFrom h (setLink t prev cur)) (stored-next w z cur));
         ends = still-ends t (g .ends) p;
         as-it-stands = sym (stored-next w z cur);
+        links = record { few = rw same (g .links .few); small = λ b. rw same (link-put-at-most (t .nodes) prev b cur (nodeCount t) (g .inside) (g .links .small b)) };
+        inside = rw same (g .links .small cur);
       }
 
   -- at the end of the list

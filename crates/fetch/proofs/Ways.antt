@@ -18,11 +18,15 @@ use Rattle.rules.proofs.Laws.Shape.{is-sound}
 use Rattle.rules.proofs.Rules.Reasons.{fetch-none}
 use Rattle.nodesets.specs.Set.{has, members}
 use Rattle.reach.specs.FreeSet.{IsFreeSet}
+use Rattle.reach.specs.Walks.{Links}
+use Rattle.reach.proofs.Used.{sound-named}
 use Rattle.rules.proofs.Laws.NodesAlone.{ends-alone, taken-out-alone}
 
 -- ---- taking out
-pub list-ends : (nodes seats : List ℕ) → sound (tables nodes seats) ≡ true → ListEnds (tables nodes [])
-list-ends nodes seats ok = ends-alone (nodeCountOf nodes) nodes seats (linkWord nodes 0) ∙ is-sound (tables nodes seats) ok .ends
+pub out-asks : (nodes seats : List ℕ) → sound (tables nodes seats) ≡ true → ListEnds (tables nodes []) × Links nodes
+out-asks nodes seats ok =
+    let w = is-sound (tables nodes seats) ok in
+    (ends-alone (nodeCountOf nodes) nodes seats (linkWord nodes 0) ∙ w .ends, sound-named (tables nodes seats) w .links)
 
 -- ---- free count
 pub count-read : (ws : List ℕ) (t : Tables) (c r : ℕ) → r ≡ members ws 256 → IsFreeSet ws t c → c ≡ seatCount t → r ≡ countFree t

@@ -9,6 +9,7 @@ ghost use Rattle.rules.specs.Comparison.{claim};
 ghost use Rattle.rules.specs.Shape.{sound};
 ghost use Rattle.rules.specs.Reach.{countFree};
 ghost use Rattle.rules.specs.Stores.{store, stores, ListEnds};
+ghost use Rattle.reach.specs.Walks.{Links};
 ghost use Rattle.rules.specs.Fetch.{takenOut, writeClaim, enterAtHead, takeNode, fetched, fetchAgain, fetch as fetchRule};
 
 // How many nodes are free, every seat counted: no seat has the number of seats.
@@ -66,6 +67,7 @@ fn store_link(nodes: &mut [u32], whose: u32, value: u32)
 // Head and the unmarked listed nodes then link to the next unmarked one. `link` is prev's link as it stands.
 fn take_out(nodes: &mut [u32])
     requires { ⌜ ListEnds (tables (now nodes) []) ⌝ }
+    requires { ⌜ Links (now nodes) ⌝ }
     ensures out { λ r. ⌜ now (nodes .exit) ≡ takenOut (tables (now (nodes .entry)) []) .nodes ⌝ }
     ensures none_left { λ r. ⌜ stores (tables (now (nodes .exit)) []) ≡ [] ⌝ }
 {
@@ -74,8 +76,8 @@ fn take_out(nodes: &mut [u32])
     let mut link = words::link(nodes, 0);
     let mut cur = link;
     while cur != 0 {
-        let next = words::link(nodes, cur);
-        if words::node_word(nodes, cur, words::MARK) == 1 {
+        let next = words::next_within(nodes, cur);
+        if words::node_word_within(nodes, cur, words::MARK) == 1 {
             cur = next;
             left -= 1;
         } else {

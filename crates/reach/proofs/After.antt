@@ -14,7 +14,7 @@ use Rattle.rules.specs.Reach.{met, listed, free}
 use Rattle.rules.specs.Fetch.{keptFrom, kept, linkThrough, takenOut}
 use Rattle.rules.proofs.Ground.Logic.{either, or-left, or-right, or-case, or-neither, neither, clash, not-of}
 use Rattle.rules.proofs.Ground.Pigeonhole.{Off, off-none, off-more}
-use Rattle.rules.proofs.Laws.Words.{put-link-length, same-node-count, same-seat-count, link-put-same, link-put-other}
+use Rattle.rules.proofs.Laws.Words.{put-link-length, same-node-count, same-seat-count, link-put-same, link-put-other, link-put-at-most}
 use Rattle.rules.proofs.Laws.Shape.{Sound}
 use Rattle.rules.proofs.Laws.Kept.{kept-end, kept-in, kept-out, kept-away, kept-off, at-end, prev-not-cur, prev-behind}
 use Rattle.nodesets.specs.Set.{has, none, add}
@@ -113,22 +113,18 @@ pub record Sized (t : Tables) (n : ℕ) : Type 0 where
   pub long : length (t .nodes) ≡ beforeNodes + nodeWidth * n
   pub small : (b : ℕ) → link t b ≤ n
 
-sized-put : (t : Tables) (p v n : ℕ) → Sized t n → p ≤ n → v ≤ n → Sized (setLink t p v) n
-sized-put t p v n s h w =
+sized-put : (t : Tables) (p v n : ℕ) → Sized t n → v ≤ n → Sized (setLink t p v) n
+sized-put t p v n s w =
     record {
       long = put-link-length (t .nodes) p v ∙ s .long;
-      small = λ b. ⊎-elim
-          (λ e. let q : p ≡ b = eqb-true p b e in rw (← q, link-put-same (t .nodes) p v (omega (arith, s .long))) w)
-          (λ e. rw (link-put-other (t .nodes) p b v (eqb-false p b e)) (s .small b))
-          (either (p is b));
+      small = λ b. link-put-at-most (t .nodes) p b v n w (s .small b);
     }
 
-sized-through : (ks : List ℕ) (t : Tables) (p n : ℕ) → Sized t n → p ≤ n → Within ks n → Sized (linkThrough t p ks) n
+sized-through : (ks : List ℕ) (t : Tables) (p n : ℕ) → Sized t n → Within ks n → Sized (linkThrough t p ks) n
 unfolding linkThrough Within
-sized-through [] t p n s h w = sized-put t p 0 n s h (omega arith)
-sized-through (a ∷ ks) t p n s h w =
-    let i = w a (in-head a ks) .1 in
-    sized-through ks (setLink t p a) a n (sized-put t p a n s h i) i (within-tail a n ks w)
+sized-through [] t p n s w = sized-put t p 0 n s (omega arith)
+sized-through (a ∷ ks) t p n s w =
+    sized-through ks (setLink t p a) a n (sized-put t p a n s (w a (in-head a ks) .1)) (within-tail a n ks w)
 
 -- ---- the list from p on, once it is relinked, is the unmarked nodes met from a
 relinked-end : (h g : ℕ) (whole t : Tables) (p a n x : ℕ) → Sized t n → p ≤ n → Going whole t h p a → a ≡ 0 → met g whole (link whole p) x ≡ isIn (keptFrom h t a) x
@@ -157,7 +153,7 @@ relinked-is-kept (suc h) (suc g) whole t p a n x s l b o w =
     ap (λ (v : Tables). link v p) (sym (k .rest)) ∙ through-other (keptFrom h u (next t a)) u a p (λ q. prev-not-cur (w .stands) z (sym q)) gone
     ∙ link-put-same (t .nodes) p a (omega (arith, s .long)) in
     rw first (met-next g whole a x z
-    ∙ ap (λ (c : Bool). a is x || c) (relinked-is-kept h g whole u a (next t a) n x (sized-put t p a n s l b) b (s .small a) (omega arith) k ∙ ap (λ (ks : List ℕ). isIn ks x) same)
+    ∙ ap (λ (c : Bool). a is x || c) (relinked-is-kept h g whole u a (next t a) n x (sized-put t p a n s b) b (s .small a) (omega arith) k ∙ ap (λ (ks : List ℕ). isIn ks x) same)
     ∙ sym (ap (λ (ks : List ℕ). isIn ks x) (kept-in h t a z m) ∙ in-more a x (keptFrom h t (next t a)))))
     (either (marked t a)))
     (either (a is 0))
@@ -230,7 +226,7 @@ module _ (t : Tables) (w : Sound t) where
 
   after-sized : Sized (takenOut t) (nodeCount t)
   unfolding takenOut
-  after-sized = sized-through (kept t) t 0 (nodeCount t) sized (omega arith) kept-within
+  after-sized = sized-through (kept t) t 0 (nodeCount t) sized kept-within
 
   after-seats : takenOut t .seats ≡ t .seats
   unfolding takenOut

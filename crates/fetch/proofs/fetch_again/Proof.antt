@@ -1,4 +1,4 @@
-use Rattle.fetch.proofs.Ways.{list-ends, again-none, again-taken}
+use Rattle.fetch.proofs.Ways.{out-asks, again-none, again-taken}
 use borrow.Author.Needs.{needs}
 use Rattle.fetch.proofs.fetch_again.Statement.{statement}
 use Rattle.fetch.proofs.fetch_again.Tie as tie
@@ -16,7 +16,7 @@ returns : tie.Need-returns
 returns c = search again-none
 
 take-out-requires : tie.Need-take-out-requires
-take-out-requires c κs = search list-ends
+take-out-requires c κs = search out-asks
 
 take-node-requires : tie.Need-take-node-requires
 take-node-requires c κs = search needs

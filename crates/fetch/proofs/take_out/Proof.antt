@@ -2,18 +2,13 @@ use borrow.Author.Needs.{needs}
 use Rattle.fetch.proofs.Taking.{Taking, taking-start, taking-left, taking-less, read-skip, read-on, read-stored, read-next, read-last, read-ended, read-end}
 use Rattle.rules.specs.Fetch.{takenOut}
 use Rattle.rules.specs.Tables.{tables}
+use native.Mathlib.Omega.{arith}
 use lib.ListN.{length}
 use mathlib.Core.List.{[]}
 use mathlib.Core.Path.{_≡_, refl, ap, _∙_}
 use mathlib.Core.Logic.{⊎-elim}
 use Rattle.fetch.proofs.take_out.Statement.{statement}
 use Rattle.fetch.proofs.take_out.Tie as tie
-use Rattle.fetch.proofs.take_out.Reads as reads
-use Rattle.fetch.proofs.take_out.Lts as lts
-use Rattle.fetch.proofs.store_link.Reads as store-link-reads
-use Rattle.words.proofs.link.Reads as link-reads
-use Rattle.words.proofs.node_count.Reads as node-count-reads
-use Rattle.words.proofs.node_word.Reads as node-word-reads
 
 abbrev Inv-loop : tie.InvT-loop
 Inv-loop nodes₀ left₀ prev₀ link₀ cur₀ nodes left prev link cur = (length nodes ≡ length nodes₀) × Taking (takenOut (tables nodes₀ [])) (tables nodes []) left prev link cur
@@ -21,75 +16,58 @@ Inv-loop nodes₀ left₀ prev₀ link₀ cur₀ nodes left prev link cur = (len
 abbrev μ-loop : tie.MeasureT-loop
 μ-loop nodes₀ left₀ prev₀ link₀ cur₀ nodes left prev link cur = left
 
--- src/lib.rt:72:9
 node-count-requires : tie.Need-node-count-requires Inv-loop μ-loop
 node-count-requires c κs = search needs
 
--- src/lib.rt:74:9
 link-requires : tie.Need-link-requires Inv-loop μ-loop
 link-requires c κs = search needs
 
--- src/lib.rt:76:5
 loop-holds : tie.Need-loop-holds Inv-loop μ-loop
 loop-holds c = (refl, search taking-start)
 
--- src/lib.rt:77:13
-link-requires-2 : tie.Need-link-requires-2 Inv-loop μ-loop
-link-requires-2 c κs = search needs
+next-within-requires : tie.Need-next-within-requires Inv-loop μ-loop
+next-within-requires c κs = (c .before .loop-test .taken, c .before .before .loop .inv .1 .inside)
 
--- src/lib.rt:78:12
-node-word-requires : tie.Need-node-word-requires Inv-loop μ-loop
-node-word-requires c κs = search needs
+node-word-within-requires : tie.Need-node-word-within-requires Inv-loop μ-loop
+node-word-within-requires c κs = (c .before .before .before .loop-test .taken, (c .before .before .before .before .loop .inv .1 .inside, omega arith))
 
--- src/lib.rt:80:13
 sub-left : tie.Need-sub-left Inv-loop μ-loop
 sub-left c = search taking-left
 
--- src/lib.rt:76:5
 loop-less : tie.Need-loop-less Inv-loop μ-loop
 loop-less c = search taking-less
 
--- src/lib.rt:76:5
 loop-again : tie.Need-loop-again Inv-loop μ-loop
-loop-again c = (search needs, read-skip (c .before .before .before .before .before .before .loop .inv .1) (c .before .before .before .before .before .loop-test .taken) (c .before .before .before .link2 .ensures) (c .before .node-word .ensures) (c .if1 .taken))
+loop-again c = (search needs, read-skip (c .before .before .before .before .before .before .loop .inv .1) (c .before .before .before .before .before .loop-test .taken) (c .before .before .before .next-within .ensures) (c .before .node-word-within .ensures) (c .if1 .taken))
 
--- src/lib.rt:83:17
 store-link-requires : tie.Need-store-link-requires Inv-loop μ-loop
-store-link-requires c κs = read-next (c .before .before .before .before .before .before .before .before .loop .inv .1) (c .before .before .before .before .before .before .before .loop-test .taken) (c .before .before .before .before .before .link2 .ensures) (c .before .before .before .node-word .ensures) (c .before .before .if1 .left) (c .before .if2 .taken)
+store-link-requires c κs = read-next (c .before .before .before .before .before .before .before .before .loop .inv .1) (c .before .before .before .before .before .before .before .loop-test .taken) (c .before .before .before .before .before .next-within .ensures) (c .before .before .before .node-word-within .ensures) (c .before .before .if1 .left) (c .before .if2 .taken)
 
--- src/lib.rt:88:13
 sub-left-2 : tie.Need-sub-left-2 Inv-loop μ-loop
 sub-left-2 c = search taking-left
 
--- src/lib.rt:76:5
 loop-less-2 : tie.Need-loop-less-2 Inv-loop μ-loop
 loop-less-2 c = search taking-less
 
--- src/lib.rt:76:5
 loop-again-2 : tie.Need-loop-again-2 Inv-loop μ-loop
 loop-again-2 c =
     ⊎-elim
-    (λ w. (ap length (w .5) ∙ w .2 .kept .0 ∙ c .before .before .before .before .before .before .before .loop .inv .0, read-stored (c .before .before .before .before .before .before .before .loop .inv .1) (c .before .before .before .before .before .before .loop-test .taken) (c .before .before .before .before .link2 .ensures) (c .before .before .node-word .ensures) (c .before .if1 .left) (w .0 .taken) (w .5 ∙ w .2 .ensures .0)))
-    (λ w. (ap length (w .1) ∙ c .before .before .before .before .before .before .before .loop .inv .0, read-on (c .before .before .before .before .before .before .before .loop .inv .1) (c .before .before .before .before .before .before .loop-test .taken) (c .before .before .before .before .link2 .ensures) (c .before .before .node-word .ensures) (c .before .if1 .left) (w .0 .left) (w .1)))
+    (λ w. (ap length (w .5) ∙ w .2 .kept .0 ∙ c .before .before .before .before .before .before .before .loop .inv .0, read-stored (c .before .before .before .before .before .before .before .loop .inv .1) (c .before .before .before .before .before .before .loop-test .taken) (c .before .before .before .before .next-within .ensures) (c .before .before .node-word-within .ensures) (c .before .if1 .left) (w .0 .taken) (w .5 ∙ w .2 .ensures .0)))
+    (λ w. (ap length (w .1) ∙ c .before .before .before .before .before .before .before .loop .inv .0, read-on (c .before .before .before .before .before .before .before .loop .inv .1) (c .before .before .before .before .before .before .loop-test .taken) (c .before .before .before .before .next-within .ensures) (c .before .before .node-word-within .ensures) (c .before .if1 .left) (w .0 .left) (w .1)))
     (c .if2 .came)
 
--- src/lib.rt:92:9
 store-link-requires-2 : tie.Need-store-link-requires-2 Inv-loop μ-loop
 store-link-requires-2 c κs = read-last (c .before .before .before .loop .inv .1) (c .before .before .loop-test .left) (c .before .if3 .taken)
 
--- src/lib.rt:67:1
 same-length : tie.Need-same-length Inv-loop μ-loop
 same-length c = search needs
 
--- src/lib.rt:67:1
 returns : tie.Need-returns Inv-loop μ-loop
 returns c = read-end (c .before .before .before .before .before .before .loop .inv .1) (c .before .before .before .before .before .loop-test .left) (c .before .before .before .before .if3 .taken) (c .before .before .store-link2 .ensures .0) (c .before .before .store-link2 .ensures .1)
 
--- src/lib.rt:67:1
 same-length-2 : tie.Need-same-length-2 Inv-loop μ-loop
 same-length-2 c = search needs
 
--- src/lib.rt:67:1
 returns-2 : tie.Need-returns-2 Inv-loop μ-loop
 returns-2 c = read-ended (c .before .before .loop .inv .1) (c .before .loop-test .left) (c .if3 .left)
 
@@ -102,8 +80,8 @@ take-out-spec =
     node-count-requires
     link-requires
     loop-holds
-    link-requires-2
-    node-word-requires
+    next-within-requires
+    node-word-within-requires
     sub-left
     loop-less
     loop-again

@@ -41,7 +41,18 @@ pub same-seat-count : (t u : Tables) → length (u .seats) ≡ length (t .seats)
 unfolding seatCountOf
 same-seat-count t u e = rw e
 
--- ---- a word that is not 0 stands in the table
+-- ---- a word after a store to any
+-- no more than a bound that both keep, whether the table has it or not
+put-at-most : (l : List ℕ) (i k v most : ℕ) → v ≤ most → getD l k 0 ≤ most → getD (set l i v) k 0 ≤ most
+put-at-most l i k v most h j =
+    if-same i k
+    (λ e. elim (decLt i (length l)) [
+      | yes q ↦ rw (← e, getD-set-same l i v 0 q) h
+      | no q ↦ rw (← e, List·getD-eq-default (set l i v) 0 {n = i} (let r = length-set l i v in omega arith)) (omega arith)
+    ])
+    (λ d. rw (getD-set-other l i k v 0 (λ e. d (sym e))) j)
+
+-- a word that is not 0 stands in the table
 put-there : (l : List ℕ) (i v : ℕ) → getD l i 0 ≢ 0 → getD (set l i v) i 0 ≡ v
 put-there l i v d = elim (decLt i (length l)) [
   | yes h ↦ getD-set-same l i v 0 h
@@ -73,14 +84,7 @@ pub node-put-at-most : (l : List ℕ) (a b f v most : ℕ) → f < nodeWidth →
 unfolding nodeWord putNode
 node-put-at-most l zero b f v most h i j = j
 node-put-at-most l (suc m) zero f v most h i j = j
-node-put-at-most l (suc m) (suc k) f v most h i j =
-    let at = beforeNodes + nodeWidth * m + f in
-    if-same m k
-    (λ e. elim (decLt at (length l)) [
-      | yes q ↦ rw (← e, getD-set-same l at v 0 q) i
-      | no q ↦ rw (← e, List·getD-eq-default (set l at v) 0 {n = at} (let r = length-set l at v in omega arith)) (omega arith)
-    ])
-    (λ d. rw (getD-set-other l at (beforeNodes + nodeWidth * k + f) v 0 (λ e. d (omega arith))) j)
+node-put-at-most l (suc m) (suc k) f v most h i j = put-at-most l (beforeNodes + nodeWidth * m + f) (beforeNodes + nodeWidth * k + f) v most i j
 
 -- node 0 has only zeros
 pub node-zero : (l : List ℕ) (f : ℕ) → nodeWord l 0 f ≡ 0
@@ -122,6 +126,15 @@ pub link-put-there : (l : List ℕ) (a v : ℕ) → linkWord l a ≢ 0 → linkW
 unfolding linkWord putLink nodeWord putNode
 link-put-there l zero v d = put-there l headAt v d
 link-put-there l (suc m) v d = put-there l (beforeNodes + nodeWidth * m + nextAt) v d
+
+-- a store keeps a bound on every link
+pub link-put-at-most : (l : List ℕ) (a b v most : ℕ) → v ≤ most → linkWord l b ≤ most → linkWord (putLink l a v) b ≤ most
+unfolding linkWord putLink nodeWord putNode
+link-put-at-most l zero zero v most h j = put-at-most l headAt headAt v most h j
+link-put-at-most l zero (suc k) v most h j = put-at-most l headAt (beforeNodes + nodeWidth * k + nextAt) v most h j
+link-put-at-most l (suc m) zero v most h j = put-at-most l (beforeNodes + nodeWidth * m + nextAt) headAt v most h j
+link-put-at-most l (suc m) (suc k) v most h j =
+    put-at-most l (beforeNodes + nodeWidth * m + nextAt) (beforeNodes + nodeWidth * k + nextAt) v most h j
 
 pub link-put-other : (l : List ℕ) (a b v : ℕ) → a ≢ b → linkWord (putLink l a v) b ≡ linkWord l b
 unfolding linkWord putLink nodeWord putNode
