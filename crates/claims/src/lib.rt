@@ -5,7 +5,7 @@ ghost use mathlib.Core.Path.{_≡_};
 ghost use mathlib.Core.Bool.{true};
 ghost use lib.ListN.{length};
 ghost use Prim.Native.Nat.{_<_};
-ghost use Rattle.rules.specs.Tables.{tables, seatCountOf, zeros};
+ghost use Rattle.rules.specs.Tables.{tables, seatCountOf, phase, zeros};
 ghost use Rattle.rules.specs.Comparison.{claim};
 ghost use Rattle.rules.specs.Shape.{sound};
 ghost use Rattle.rules.specs.Answers.{done};
@@ -47,6 +47,7 @@ pub fn clear(nodes: &mut [u32], seats: &mut [u32], title: u32) -> u32
 
 // ---- begin
 
+// of an idle seat
 fn begin_fetching(
     nodes: &mut [u32],
     seats: &mut [u32],
@@ -56,6 +57,7 @@ fn begin_fetching(
     kind: u32,
 ) -> Reply
     requires { ⌜ sound (tables (now nodes) (now seats)) ≡ true ⌝ }
+    requires { ⌜ phase (tables (now nodes) (now seats)) s ≡ 0 ⌝ }
     ensures { λ r. ⌜ done (means r) (tables (now (nodes .exit)) (now (seats .exit))) ≡ part.beginFetching (tables (now (nodes .entry)) (now (seats .entry))) s (claim start end kind) ⌝ }
 {
     let a = fetch::fetch(nodes, seats, s, start, end, kind);

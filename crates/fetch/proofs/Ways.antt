@@ -3,17 +3,18 @@ use Prim.Native.Nat.{ℕ, zero, suc, _+_, _-_, _<_}
 use mathlib.Core.Path.{_≡_, sym, ap, _∙_}
 use mathlib.Core.Bool.{true}
 use mathlib.Core.List.{List, []}
-use mathlib.Core.Logic.{_≢_}
+use mathlib.Core.Logic.{_≢_, inr}
 use native.Mathlib.Omega.{arith}
 use borrow.Author.Tests.{eq-eqb, ne-eqb}
 use Rattle.rules.specs.Notation.{_is_}
-use Rattle.rules.specs.Tables.{Tables, tables, markAt, nodeWord, linkWord, putLink, nodeCountOf, nodeCount, seatCount, head, next}
+use Rattle.rules.specs.Tables.{Tables, tables, phaseAt, ownAt, prevAt, curAt, linkWord, seatWord, putSeat, nodeCountOf, nodeCount, seatCount, phase, prev}
 use Rattle.rules.specs.Comparison.{Claim}
 use Rattle.rules.specs.Shape.{sound}
 use Rattle.rules.specs.Reach.{free, lowestFree, countFree}
 use Rattle.rules.specs.Stores.{ListEnds}
 use Rattle.rules.specs.Fetch.{takenOut, writeClaim, enterAtHead, takeNode, Fetched, fetched, fetchAgain, fetch}
 use Rattle.rules.proofs.Ground.Counting.{count-cut}
+use Rattle.rules.proofs.Laws.Words.{seat-put-field, put-seat-self}
 use Rattle.rules.proofs.Laws.Shape.{is-sound}
 use Rattle.rules.proofs.Rules.Reasons.{fetch-none}
 use Rattle.nodesets.specs.Set.{has, members}
@@ -34,6 +35,25 @@ unfolding countFree members
 count-read ws t c r p f e = p ∙ rw (← e) (count-cut (nodeCount t) 256 (λ m. has ws (m + 1)) (λ m. free t c (m + 1)) (f .few) (f .free-nodes))
 
 -- ---- what is stored
+-- no prev is stored where there is none
+pub entered : (nodes seats seats₁ seats₂ seats₃ : List ℕ) (s a first : ℕ) → prev (tables [] seats) s ≡ 0 → first ≡ linkWord nodes 0
+    → seats₁ ≡ putSeat seats s phaseAt 1 → seats₂ ≡ putSeat seats₁ s ownAt a → seats₃ ≡ putSeat seats₂ s curAt first
+    → tables nodes seats₃ ≡ enterAtHead (tables nodes seats) s a
+unfolding enterAtHead
+entered nodes seats seats₁ seats₂ seats₃ s a first z p q₁ q₂ q₃ =
+    let none : seatWord (putSeat (putSeat seats s phaseAt 1) s ownAt a) s prevAt ≡ 0 =
+    seat-put-field (putSeat seats s phaseAt 1) s s ownAt prevAt a (omega arith) (omega arith) (omega arith)
+    ∙ seat-put-field seats s s phaseAt prevAt 1 (omega arith) (omega arith) (omega arith) ∙ z in
+    rw (put-seat-self (putSeat (putSeat seats s phaseAt 1) s ownAt a) s prevAt 0 none, ← p, ← q₁, ← q₂, ← q₃)
+
+-- who fetches has none
+module _ (nodes seats : List ℕ) (s : ℕ) (ok : sound (tables nodes seats) ≡ true) where
+  pub idle-no-prev : phase (tables nodes seats) s ≡ 0 → prev (tables [] seats) s ≡ 0
+  idle-no-prev e = is-sound (tables nodes seats) ok .seat s .idle e prevAt (omega arith)
+
+  pub withdrawn-no-prev : phase (tables nodes seats) s ≡ 6 → prev (tables [] seats) s ≡ 0
+  withdrawn-no-prev e = is-sound (tables nodes seats) ok .seat s .resting (inr e) .0
+
 pub taken : (nodes nodes′ seats seats′ : List ℕ) (s a : ℕ) (c : Claim) → tables nodes′ seats′ ≡ enterAtHead (tables nodes′ seats) s a → nodes′ ≡ writeClaim (tables nodes []) a c .nodes → tables nodes′ seats′ ≡ takeNode (tables nodes seats) s a c
 unfolding takeNode writeClaim
 taken nodes nodes′ seats seats′ s a c p q = p ∙ ap (λ (l : List ℕ). enterAtHead (tables l seats) s a) q

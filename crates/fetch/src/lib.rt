@@ -4,7 +4,7 @@ ghost use mathlib.Core.Path.{_≡_};
 ghost use mathlib.Core.Bool.{true};
 ghost use mathlib.Core.List.{[], _∷_};
 ghost use lib.ListN.{drop};
-ghost use Rattle.rules.specs.Tables.{tables, putLink};
+ghost use Rattle.rules.specs.Tables.{tables, prev, putLink};
 ghost use Rattle.rules.specs.Comparison.{claim};
 ghost use Rattle.rules.specs.Shape.{sound};
 ghost use Rattle.rules.specs.Reach.{countFree};
@@ -34,17 +34,19 @@ fn write_claim(nodes: &mut [u32], a: u32, start: u32, end: u32, kind: u32)
     words::put_node(nodes, a, words::MARK, 0);
 }
 
+// A seat that fetches is idle or has withdrawn, and has no prev: that word is 0 already, and is not stored.
 fn enter_at_head(nodes: &[u32], seats: &mut [u32], s: u32, a: u32)
+    requires { ⌜ prev (tables [] (now seats)) s ≡ 0 ⌝ }
     ensures { λ r. ⌜ tables (now (nodes .entry)) (now (seats .exit)) ≡ enterAtHead (tables (now (nodes .entry)) (now (seats .entry))) s a ⌝ }
 {
     let head = words::link(nodes, 0);
     words::put_seat(seats, s, words::PHASE, 1);
     words::put_seat(seats, s, words::OWN, a);
-    words::put_seat(seats, s, words::PREV, 0);
     words::put_seat(seats, s, words::CUR, head);
 }
 
 fn take_node(nodes: &mut [u32], seats: &mut [u32], s: u32, a: u32, start: u32, end: u32, kind: u32)
+    requires { ⌜ prev (tables [] (now seats)) s ≡ 0 ⌝ }
     ensures { λ r. ⌜ tables (now (nodes .exit)) (now (seats .exit)) ≡ takeNode (tables (now (nodes .entry)) (now (seats .entry))) s a (claim start end kind) ⌝ }
 {
     write_claim(nodes, a, start, end, kind);
@@ -99,6 +101,7 @@ fn take_out(nodes: &mut [u32])
 
 fn fetch_again(nodes: &mut [u32], seats: &mut [u32], s: u32, start: u32, end: u32, kind: u32) -> u32
     requires { ⌜ sound (tables (now nodes) (now seats)) ≡ true ⌝ }
+    requires { ⌜ prev (tables [] (now seats)) s ≡ 0 ⌝ }
     ensures { λ r. ⌜ fetched r (tables (now (nodes .exit)) (now (seats .exit))) ≡ fetchAgain (tables (now (nodes .entry)) (now (seats .entry))) s (claim start end kind) ⌝ }
 {
     let a = reach::lowest_free_after(nodes, seats, s);
@@ -113,6 +116,7 @@ fn fetch_again(nodes: &mut [u32], seats: &mut [u32], s: u32, start: u32, end: u3
 // The node taken for seat s, or 0 if none is free.
 pub fn fetch(nodes: &mut [u32], seats: &mut [u32], s: u32, start: u32, end: u32, kind: u32) -> u32
     requires { ⌜ sound (tables (now nodes) (now seats)) ≡ true ⌝ }
+    requires { ⌜ prev (tables [] (now seats)) s ≡ 0 ⌝ }
     ensures { λ r. ⌜ fetched r (tables (now (nodes .exit)) (now (seats .exit))) ≡ fetchRule (tables (now (nodes .entry)) (now (seats .entry))) s (claim start end kind) ⌝ }
 {
     let a = reach::lowest_free(nodes, seats, s);

@@ -2,7 +2,7 @@
 // `run::run` test the tables and come here.
 ghost use mathlib.Core.Path.{_≡_};
 ghost use mathlib.Core.Bool.{true};
-ghost use Rattle.rules.specs.Tables.{tables};
+ghost use Rattle.rules.specs.Tables.{tables, phase};
 ghost use Rattle.rules.specs.Shape.{sound};
 ghost use Rattle.rules.specs.Answers.{done};
 ghost use Rattle.rules.specs.Means.{means};
@@ -14,6 +14,7 @@ use rules::Reply;
 // phase 6: fetch again with the same claim
 fn step_withdrawn(nodes: &mut [u32], seats: &mut [u32], s: u32) -> Reply
     requires { ⌜ sound (tables (now nodes) (now seats)) ≡ true ⌝ }
+    requires { ⌜ phase (tables (now nodes) (now seats)) s ≡ 6 ⌝ }
     ensures { λ r. ⌜ done (means r) (tables (now (nodes .exit)) (now (seats .exit))) ≡ rule.withdrawn (tables (now (nodes .entry)) (now (seats .entry))) s ⌝ }
 {
     let own = words::seat_word(seats, s, words::OWN);

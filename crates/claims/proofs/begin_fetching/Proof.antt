@@ -1,11 +1,12 @@
 -- `claims::begin_fetching` meets its promise.
 use Rattle.claims.proofs.Ways.{begin-none, begin-node}
+use Rattle.fetch.proofs.Ways.{idle-no-prev}
 use borrow.Author.Needs.{needs}
 use Rattle.claims.proofs.begin_fetching.Statement.{statement}
 use Rattle.claims.proofs.begin_fetching.Tie as tie
 
 fetch-requires : tie.Need-fetch-requires
-fetch-requires c κs = search needs
+fetch-requires c κs = search idle-no-prev
 
 same-length : tie.Need-same-length
 same-length c = search needs

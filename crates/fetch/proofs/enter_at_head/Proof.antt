@@ -1,4 +1,4 @@
-use Rattle.rules.specs.Fetch.{enterAtHead}
+use Rattle.fetch.proofs.Ways.{entered}
 use borrow.Author.Needs.{needs}
 use Rattle.fetch.proofs.enter_at_head.Statement.{statement}
 use Rattle.fetch.proofs.enter_at_head.Tie as tie
@@ -15,15 +15,11 @@ put-seat-requires-2 c κs = search needs
 put-seat-requires-3 : tie.Need-put-seat-requires-3
 put-seat-requires-3 c κs = search needs
 
-put-seat-requires-4 : tie.Need-put-seat-requires-4
-put-seat-requires-4 c κs = search needs
-
 same-length : tie.Need-same-length
 same-length c = search needs
 
 returns : tie.Need-returns
-unfolding enterAtHead
-returns c = cc
+returns c = search entered
 
 pub enter-at-head-spec : {M : Type 1} → statement M
 enter-at-head-spec =
@@ -33,6 +29,5 @@ enter-at-head-spec =
     put-seat-requires
     put-seat-requires-2
     put-seat-requires-3
-    put-seat-requires-4
     same-length
     returns)

@@ -1,5 +1,6 @@
 -- `phases::step_withdrawn` meets its promise.
 use Rattle.phases.proofs.Ways.{refetch-none, refetch-node}
+use Rattle.fetch.proofs.Ways.{withdrawn-no-prev}
 use borrow.Author.Needs.{needs}
 use Rattle.phases.proofs.step_withdrawn.Statement.{statement}
 use Rattle.phases.proofs.step_withdrawn.Tie as tie
@@ -17,7 +18,7 @@ node-word-requires-3 : tie.Need-node-word-requires-3
 node-word-requires-3 c κs = search needs
 
 fetch-requires : tie.Need-fetch-requires
-fetch-requires c κs = search needs
+fetch-requires c κs = search withdrawn-no-prev
 
 same-length : tie.Need-same-length
 same-length c = search needs

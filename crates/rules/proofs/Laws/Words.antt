@@ -288,6 +288,10 @@ unfolding putLink putNode linkWord nodeWord
 put-link-self l zero = set-getD l headAt 0
 put-link-self l (suc m) = set-getD l (beforeNodes + nodeWidth * m + nextAt) 0
 
+pub put-seat-self : (l : List ℕ) (s f v : ℕ) → seatWord l s f ≡ v → putSeat l s f v ≡ l
+unfolding putSeat seatWord
+put-seat-self l s f v e = ap (set l (seatWidth * s + f)) (sym e) ∙ set-getD l (seatWidth * s + f) 0
+
 pub same-link : (t : Tables) (a v : ℕ) → link t a ≡ v → setLink t a v ≡ t
 same-link t a v e = ap (λ l. tables l (t .seats)) (ap (putLink (t .nodes) a) (sym e) ∙ put-link-self (t .nodes) a)
 
