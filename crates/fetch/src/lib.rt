@@ -74,9 +74,9 @@ fn take_out(nodes: &mut [u32])
     ensures none_left { λ r. ⌜ stores (tables (now (nodes .exit)) []) ≡ [] ⌝ }
 {
     let mut left = words::node_count(nodes);
-    let mut prev: u32 = 0;
     let mut link = words::link(nodes, 0);
     let mut cur = link;
+    let mut prev: u32 = 0;
     while cur != 0 {
         let next = words::next_within(nodes, cur);
         if words::node_word_within(nodes, cur, words::MARK) == 1 {

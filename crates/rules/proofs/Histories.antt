@@ -1,13 +1,15 @@
 -- The small histories of document 01, H1 to H11, as one statement over the group, proved by computing with the rules; beside them the
--- examples of requests (i) to (iii) of document 02, and two of our own, for the faults that H1 to H11 do not tell apart.
+-- examples of requests (i) to (iv) of document 02, and two of our own, for the faults that H1 to H11 do not tell apart.
 use Prim.Native.Nat.{ℕ}
 use mathlib.Core.Path.{_≡_, refl}
 use mathlib.Core.Bool.{true, false}
-use mathlib.Core.List.{List, [], _∷_, map}
+use mathlib.Core.List.{List, [], _∷_, _++_, map}
+use lib.ListN.{replicate}
 use Rattle.rules.specs.Tables.{Tables, tables, fresh, readers, writers, title, head, own}
 use Rattle.rules.specs.Comparison.{claim}
 use Rattle.rules.specs.Shape.{sound}
 use Rattle.rules.specs.Reach.{listOf}
+use Rattle.rules.specs.Stores.{store, stores}
 use Rattle.rules.specs.Answers.{Answer, node, out, on, wait, held, back, refused, done}
 use Rattle.rules.specs.Calls.{clear}
 use Rattle.rules.specs.FreeCount.{counted, freeCount}
@@ -215,6 +217,35 @@ DamagedTitle =
 pub title-has-an-end : BeyondTitle × TitleOnLineOne × ClearedWith × DamagedTitle
 unfolding rules
 title-has-an-end = ((refl, refl), (refl, refl, refl, refl, refl), (refl, refl, refl, refl, refl), (refl, refl, refl, refl, refl))
+
+-- ---- 02 (iv): four writers hold, one behind the other, and every node is listed. Some are released; then the stores that take their nodes out, of the
+-- head's link (0) and of nodes: one for each run of released nodes, wherever it lies. Before, each that stays was stored, and the head
+abbrev fourHold : List Call
+fourHold =
+    b 0 0 10 2 ∷ (replicate 2 (s 0) ++ (b 1 10 20 2 ∷ (replicate 4 (s 1) ++ (b 2 20 30 2 ∷ (replicate 6 (s 2) ++ (b 3 30 40 2 ∷ replicate 8 (s 3)))))))
+
+abbrev released : List Call → Tables
+released calls = afterAll (afterAll (cleared 4 4) fourHold) calls
+
+abbrev pub FewerWrites : Type 0
+FewerWrites =
+    (listOf (released []) ≡ 1 ∷ 2 ∷ 3 ∷ 4 ∷ [])
+    × (stores (released []) ≡ [])
+    × (stores (released (r 0 ∷ r 2 ∷ [])) ≡ store 0 2 ∷ store 2 4 ∷ [])
+    × (stores (released (r 1 ∷ [])) ≡ store 1 3 ∷ [])
+    × (stores (released (r 2 ∷ r 1 ∷ [])) ≡ store 1 4 ∷ [])
+    × (stores (released (r 3 ∷ [])) ≡ store 3 0 ∷ [])
+    × (stores (released (r 0 ∷ r 1 ∷ r 2 ∷ r 3 ∷ [])) ≡ store 0 0 ∷ [])
+
+-- and what begin answers and leaves: node 1, with the two that stay on the list
+abbrev pub AnswersStay : Type 0
+AnswersStay =
+    (answers (released (r 0 ∷ r 2 ∷ [])) (b 0 50 60 2 ∷ []) ≡ node 1 ∷ [])
+    × (listOf (released (r 0 ∷ r 2 ∷ b 0 50 60 2 ∷ [])) ≡ 2 ∷ 4 ∷ [])
+
+pub fewer-writes : FewerWrites × AnswersStay
+unfolding rules
+fewer-writes = ((refl, refl, refl, refl, refl, refl, refl), (refl, refl))
 
 -- ---- ours: seat 2 waits at node 1, and nodes 1 and 2 are released. Taken out, node 2 is at no seat's own, prev or cur; but
 -- seat 2 still reaches it through node 1, so it is not free

@@ -11,10 +11,10 @@ use Rattle.fetch.proofs.take_out.Statement.{statement}
 use Rattle.fetch.proofs.take_out.Tie as tie
 
 abbrev Inv-loop : tie.InvT-loop
-Inv-loop nodes₀ left₀ prev₀ link₀ cur₀ nodes left prev link cur = (length nodes ≡ length nodes₀) × Taking (takenOut (tables nodes₀ [])) (tables nodes []) left prev link cur
+Inv-loop nodes₀ left₀ link₀ cur₀ prev₀ nodes left link cur prev = (length nodes ≡ length nodes₀) × Taking (takenOut (tables nodes₀ [])) (tables nodes []) left prev link cur
 
 abbrev μ-loop : tie.MeasureT-loop
-μ-loop nodes₀ left₀ prev₀ link₀ cur₀ nodes left prev link cur = left
+μ-loop nodes₀ left₀ link₀ cur₀ prev₀ nodes left link cur prev = left
 
 node-count-requires : tie.Need-node-count-requires Inv-loop μ-loop
 node-count-requires c κs = search needs
