@@ -9,6 +9,7 @@ mod covered;
 mod histories;
 mod layout;
 mod scripts;
+mod stores;
 mod tables;
 mod title;
 
