@@ -44,6 +44,14 @@ macro_rules! library_of {
     }};
 }
 
+/// The machines that are linked, by their names.
+#[cfg(feature = "proved")]
+pub const MACHINES: &[(&str, Library)] =
+    &[("second", library_of!(crate::library)), ("proved", library_of!(crate::proved))];
+
+#[cfg(not(feature = "proved"))]
+pub const MACHINES: &[(&str, Library)] = &[("second", library_of!(crate::library))];
+
 #[derive(Clone, Debug, PartialEq)]
 pub enum Call {
     Clear { title: u32 },
