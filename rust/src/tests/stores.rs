@@ -1,12 +1,16 @@
-//! The watcher of stores, where there is one: a volatile store is one that the compiler neither leaves out nor doubles.
+//! The watcher of stores, where there is one: a volatile store is one that the compiler neither leaves out nor doubles. And
+//! what the second machine stores when it takes nodes out, by hand.
 
+use crate::machine::{begin, fresh, Answer};
 use crate::stores::{Store, Table, Watcher};
+use crate::tests::layout::{place, END, HEAD, KIND, MARK, NEXT, NODE_WORDS, START};
+use crate::tests::LONGEST_TITLE;
 
 const NODES: [u32; 6] = [10, 11, 12, 13, 14, 15];
 const SEATS: [u32; 8] = [20, 21, 22, 23, 24, 25, 26, 27];
 
 /// A store to the node table that changes no other word.
-fn store(word: usize, value: u32, changes: bool) -> Store {
+pub fn store(word: usize, value: u32, changes: bool) -> Store {
     Store { table: Table::Nodes, word, value, changed_to: word + usize::from(changes) }
 }
 
@@ -111,5 +115,87 @@ mod where_there_is_one {
         let ended = std::process::Command::new(tests).args(["--exact", name, "--ignored"]).output().expect("it runs");
         let segmentation_fault = 11;
         assert_eq!(ended.status.signal(), Some(segmentation_fault), "{ended:?}");
+    }
+}
+
+/// The list 3 1 6 2 5 4 of six nodes, some of them marked, and two seats that are idle.
+pub fn listed_and_marked(marks: [u32; 6]) -> (Vec<u32>, Vec<u32>) {
+    let (mut nodes, seats) = fresh(6, 2, LONGEST_TITLE);
+    let mut link = HEAD;
+    for (node, mark) in [3, 1, 6, 2, 5, 4].into_iter().zip(marks) {
+        nodes[link] = node;
+        link = place(node, NEXT);
+        for (field, value) in [(START, 10 * node), (END, 10 * node + 5), (KIND, 2), (MARK, mark)] {
+            nodes[place(node, field)] = value;
+        }
+    }
+    (nodes, seats)
+}
+
+/// Marks on the list, the node that is taken, and the links that differ: of which node (0 for the head), and what it becomes.
+type TakingOut = ([u32; 6], u32, &'static [(u32, u32)]);
+
+const TAKINGS_OUT: [TakingOut; 9] = [
+    ([1, 0, 0, 0, 0, 0], 3, &[(0, 1)]),
+    ([1, 1, 1, 0, 0, 0], 1, &[(0, 2)]),
+    ([0, 0, 1, 0, 0, 0], 6, &[(1, 2)]),
+    ([0, 1, 1, 1, 0, 0], 1, &[(3, 5)]),
+    ([0, 0, 0, 0, 0, 1], 4, &[(5, 0)]),
+    ([0, 0, 0, 1, 1, 1], 2, &[(6, 0)]),
+    ([1, 0, 1, 1, 0, 1], 2, &[(0, 1), (1, 5), (5, 0)]),
+    ([0, 1, 0, 1, 0, 1], 1, &[(3, 6), (6, 5), (5, 0)]),
+    ([1, 1, 1, 1, 1, 1], 1, &[(0, 0)]),
+];
+
+pub fn link_of(node: u32) -> usize {
+    if node == 0 {
+        HEAD
+    } else {
+        place(node, NEXT)
+    }
+}
+
+#[test]
+fn taking_out_changes_the_links_that_differ() {
+    for (marks, taken, links) in TAKINGS_OUT {
+        let (mut nodes, mut seats) = listed_and_marked(marks);
+        let mut then = nodes.clone();
+        for &(node, next) in links {
+            then[link_of(node)] = next;
+        }
+        then[place(taken, START)..][..NODE_WORDS].copy_from_slice(&[7, 8, 1, 0, 0]);
+        assert_eq!(begin(&mut nodes, &mut seats, 1, 7, 8, 1), Ok(Answer::Node(taken)), "{marks:?}");
+        assert_eq!((&nodes, seats), (&then, vec![0, 0, 0, 0, 1, taken, 0, then[HEAD]]), "{marks:?}");
+    }
+}
+
+#[test]
+fn taking_out_stores_the_links_that_differ_and_no_other() {
+    for (marks, taken, links) in TAKINGS_OUT {
+        let (mut nodes, mut seats) = listed_and_marked(marks);
+        let mut watcher = match Watcher::new() {
+            Some(watcher) => watcher,
+            None => return,
+        };
+        let (_, stores) = watcher.watch(&mut nodes, &mut seats, |nodes, seats| begin(nodes, seats, 1, 7, 8, 1));
+        let elsewhere = |store: &Store| {
+            let words_of_taken = place(taken, START)..place(taken, START) + NODE_WORDS;
+            store.table == Table::Nodes && !words_of_taken.contains(&store.word)
+        };
+        let stored: Vec<Store> = stores.into_iter().filter(elsewhere).collect();
+        let due: Vec<Store> = links.iter().map(|&(node, next)| store(link_of(node), next, true)).collect();
+        assert_eq!(stored, due, "{marks:?}");
+    }
+}
+
+#[test]
+fn where_nothing_is_marked_nothing_is_taken_out_or_stored() {
+    let tables = listed_and_marked([0; 6]);
+    let (mut nodes, mut seats) = tables.clone();
+    assert_eq!(begin(&mut nodes, &mut seats, 1, 7, 8, 1), Err(8));
+    assert_eq!((&nodes, &seats), (&tables.0, &tables.1));
+    if let Some(mut watcher) = Watcher::new() {
+        let watched = watcher.watch(&mut nodes, &mut seats, |nodes, seats| begin(nodes, seats, 1, 7, 8, 1));
+        assert_eq!(watched, (Err(8), vec![]));
     }
 }
