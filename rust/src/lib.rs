@@ -13,6 +13,7 @@ pub mod reading;
 pub mod script;
 pub mod shrink;
 pub mod stores;
+pub mod storing;
 pub mod tables;
 pub mod tally;
 

@@ -2,6 +2,8 @@
 //! pages that may not be written. A store faults there; the pages are opened, the processor makes the store and stops behind
 //! it, and what it changed is noted before the pages are closed again. For Linux on x86-64; elsewhere there is no watcher.
 
+use std::fmt;
+
 #[derive(Clone, Copy, Debug, PartialEq, Eq)]
 pub enum Table {
     Nodes,
@@ -23,6 +25,18 @@ pub struct Store {
 impl Store {
     pub fn changes(&self) -> bool {
         self.changed_to > self.word
+    }
+}
+
+impl fmt::Display for Store {
+    fn fmt(&self, text: &mut fmt::Formatter) -> fmt::Result {
+        let Store { table, word, value, changed_to } = self;
+        let name = if *table == Table::Nodes { "nodes" } else { "seats" };
+        match changed_to - word {
+            0 => write!(text, "{name}[{word}] = {value} again"),
+            1 => write!(text, "{name}[{word}] = {value}"),
+            _ => write!(text, "{name}[{word}..{changed_to}] = {value} ..."),
+        }
     }
 }
 

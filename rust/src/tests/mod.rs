@@ -10,6 +10,7 @@ mod histories;
 mod layout;
 mod scripts;
 mod stores;
+mod storing;
 mod tables;
 mod title;
 
