@@ -176,14 +176,15 @@ fn wrong_store(stores: &[Store], allowed: &Allowed) -> Option<String> {
             && next == Some(&(store.word, store.value))
             && store.changed_to == store.word + 1;
         if !is_next {
-            return Some(format!("{store}, where {} was due", next.map_or("no link".to_string(), link_text)));
+            let due = next.map_or("nothing of the kind".to_string(), link_text);
+            return Some(format!("{store}, where {due} was due"));
         }
     }
-    links.next().map(|link| format!("{} was not stored", link_text(link)))
+    links.next().map(|link| format!("{} was due", link_text(link)))
 }
 
 fn link_text((word, value): &Link) -> String {
-    format!("nodes[{word}] = {value}")
+    format!("the link nodes[{word}] = {value}")
 }
 
 /// Told by who makes the calls, since the tables do not show it.

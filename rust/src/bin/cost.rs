@@ -7,6 +7,7 @@ use second::driver::{make, Call, Case, Library, MACHINES};
 use second::machine::{self, Answer, BEFORE_NODES, HEAD, MARK, NODE_WORDS, START};
 use second::random::Random;
 use second::stores::{Watcher, NOT_HERE};
+use second::storing::watched;
 use std::process::exit;
 
 const READS: u32 = 1;
@@ -129,7 +130,7 @@ impl Bench {
         self
     }
 
-    // What is marked on a full list lies behind its middle, and there are twice as many nodes as holders: no holder's node is.
+    // Of a full list only nodes behind its middle are marked. There are no holders there: of nodes there are more than twice as many.
 
     /// The node in the middle of the list is marked.
     fn one_marked(mut self) -> Bench {
@@ -260,25 +261,13 @@ fn number(argument: &str) -> u32 {
     argument.parse().expect("N, S and COUNT are numbers")
 }
 
-/// What a call is made with, beside the tables.
-fn lent_rows(case: &Case) -> Vec<u32> {
-    if let Call::Board { rows } = &case.call {
-        rows.clone()
-    } else {
-        vec![]
-    }
-}
-
-/// Makes the call once under the watcher: its stores to the tables, and those that changed a word.
-fn count_stores(library: &Library, mut case: Case) {
+/// Makes the call once under the watcher, and counts its stores to the tables and those that changed a word.
+fn count_stores(library: &Library, case: &Case) {
     let mut watcher = Watcher::new().unwrap_or_else(|| {
         eprintln!("not run: {NOT_HERE}");
         exit(2);
     });
-    let mut rows = lent_rows(&case);
-    let (_, stores) = watcher.watch(&mut case.nodes, &mut case.seats, |nodes, seats| {
-        make(library, &case.call, nodes, seats, &mut rows, &mut 0)
-    });
+    let stores = watched(&mut watcher, library, case).stores;
     println!("{} {}", stores.len(), stores.iter().filter(|store| store.changes()).count());
 }
 
@@ -295,10 +284,10 @@ fn main() {
     let case = prepare(number(&arguments[2]), number(&arguments[3]));
     if arguments[4] == "stores" {
         assert!(operation.is_some(), "the name of an operation");
-        return count_stores(&library, case);
+        return count_stores(&library, &case);
     }
     let (mut nodes, mut seats) = (case.nodes.clone(), case.seats.clone());
-    let mut rows = lent_rows(&case);
+    let mut rows = if let Call::Board { rows } = &case.call { rows.clone() } else { vec![] };
     let mut answer = 0;
     let mut covered = 0;
     for _ in 0..number(&arguments[4]) {
