@@ -44,6 +44,14 @@ macro_rules! library_of {
     }};
 }
 
+/// The machines that are linked, by their names.
+#[cfg(feature = "proved")]
+pub const MACHINES: &[(&str, Library)] =
+    &[("second", library_of!(crate::library)), ("proved", library_of!(crate::proved))];
+
+#[cfg(not(feature = "proved"))]
+pub const MACHINES: &[(&str, Library)] = &[("second", library_of!(crate::library))];
+
 #[derive(Clone, Debug, PartialEq)]
 pub enum Call {
     Clear { title: u32 },
@@ -155,20 +163,9 @@ impl Driver {
         Ok((ours.nodes.words().to_vec(), ours.seats.words().to_vec()))
     }
 
-    /// The rows of a generated script as calls, with run, board, free count and rarely clear in between.
     pub fn history(&mut self, random: &mut Random) -> Result<(), Difference> {
-        let script = read_script(&generate::good(random)).expect("a good script");
-        let (mut nodes, mut seats) = machine::fresh(script.nodes, script.seats, script.title);
-        for &row in &script.rows[..script.count as usize] {
-            let call = match (random.below(1000), row) {
-                (0, _) => Call::Clear { title: random.pick(&[script.title, script.title, u32::MAX, 1, 0]) },
-                (1..=50, _) => some_run(random, script.seats),
-                (51..=150, _) => some_board(random),
-                (151..=250, _) => Call::FreeCount,
-                (_, [BEGIN, seat, start, end, kind]) => Call::Begin { seat, start, end, kind },
-                (_, [STEP, seat, ..]) => Call::Step { seat },
-                (_, [_, seat, ..]) => Call::Release { seat },
-            };
+        let ((mut nodes, mut seats), calls) = some_history(random);
+        for call in calls {
             (nodes, seats) = self.compare(Case { nodes, seats, call })?;
         }
         Ok(())
@@ -213,6 +210,22 @@ impl Driver {
         }
         Ok(())
     }
+}
+
+/// Fresh tables, and the rows of a generated script as calls on them, with run, board, free count and rarely clear between.
+pub fn some_history(random: &mut Random) -> (Tables, Vec<Call>) {
+    let script = read_script(&generate::good(random)).expect("a good script");
+    let calls = script.rows[..script.count as usize].iter().map(|&row| match (random.below(1000), row) {
+        (0, _) => Call::Clear { title: random.pick(&[script.title, script.title, u32::MAX, 1, 0]) },
+        (1..=50, _) => some_run(random, script.seats),
+        (51..=150, _) => some_board(random),
+        (151..=250, _) => Call::FreeCount,
+        (_, [BEGIN, seat, start, end, kind]) => Call::Begin { seat, start, end, kind },
+        (_, [STEP, seat, ..]) => Call::Step { seat },
+        (_, [_, seat, ..]) => Call::Release { seat },
+    });
+    let calls = calls.collect();
+    (machine::fresh(script.nodes, script.seats, script.title), calls)
 }
 
 /// Each call once, as it is made on these tables, and two steps and a begin more.

@@ -12,6 +12,8 @@ pub mod random;
 pub mod reading;
 pub mod script;
 pub mod shrink;
+pub mod stores;
+pub mod storing;
 pub mod tables;
 pub mod tally;
 

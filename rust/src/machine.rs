@@ -266,12 +266,15 @@ fn free_once_taken_out(nodes: &[u32], seats: &[u32], asking: u32) -> NodeSet {
     free(nodes, seats, Some(asking), first_unmarked(nodes, nodes[HEAD]), next_then)
 }
 
-/// "The marked nodes on the list are first taken out."
+/// "The marked nodes on the list are first taken out." 02: "Store only the links that differ."
 fn take_out(nodes: &mut [u32]) {
     let mut prev = 0;
     loop {
-        let unmarked = first_unmarked(nodes, nodes[link(prev)]);
-        nodes[link(prev)] = unmarked;
+        let linked = nodes[link(prev)];
+        let unmarked = first_unmarked(nodes, linked);
+        if unmarked != linked {
+            nodes[link(prev)] = unmarked;
+        }
         if unmarked == 0 {
             return;
         }

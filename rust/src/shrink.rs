@@ -140,7 +140,7 @@ impl<Differs: Fn(&Case) -> bool> Search<Differs> {
 }
 
 /// The smallest case found on which the machines differ, from one on which they do.
-fn shrink(case: Case, differs: impl Fn(&Case) -> bool) -> Case {
+pub fn shrink(case: Case, differs: impl Fn(&Case) -> bool) -> Case {
     let mut search = Search { smallest: case, differs };
     while search.pass() {}
     search.smallest
@@ -209,14 +209,19 @@ fn table_text(words: &[u32], first: usize, width: usize) -> String {
     texts.join(" | ")
 }
 
-/// The case, what each machine answered, and the tables each left behind.
-fn case_text(case: &Case, ours: &Library, theirs: &Library) -> String {
-    let mut text = format!(
+/// The tables and the call on them.
+pub fn case_text(case: &Case) -> String {
+    format!(
         "nodes   {}\nseats   {}\ncall    {:?}\n",
         table_text(&case.nodes, BEFORE_NODES, NODE_WORDS),
         table_text(&case.seats, 0, SEAT_WORDS),
         case.call
-    );
+    )
+}
+
+/// The case, what each machine answered, and the tables each left behind.
+fn outcomes_text(case: &Case, ours: &Library, theirs: &Library) -> String {
+    let mut text = case_text(case);
     for (name, library) in [("second", ours), ("other", theirs)] {
         let after = outcome(library, case);
         let (nodes, seats) = (after.nodes.words(), after.seats.words());
@@ -249,7 +254,7 @@ fn script_text(script: &[u8], ours: &Library, theirs: &Library) -> String {
 pub fn smallest_text(driver: &Driver, difference: Difference) -> String {
     let (ours, theirs) = (&driver.ours, &driver.theirs);
     match difference {
-        Difference::Call(case) => case_text(&shrink(case, |case| driver.differs(case)), ours, theirs),
+        Difference::Call(case) => outcomes_text(&shrink(case, |case| driver.differs(case)), ours, theirs),
         Difference::Script(script) => {
             script_text(&shrink_script(script, |script| !driver.reads_alike(script)), ours, theirs)
         }

@@ -202,6 +202,42 @@ pub fn many_holders(random: &mut Random) -> Tables {
     sound_with(random, frames, node_count, &named, list_length, &phases)
 }
 
+/// Marks for a list so long: on none of it or on all, at its head, in its middle or at its end, on every second node, or here
+/// and there.
+fn some_marks(random: &mut Random, length: usize) -> Vec<bool> {
+    let pattern = random.below(7);
+    let one = random.below(length as u32) as usize;
+    let other = random.below(length as u32) as usize;
+    let marked = |at: usize| match pattern {
+        0 => false,
+        1 => true,
+        2 => at <= one,
+        3 => (one.min(other)..=one.max(other)).contains(&at),
+        4 => at >= one,
+        5 => at % 2 == one % 2,
+        _ => random.percent(40),
+    };
+    (0..length).map(marked).collect()
+}
+
+/// Sound words in which every node has a claim and most lists have them all, so that fetch finds none free at once. Marked
+/// nodes come in runs, and so few seats name a node that some of them can be taken out and used again.
+pub fn full_lists(random: &mut Random) -> Tables {
+    let (node_count, seat_count) = sizes(random);
+    let named: Vec<u32> = (1..=node_count).collect();
+    let left_out = if random.percent(70) { 0 } else { random.below(3).min(node_count - 1) };
+    let busy = random.pick(&[0, 20, 60]);
+    let phases: Vec<u32> = (0..seat_count)
+        .map(|_| if random.percent(busy) { random.below(7) } else { random.pick(&[IDLE, WITHDRAWN]) })
+        .collect();
+    let (mut nodes, seats) = sound_with(random, CLOSE, node_count, &named, (node_count - left_out) as usize, &phases);
+    let list: Vec<u32> = listed(&nodes).collect();
+    for (node, marked) in list.iter().zip(some_marks(random, list.len())) {
+        nodes[place(*node, MARK)] = u32::from(marked);
+    }
+    (nodes, seats)
+}
+
 /// Sound words that have everything a damage asks for: the last node is zeros and the others have claims, two are listed and
 /// two are not, and there is a seat in each phase.
 fn ample(random: &mut Random) -> Tables {
@@ -365,7 +401,7 @@ fn claims(nodes: &[u32], wanted: impl Fn(u32) -> bool) -> Vec<u32> {
 }
 
 /// The nodes met from the head, and from what these seats name.
-fn reached(nodes: &[u32], seats: &[u32]) -> BTreeSet<u32> {
+pub fn reached(nodes: &[u32], seats: &[u32]) -> BTreeSet<u32> {
     let names = seats.chunks_exact(SEAT_WORDS).flat_map(|seat| &seat[OWN..=CUR]);
     let mut reached = BTreeSet::new();
     for &name in names.chain([&nodes[HEAD]]) {

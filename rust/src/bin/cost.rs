@@ -1,18 +1,14 @@
 //! cost MACHINE OPERATION N S COUNT: makes one call COUNT times, each from the same tables, under a counter of instructions.
 //! The cost of a call is what twice COUNT takes more than COUNT, over COUNT, less the same for `reset`, which makes no call.
-//! `cost` alone lists the operations. MACHINE is second, or proved with the feature of that name.
+//! cost MACHINE OPERATION N S stores: makes the call once and prints how many stores to the two tables it made, and how many
+//! of these changed a word. `cost` alone lists the operations. MACHINE is second, or proved with the feature of that name.
 
-use second::driver::{make, Call, Case, Library};
+use second::driver::{make, Call, Case, Library, MACHINES};
 use second::machine::{self, Answer, BEFORE_NODES, HEAD, MARK, NODE_WORDS, START};
 use second::random::Random;
+use second::stores::{Watcher, NOT_HERE};
+use second::storing::watched;
 use std::process::exit;
-
-#[cfg(feature = "proved")]
-const MACHINES: &[(&str, Library)] =
-    &[("second", second::library_of!(second::library)), ("proved", second::library_of!(second::proved))];
-
-#[cfg(not(feature = "proved"))]
-const MACHINES: &[(&str, Library)] = &[("second", second::library_of!(second::library))];
 
 const READS: u32 = 1;
 const WRITES: u32 = 2;
@@ -29,11 +25,15 @@ struct Bench {
     beside: u32,
 }
 
+/// No seat holds.
+fn idle(node_count: u32, seat_count: u32) -> Bench {
+    let (nodes, seats) = machine::fresh(node_count, seat_count, TITLE);
+    Bench { nodes, seats, last: seat_count - 1, beside: seat_count - 2 }
+}
+
 /// Each seat in turn holds at the place that the list gives it; the places lie apart, and two seats more are idle.
 fn holders_at(node_count: u32, places: Vec<u32>, kind: u32) -> Bench {
-    let seat_count = places.len() as u32 + 2;
-    let (nodes, seats) = machine::fresh(node_count, seat_count, TITLE);
-    let mut bench = Bench { nodes, seats, last: seat_count - 1, beside: seat_count - 2 };
+    let mut bench = idle(node_count, places.len() as u32 + 2);
     for (seat, place) in (0..).zip(places) {
         bench.begin(seat, 10 * (place + 1), 10 * (place + 1) + 5, kind);
         bench.step_until_held(seat);
@@ -109,15 +109,46 @@ impl Bench {
 
     /// Every node that was never used is listed behind the holders, marked or not.
     fn full(mut self, mark: u32) -> Bench {
-        let mut last_listed = machine::listed(&self.nodes).last().unwrap_or(0);
-        let unused = machine::listed(&self.nodes).count() as u32 + 1;
-        for node in unused..=((self.nodes.len() - BEFORE_NODES) / NODE_WORDS) as u32 {
-            self.nodes[machine::link(last_listed)] = node;
+        let mut list: Vec<u32> = machine::listed(&self.nodes).collect();
+        let node_count = ((self.nodes.len() - BEFORE_NODES) / NODE_WORDS) as u32;
+        for node in list.len() as u32 + 1..=node_count {
             self.nodes[machine::place(node, START)..=machine::place(node, MARK)]
                 .copy_from_slice(&[10_000, 10_005, WRITES, 0, mark]);
+            list.push(node);
+        }
+        self.list(&list)
+    }
+
+    /// These nodes are listed, in this order.
+    fn list(mut self, nodes: &[u32]) -> Bench {
+        let mut last_listed = 0;
+        for &node in nodes {
+            self.nodes[machine::link(last_listed)] = node;
             last_listed = node;
         }
+        self.nodes[machine::link(last_listed)] = 0;
         self
+    }
+
+    // Of a full list only nodes behind its middle are marked. There are no holders there: of nodes there are more than twice as many.
+
+    /// The node in the middle of the list is marked.
+    fn one_marked(mut self) -> Bench {
+        let list: Vec<u32> = machine::listed(&self.nodes).collect();
+        self.nodes[machine::place(list[list.len() / 2], MARK)] = 1;
+        self
+    }
+
+    /// The second half of the list is marked and put between the nodes of the first: behind each node that stays, a holder's
+    /// or nobody's, stands one that is to be taken out.
+    fn every_second_marked(mut self) -> Bench {
+        let list: Vec<u32> = machine::listed(&self.nodes).collect();
+        let (stay, go) = list.split_at(list.len() / 2);
+        for &node in go {
+            self.nodes[machine::place(node, MARK)] = 1;
+        }
+        let mixed: Vec<u32> = stay.iter().zip(go).flat_map(|(&stays, &goes)| [stays, goes]).collect();
+        self.list(&mixed)
     }
 
     fn call(self, call: Call) -> Case {
@@ -159,8 +190,7 @@ fn reader_before_writer(nodes: u32, seats: u32) -> Bench {
 
 /// All seats have begun, every fourth reads over all the others' frames, and a thousand steps follow in no order.
 fn long_run(node_count: u32, seat_count: u32) -> Case {
-    let (nodes, seats) = machine::fresh(node_count, seat_count, TITLE);
-    let mut bench = Bench { nodes, seats, last: seat_count - 1, beside: seat_count - 2 };
+    let mut bench = idle(node_count, seat_count);
     for seat in 0..seat_count {
         let (start, end, kind) =
             if seat % 4 == 3 { (10 * seat, 2000, READS) } else { (10 * seat, 10 * seat + 15, WRITES) };
@@ -177,6 +207,13 @@ const OPERATIONS: &[Operation] = &[
     ("clear", |nodes, seats| holders(nodes, seats, WRITES).call(Call::Clear { title: TITLE })),
     ("begin", |nodes, seats| holders(nodes, seats, WRITES).begins()),
     ("begin, marked nodes are taken out", |nodes, seats| holders(nodes, seats, WRITES).full(1).begins()),
+    ("begin, every node is listed, one is marked", |nodes, seats| {
+        holders(nodes, seats, WRITES).full(0).one_marked().begins()
+    }),
+    ("begin, every node is listed, every second is marked", |nodes, seats| {
+        holders(nodes, seats, WRITES).full(0).every_second_marked().begins()
+    }),
+    ("begin, every node is listed, all are marked", |nodes, seats| idle(nodes, seats).full(1).begins()),
     ("begin, refused 8", |nodes, seats| holders(nodes, seats, WRITES).full(0).begins()),
     ("step 1, pass", |nodes, seats| holders(nodes, seats, WRITES).behind(seats - 1, WRITES, 0).steps()),
     ("step 1, insert", |nodes, seats| holders(nodes, seats, WRITES).before(seats - 1, WRITES, 0).steps()),
@@ -224,6 +261,16 @@ fn number(argument: &str) -> u32 {
     argument.parse().expect("N, S and COUNT are numbers")
 }
 
+/// Makes the call once under the watcher, and counts its stores to the tables and those that changed a word.
+fn count_stores(library: &Library, case: &Case) {
+    let mut watcher = Watcher::new().unwrap_or_else(|| {
+        eprintln!("not run: {NOT_HERE}");
+        exit(2);
+    });
+    let stores = watched(&mut watcher, library, case).stores;
+    println!("{} {}", stores.len(), stores.iter().filter(|store| store.changes()).count());
+}
+
 fn main() {
     let arguments: Vec<String> = std::env::args().skip(1).collect();
     if arguments.len() != 5 {
@@ -235,6 +282,10 @@ fn main() {
     let operation = OPERATIONS.iter().find(|(name, _)| *name == arguments[1]);
     let prepare = operation.map_or(OPERATIONS[0].1, |(_, prepare)| *prepare);
     let case = prepare(number(&arguments[2]), number(&arguments[3]));
+    if arguments[4] == "stores" {
+        assert!(operation.is_some(), "the name of an operation");
+        return count_stores(&library, &case);
+    }
     let (mut nodes, mut seats) = (case.nodes.clone(), case.seats.clone());
     let mut rows = if let Call::Board { rows } = &case.call { rows.clone() } else { vec![] };
     let mut answer = 0;

@@ -9,6 +9,8 @@ mod covered;
 mod histories;
 mod layout;
 mod scripts;
+mod stores;
+mod storing;
 mod tables;
 mod title;
 

@@ -3,7 +3,7 @@
 
 use crate::machine::{begin, free_count, listed, run, step, Answer};
 use crate::random::Random;
-use crate::tables::{any_words, damaged, many_holders, miscounted, mistitled, put_counts, sound_words};
+use crate::tables::{any_words, damaged, full_lists, many_holders, miscounted, mistitled, put_counts, sound_words};
 use crate::tables::{DAMAGES, MISCOUNTS, MISTITLES};
 use crate::tally::Tally;
 use crate::tests::layout::{counts_kept, counts_over_seats, place, word, CUR, END, HEAD, KIND, MARK, NEXT, NODE_WORDS};
@@ -124,7 +124,7 @@ fn sound_shape_is_what_its_clauses_say() {
     }
     assert!(sound_ones > 400, "{sound_ones}");
     for _ in 0..2_000 {
-        for (nodes, seats) in [sound_words(&mut random), many_holders(&mut random)] {
+        for (nodes, seats) in [sound_words(&mut random), many_holders(&mut random), full_lists(&mut random)] {
             assert!(is_sound(&nodes, &seats) && free_count(&nodes, &seats).is_ok(), "{nodes:?} {seats:?}");
         }
     }

@@ -1,0 +1,144 @@
+//! What is said of stores that were made up: which of them a call may make. No watcher is needed.
+
+use crate::driver::{outcome, Call, Case};
+use crate::library_of;
+use crate::stores::{Store, Table};
+use crate::storing::{judge, Watched};
+use crate::tests::layout::{
+    place, HEAD, KIND, MARK, NODE_WORDS, OWN, PHASE, READERS, SEAT_WORDS, START, TITLE, WRITERS,
+};
+use crate::tests::stores::{link_of, listed_and_marked, store};
+
+/// What is wrong with these stores, if the call answers and leaves what it should.
+fn wrong(nodes: &[u32], seats: &[u32], call: Call, stores: &[Store]) -> Option<String> {
+    let case = Case { nodes: nodes.to_vec(), seats: seats.to_vec(), call };
+    let after = outcome(&library_of!(crate::library), &case);
+    let tables = (after.nodes.words().to_vec(), after.seats.words().to_vec());
+    judge(&case, &Watched { answer: after.answer, tables, stores: stores.to_vec() }).wrong
+}
+
+/// Seat 1 begins on the list 3 1 6 2 5 4, of which 3, 6, 2 and 4 are marked, and takes node 2.
+fn wrong_of_begin(stores: &[Store]) -> Option<String> {
+    let (nodes, seats) = listed_and_marked([1, 0, 1, 1, 0, 1]);
+    wrong(&nodes, &seats, Call::Begin { seat: 1, start: 7, end: 8, kind: 1 }, stores)
+}
+
+/// The links that differ.
+fn links() -> [Store; 3] {
+    [(0, 1), (1, 5), (5, 0)].map(|(node, next)| store(link_of(node), next, true))
+}
+
+fn in_seats(word: usize, value: u32, changed_to: usize) -> Store {
+    Store { table: Table::Seats, word, value, changed_to }
+}
+
+#[test]
+fn the_links_that_differ_are_right() {
+    assert_eq!(wrong_of_begin(&links()), None);
+    let taken: Vec<Store> = (0..NODE_WORDS).map(|field| store(place(2, field), 0, field == MARK)).collect();
+    let seat = [in_seats(SEAT_WORDS, 1, 2 * SEAT_WORDS), in_seats(SEAT_WORDS + OWN, 2, SEAT_WORDS + OWN)];
+    assert_eq!(wrong_of_begin(&[&taken, links().as_slice(), &seat].concat()), None);
+}
+
+#[test]
+fn links_left_out_or_stored_otherwise_are_wrong() {
+    let [head, middle, last] = links();
+    let wrong_lists: [(&str, &[Store]); 7] = [
+        ("none", &[]),
+        ("the last left out", &[head, middle]),
+        ("the head left out", &[middle, last]),
+        ("the middle one twice", &[head, middle, middle, last]),
+        ("the head again", &[head, middle, last, store(HEAD, 1, false)]),
+        ("another order", &[last, middle, head]),
+        ("first to a marked node", &[head, store(link_of(1), 2, true), middle, last]),
+    ];
+    for (name, stores) in wrong_lists {
+        assert!(wrong_of_begin(stores).is_some(), "{name}");
+    }
+}
+
+#[test]
+fn stores_elsewhere_are_wrong() {
+    let elsewhere = [
+        ("the count of readers", store(READERS, 0, false)),
+        ("the title", store(TITLE, u32::MAX, false)),
+        ("the mark of a marked node", store(place(6, MARK), 1, false)),
+        ("the next of a marked node", store(link_of(6), 2, false)),
+        ("a claim that stays", store(place(1, KIND), 2, false)),
+        ("another seat", in_seats(PHASE, 0, PHASE)),
+        ("behind the seats", in_seats(2 * SEAT_WORDS, 0, 2 * SEAT_WORDS)),
+        (
+            "from the taken node into the next",
+            Store { changed_to: place(3, START) + 1, ..store(place(2, MARK), 0, true) },
+        ),
+    ];
+    for (name, strange) in elsewhere {
+        let [head, middle, last] = links();
+        assert!(wrong_of_begin(&[head, middle, strange, last]).is_some(), "{name}");
+    }
+}
+
+#[test]
+fn where_a_node_is_free_a_link_is_wrong() {
+    let (mut nodes, seats) = listed_and_marked([1, 0, 1, 1, 0, 1]);
+    nodes[link_of(5)] = 0;
+    let begins = Call::Begin { seat: 1, start: 7, end: 8, kind: 1 };
+    assert_eq!(wrong(&nodes, &seats, begins.clone(), &[store(place(4, MARK), 0, true)]), None);
+    assert!(wrong(&nodes, &seats, begins, &[store(HEAD, 3, false)]).is_some());
+}
+
+#[test]
+fn a_refused_call_and_a_look_store_nothing() {
+    let (nodes, seats) = listed_and_marked([0; 6]);
+    let calls = [
+        Call::Clear { title: 0 },
+        Call::Begin { seat: 1, start: 7, end: 8, kind: 1 },
+        Call::Step { seat: 1 },
+        Call::Release { seat: 1 },
+        Call::Run { entries: vec![1], budget: 9 },
+        Call::Run { entries: vec![1], budget: 0 },
+        Call::Board { rows: vec![0; 8] },
+        Call::FreeCount,
+    ];
+    for call in calls {
+        assert_eq!(wrong(&nodes, &seats, call.clone(), &[]), None);
+        for strange in [store(link_of(5), 4, false), in_seats(SEAT_WORDS, 0, SEAT_WORDS)] {
+            assert!(wrong(&nodes, &seats, call.clone(), &[strange]).is_some(), "{call:?} {strange}");
+        }
+    }
+}
+
+/// Node 4 writes and is off the list 3 1 6 2 5, of which 1 is marked; seat 0 has it.
+#[test]
+fn a_step_stores_no_word_but_those_of_its_rule() {
+    let (mut nodes, mut seats) = listed_and_marked([0, 1, 0, 0, 0, 0]);
+    nodes[link_of(5)] = 0;
+    let steps: [([u32; 3], &[usize]); 9] = [
+        ([1, 5, 0], &[link_of(5), link_of(4)]), // insert
+        ([1, 3, 1], &[link_of(3)]),             // unlink
+        ([1, 6, 1], &[]),                       // unlink behind another node
+        ([1, 1, 6], &[]),                       // insert behind a marked node
+        ([1, 6, 2], &[]),                       // pass
+        ([2, 3, 1], &[]),                       // the wait is over
+        ([3, 0, 4], &[WRITERS]),                // hold
+        ([3, 5, 0], &[place(4, MARK)]),         // withdraw
+        ([5, 0, 0], &[]),                       // holding
+    ];
+    for ([phase, prev, cur], may) in steps {
+        seats[..SEAT_WORDS].copy_from_slice(&[phase, 4, prev, cur]);
+        nodes[WRITERS] = u32::from(phase == 5);
+        let allowed = |&word: &usize| wrong(&nodes, &seats, Call::Step { seat: 0 }, &[store(word, 0, false)]).is_none();
+        let mut expected = may.to_vec();
+        expected.sort_unstable();
+        assert_eq!((0..nodes.len()).filter(allowed).collect::<Vec<usize>>(), expected, "{phase} {prev} {cur}");
+    }
+}
+
+#[test]
+fn release_stores_its_mark_and_its_count() {
+    let (mut nodes, mut seats) = listed_and_marked([0; 6]);
+    seats[..SEAT_WORDS].copy_from_slice(&[5, 4, 0, 0]);
+    nodes[WRITERS] = 1;
+    let allowed = |&word: &usize| wrong(&nodes, &seats, Call::Release { seat: 0 }, &[store(word, 0, false)]).is_none();
+    assert_eq!((0..nodes.len()).filter(allowed).collect::<Vec<usize>>(), [WRITERS, place(4, MARK)]);
+}
