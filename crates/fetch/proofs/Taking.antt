@@ -6,7 +6,7 @@ use mathlib.Core.List.{List, [], _∷_}
 use mathlib.Core.Logic.{_≢_}
 use native.Mathlib.Omega.{arith}
 use lib.ListN.{drop}
-use Rattle.rules.specs.Tables.{Tables, tables, markAt, nodeWord, linkWord, putLink, nodeCountOf, nodeCount, mark, link, next, head, setLink}
+use Rattle.rules.specs.Tables.{Tables, tables, markAt, nodeWord, linkWord, putLink, nodeCount, mark, link, next, head, setLink}
 use Rattle.rules.specs.Fetch.{keptFrom, kept, takenOut}
 use Rattle.rules.specs.Stores.{Store, store, storesAlong, stores, ListEnds}
 use Rattle.rules.proofs.Laws.Words.{put-link-length, same-node-count, link-put-at-most, same-link}

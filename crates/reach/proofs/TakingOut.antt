@@ -1,26 +1,17 @@
 -- Taking the marked nodes off a list that ends: the walk that relinks it gives the rule's tables.
 use Prim.Native.Nat.{ℕ, zero, suc, _≤_}
 use mathlib.Core.Path.{_≡_, refl, sym, ap, _∙_}
-use mathlib.Core.List.{List, [], _∷_}
 use mathlib.Core.Logic.{_≢_}
 use native.Mathlib.Omega.{arith}
 use Rattle.rules.specs.Tables.{Tables, nodeCount, next, head, mark, setLink}
 use Rattle.rules.specs.Fetch.{keptFrom, kept, linkThrough, takenOut}
 use Rattle.rules.specs.Stores.{ListEnds}
-use Rattle.rules.proofs.Laws.Kept.{kept-end, kept-in, kept-out, At, at-end, at-skip, at-stored, at-head, stored-next, kept-stored}
+use Rattle.rules.proofs.Laws.Kept.{through-end, through-more, kept-end, kept-in, kept-out, At, at-end, at-skip, at-stored, at-head, stored-next, kept-stored}
 
 -- ---- the walk that relinks: what is left to do gives the whole
 pub record Going (whole t : Tables) (h prev cur : ℕ) : Type 0 where
   pub rest : linkThrough t prev (keptFrom h t cur) ≡ whole
   pub stands : At t h prev cur
-
-through-none : (t : Tables) (p : ℕ) → linkThrough t p [] ≡ setLink t p 0
-unfolding linkThrough
-through-none t p = refl
-
-through-more : (t : Tables) (p a : ℕ) (ks : List ℕ) → linkThrough t p (a ∷ ks) ≡ linkThrough (setLink t p a) a ks
-unfolding linkThrough
-through-more t p a ks = refl
 
 pub going-start : (t : Tables) → ListEnds t → Going (takenOut t) t (nodeCount t) 0 (head t)
 unfolding takenOut kept
@@ -28,7 +19,7 @@ going-start t e = record { rest = refl; stands = at-head t e }
 
 module _ (whole t : Tables) (prev cur : ℕ) where
   pub going-end : (h : ℕ) → Going whole t h prev cur → cur ≡ 0 → setLink t prev 0 ≡ whole
-  going-end h g e = sym (through-none t prev) ∙ ap (linkThrough t prev) (sym (kept-end h t cur e)) ∙ g .rest
+  going-end h g e = sym (through-end t prev) ∙ ap (linkThrough t prev) (sym (kept-end h t cur e)) ∙ g .rest
 
   -- there are hops left
   pub going-left : (h : ℕ) → Going whole t h prev cur → cur ≢ 0 → 1 ≤ h

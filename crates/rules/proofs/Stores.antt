@@ -6,7 +6,7 @@
 -- `take_out` asks that what it stores is the first of `stores` of the tables as they stand, and leaves the tables whose stores are the others
 -- (`first-made-others-left` below); and when `take_out` ends, none is left.
 use Prim.Native.Nat.{ℕ, suc, _≤_}
-use mathlib.Core.Path.{_≡_, refl, sym, ap, _∙_}
+use mathlib.Core.Path.{_≡_}
 use mathlib.Core.Bool.{true}
 use mathlib.Core.List.{List, [], _∷_, _++_}
 use mathlib.Core.Logic.{_≢_}

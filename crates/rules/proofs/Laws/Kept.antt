@@ -9,7 +9,7 @@ use borrow.Author.Tests.{ne-eqb, eqb-false}
 use Rattle.rules.specs.Notation.{_is_}
 use Rattle.rules.specs.Tables.{Tables, nodeCount, markAt, mark, link, next, head, setLink}
 use Rattle.rules.specs.Reach.{Reach, here, there}
-use Rattle.rules.specs.Fetch.{keptFrom}
+use Rattle.rules.specs.Fetch.{keptFrom, linkThrough}
 use Rattle.rules.specs.Stores.{ListEnds}
 use Rattle.rules.proofs.Ground.Deciding.{if-same, if-true}
 use Rattle.rules.proofs.Ground.Following.{reach-target, Ends, stop, more, ends-tail, no-circle, away-keeps-ends}
@@ -17,6 +17,16 @@ use Rattle.rules.proofs.Ground.Pigeonhole.{Off, off-none, off-more}
 use Rattle.rules.proofs.Laws.Words.{link-put-other, node-put-link}
 use Rattle.rules.proofs.Laws.Listed.{within-ends}
 
+-- prev and each of some nodes link to the one that follows
+pub through-end : (t : Tables) (prev : ℕ) → linkThrough t prev [] ≡ setLink t prev 0
+unfolding linkThrough
+through-end t prev = refl
+
+pub through-more : (t : Tables) (prev a : ℕ) (ks : List ℕ) → linkThrough t prev (a ∷ ks) ≡ linkThrough (setLink t prev a) a ks
+unfolding linkThrough
+through-more t prev a ks = refl
+
+-- ---- the unmarked nodes
 pub kept-end : (h : ℕ) (t : Tables) (a : ℕ) → a ≡ 0 → keptFrom h t a ≡ []
 unfolding keptFrom
 kept-end zero t a e = refl

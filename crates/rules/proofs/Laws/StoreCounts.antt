@@ -2,15 +2,15 @@
 -- nodes on the list.
 use Prim.Native.Nat.{ℕ, zero, suc, _+_, _≤_, _<_}
 use mathlib.Core.Path.{_≡_, refl, sym, ap, _∙_}
-use mathlib.Core.Bool.{Bool, true, false, not, _&&_}
+use mathlib.Core.Bool.{Bool, true, false, not}
 use mathlib.Core.List.{List, [], _∷_}
 use mathlib.Core.Logic.{_≢_}
 use native.Mathlib.Omega.{arith}
 use native.Mathlib.Nat.{le-antisymm}
 use native.Mathlib.Decide.{decLt}
 use lib.ListN.{length}
-use borrow.Author.Tests.{eq-eqb, ne-eqb, lt-ltb, le-ltb}
-use Rattle.rules.specs.Notation.{if_then_else_, _is_, _<?_, count}
+use borrow.Author.Tests.{eq-eqb, ne-eqb}
+use Rattle.rules.specs.Notation.{if_then_else_, _is_, count}
 use Rattle.rules.specs.Tables.{Tables, nodeCount, mark, link, next, head, setLink}
 use Rattle.rules.specs.Fetch.{keptFrom, kept, takenOut}
 use Rattle.rules.specs.Stores.{Store, store, storesAlong, stores, ListEnds, storeAll, timesTo, differs, markedFrom, markedListed}

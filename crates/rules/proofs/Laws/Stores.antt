@@ -1,6 +1,6 @@
 -- The stores by which marked nodes are taken out of a list that ends: they come to what the rule says, each link that differs is stored once and no other,
 -- and what is left of them after the first are the others.
-use Prim.Native.Nat.{ℕ, zero, suc, _+_, _≤_, _<_}
+use Prim.Native.Nat.{ℕ, zero, suc, _+_, _≤_}
 use mathlib.Core.Path.{_≡_, refl, sym, ap, _∙_}
 use mathlib.Core.Bool.{Bool, true, false}
 use mathlib.Core.List.{List, [], _∷_, _++_, append-nil}
@@ -17,7 +17,7 @@ use Rattle.rules.proofs.Ground.Following.{Ends, stop, more}
 use Rattle.rules.proofs.Ground.Pigeonhole.{Off, off-none, off-more}
 use Rattle.rules.proofs.Laws.Words.{link-put-there, link-put-other, same-link, put-link-length, same-node-count}
 use Rattle.rules.proofs.Laws.Listed.{ends-within}
-use Rattle.rules.proofs.Laws.Kept.{kept-end, kept-in, kept-out, kept-ways, kept-enough, kept-off, mark-stays, At, at-end, at-there, cur-pos, on-ends, on-few, prev-not-cur, prev-behind, at-skip, at-on, skip-left, on-left, stored-ends, at-stored, kept-stored, at-head}
+use Rattle.rules.proofs.Laws.Kept.{through-end, through-more, kept-end, kept-in, kept-out, kept-ways, kept-enough, kept-off, mark-stays, At, at-end, at-there, cur-pos, on-ends, on-few, prev-not-cur, prev-behind, at-skip, at-on, skip-left, on-left, stored-ends, at-stored, kept-stored, at-head}
 
 -- ---- the list of stores, by the ways on
 module _ (t : Tables) (q : ℕ) where
@@ -112,14 +112,6 @@ all-none t = refl
 all-more : (t : Tables) (x : Store) (xs : List Store) → storeAll t (x ∷ xs) ≡ storeAll (setLink t (x .whose) (x .value)) xs
 unfolding storeAll
 all-more t x xs = refl
-
-through-end : (t : Tables) (q : ℕ) → linkThrough t q [] ≡ setLink t q 0
-unfolding linkThrough
-through-end t q = refl
-
-through-more : (t : Tables) (q a : ℕ) (ks : List ℕ) → linkThrough t q (a ∷ ks) ≡ linkThrough (setLink t q a) a ks
-unfolding linkThrough
-through-more t q a ks = refl
 
 abbrev ComesTo : Tables → ℕ → List ℕ → Type 0
 ComesTo t q ks = storeAll t (storesAlong t q ks) ≡ linkThrough t q ks

@@ -1,11 +1,11 @@
 -- What has sound shape in the theory's words, within the bounds, counts that are right and claims within the title, passes the test `sound`. Every
 -- table that is reached has all of it.
 use Prim.Native.Nat.{ℕ, _≤_}
-use mathlib.Core.Path.{_≡_, refl}
+use mathlib.Core.Path.{_≡_}
 use mathlib.Core.Bool.{true}
 use mathlib.Core.Logic.{_≢_, _⊎_, inl, inr}
 use native.Mathlib.Omega.{arith}
-use Rattle.rules.specs.Tables.{Tables, nodeCount, link, next}
+use Rattle.rules.specs.Tables.{Tables, nodeCount}
 use Rattle.rules.specs.Shape.{sound}
 use Rattle.rules.specs.Reached.{Reached, cleared, asked}
 use Rattle.rules.specs.Title.{AllWithin}
