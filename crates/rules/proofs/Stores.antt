@@ -27,9 +27,12 @@ ends-if-sound t e = is-sound t e .ends
 pub come-to-taken-out : (t : Tables) → ListEnds t → storeAll t (stores t) ≡ takenOut t
 come-to-taken-out = laws.come-to
 
--- ---- "Store only the links that differ": one store to each of them, none to any other, so none twice
+-- ---- "Store only the links that differ": one store to each of them and none to any other; none is stored twice
 pub once-if-it-differs : (t : Tables) → ListEnds t → (a : ℕ) → timesTo a (stores t) ≡ (if differs t a then 1 else 0)
 once-if-it-differs = counts.once-if-it-differs
+
+pub none-twice : (t : Tables) → ListEnds t → (a : ℕ) → timesTo a (stores t) ≤ 1
+none-twice = laws.none-twice
 
 -- as many as there are links that differ, the head's and those of the N nodes
 pub as-many-as-differ : (t : Tables) → sound t ≡ true → length (stores t) ≡ count (suc (nodeCount t)) (differs t)

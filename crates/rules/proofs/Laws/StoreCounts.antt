@@ -18,7 +18,7 @@ use Rattle.rules.proofs.Ground.Deciding.{if-same, if-true}
 use Rattle.rules.proofs.Laws.Words.{put-link-length, same-node-count, link-past}
 use Rattle.rules.proofs.Laws.Shape.{Sound}
 use Rattle.rules.proofs.Laws.Kept.{kept-end, kept-in, kept-out, kept-ways, At, at-end, at-skip, at-on, at-head}
-use Rattle.rules.proofs.Laws.Stores.{along-ended, along-end, along-same, along-other, all-else, come-to, once-where-other}
+use Rattle.rules.proofs.Laws.Stores.{along-ended, along-end, along-same, along-other, all-else, at-most-one, come-to, once-where-other}
 
 -- ---- one of them apart
 record Without (a : ℕ) (ys : List Store) : Type 0 where
@@ -114,10 +114,6 @@ few-last h t q c z =
     (if-same (link t q) 0
     (λ e. rw (along-ended t q e) (omega arith))
     (λ d. rw (along-end t q d, z, ne-eqb (link t q) 0 d) (omega arith)))
-
-at-most-one : (b : Bool) → (if b then 0 else 1) ≤ 1
-at-most-one true = omega arith
-at-most-one false = omega arith
 
 few : (h : ℕ) (t : Tables) (q c : ℕ) → At t h q c → Few h t q c
 few zero t q c w = few-last 0 t q c (at-end w)

@@ -270,6 +270,10 @@ first-made (suc h) t q c w x xs e =
     (λ y. let f = sym (ap (storesAlong t q) k ∙ along-other t q c ks y) ∙ e in rw (k, first-of f, others-of f) (made-here w z m y)))
 
 -- ---- of the whole list
+pub at-most-one : (b : Bool) → (if b then 0 else 1) ≤ 1
+at-most-one true = omega arith
+at-most-one false = omega arith
+
 module _ (t : Tables) (e : ListEnds t) where
   here-at : At t (nodeCount t) 0 (head t)
   here-at = at-head t e
@@ -281,6 +285,9 @@ module _ (t : Tables) (e : ListEnds t) where
   pub once-where-other : (a : ℕ) → timesTo a (stores t) ≡ (if link (takenOut t) a is link t a then 0 else 1)
   unfolding stores kept
   once-where-other a = rw (← come-to) (once-if-other a (nodeCount t) t 0 (head t) here-at)
+
+  pub none-twice : (a : ℕ) → timesTo a (stores t) ≤ 1
+  none-twice a = rw (once-where-other a) (at-most-one (link (takenOut t) a is link t a))
 
   module _ {x : Store} {rest : List Store} (p : stores t ≡ x ∷ rest) where
     same-count : nodeCount (made t x) ≡ nodeCount t
@@ -300,14 +307,9 @@ module _ (t : Tables) (e : ListEnds t) where
     -- no later one goes where the first goes, so its value stays
     only-one : timesTo (x .whose) rest ≡ 0
     only-one =
-        let most : timesTo (x .whose) (stores t) ≤ 1 = rw (once-where-other (x .whose)) (at-most-one (link (takenOut t) (x .whose) is link t (x .whose))) in
         let k = times-one (x .whose) (x .value) rest in
-        let m : timesTo (x .whose) (x ∷ rest) ≤ 1 = rw p at most in
+        let m : timesTo (x .whose) (x ∷ rest) ≤ 1 = rw p at (none-twice (x .whose)) in
         omega arith
-      where
-        at-most-one : (b : Bool) → (if b then 0 else 1) ≤ 1
-        at-most-one true = omega arith
-        at-most-one false = omega arith
 
     pub first-stays : link (takenOut t) (x .whose) ≡ x .value
     first-stays =
