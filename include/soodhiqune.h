@@ -12,7 +12,11 @@
  *   threads     one call at a time on a pair of tables, save that board and free count only read. Nothing is kept between calls, so
  *               calls on different tables may be made at once
  *   stack       SOODHIQUNE_STACK_BYTES, and SOODHIQUNE_SCRIPT_STACK_BYTES for read and play, whatever is lent
- * The library calls nothing but memset and memcpy. */
+ * The library calls nothing but memset and memcpy.
+ *
+ * For tables that are mirrored on every store: a refused call, board and free count store nothing there, not even what stands there already,
+ * and a claim that finds no node free takes released ones off the list by storing the links that differ and no others. tests/stores watches
+ * the archive for it. */
 #ifndef SOODHIQUNE_H
 #define SOODHIQUNE_H
 
