@@ -1,3 +1,4 @@
+-- `fetch::store_link` meets its promise.
 use borrow.Author.Needs.{needs}
 use Rattle.fetch.proofs.Taking.{first-stored}
 use Rattle.fetch.proofs.store_link.Statement.{statement}

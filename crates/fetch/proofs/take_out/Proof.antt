@@ -1,3 +1,4 @@
+-- `fetch::take_out` meets its promise: each turn of its loop takes the walk on by one of the ways of Taking.
 use borrow.Author.Needs.{needs}
 use Rattle.fetch.proofs.Taking.{Taking, taking-start, taking-left, taking-less, read-skip, read-on, read-stored, read-next, read-last, read-ended, read-end}
 use Rattle.rules.specs.Fetch.{takenOut}
@@ -38,10 +39,22 @@ loop-less : tie.Need-loop-less Inv-loop μ-loop
 loop-less c = search taking-less
 
 loop-again : tie.Need-loop-again Inv-loop μ-loop
-loop-again c = (search needs, read-skip (c .before .before .before .before .before .before .loop .inv .1) (c .before .before .before .before .before .loop-test .taken) (c .before .before .before .next-within .ensures) (c .before .node-word-within .ensures) (c .if1 .taken))
+loop-again c =
+    let next = c .before .before .before in
+    let turn = next .before .before in
+    let head = turn .before in
+    (search needs, read-skip (head .loop .inv .1) (turn .loop-test .taken) (next .next-within .ensures) (c .before .node-word-within .ensures) (c .if1 .taken))
 
 store-link-requires : tie.Need-store-link-requires Inv-loop μ-loop
-store-link-requires c κs = read-next (c .before .before .before .before .before .before .before .before .loop .inv .1) (c .before .before .before .before .before .before .before .loop-test .taken) (c .before .before .before .before .before .next-within .ensures) (c .before .before .before .node-word-within .ensures) (c .before .before .if1 .left) (c .before .if2 .taken)
+store-link-requires c κs =
+    let other = c .before in
+    let stays = other .before in
+    let mark = stays .before in
+    let next = mark .before .before in
+    let turn = next .before .before in
+    let head = turn .before in
+    read-next (head .loop .inv .1) (turn .loop-test .taken) (next .next-within .ensures) (mark .node-word-within .ensures) (stays .if1 .left)
+    (other .if2 .taken)
 
 sub-left-2 : tie.Need-sub-left-2 Inv-loop μ-loop
 sub-left-2 c = search taking-left
@@ -51,9 +64,22 @@ loop-less-2 c = search taking-less
 
 loop-again-2 : tie.Need-loop-again-2 Inv-loop μ-loop
 loop-again-2 c =
+    let stays = c .before in
+    let mark = stays .before in
+    let next = mark .before .before in
+    let turn = next .before .before in
+    let head = turn .before in
+    let came = head .loop .inv in
     ⊎-elim
-    (λ w. (ap length (w .5) ∙ w .2 .kept .0 ∙ c .before .before .before .before .before .before .before .loop .inv .0, read-stored (c .before .before .before .before .before .before .before .loop .inv .1) (c .before .before .before .before .before .before .loop-test .taken) (c .before .before .before .before .next-within .ensures) (c .before .before .node-word-within .ensures) (c .before .if1 .left) (w .0 .taken) (w .5 ∙ w .2 .ensures .0)))
-    (λ w. (ap length (w .1) ∙ c .before .before .before .before .before .before .before .loop .inv .0, read-on (c .before .before .before .before .before .before .before .loop .inv .1) (c .before .before .before .before .before .before .loop-test .taken) (c .before .before .before .before .next-within .ensures) (c .before .before .node-word-within .ensures) (c .before .if1 .left) (w .0 .left) (w .1)))
+    (λ w. (
+      ap length (w .5) ∙ w .2 .kept .0 ∙ came .0,
+      read-stored (came .1) (turn .loop-test .taken) (next .next-within .ensures) (mark .node-word-within .ensures) (stays .if1 .left) (w .0 .taken)
+          (w .5 ∙ w .2 .ensures .0),
+    ))
+    (λ w. (
+      ap length (w .1) ∙ came .0,
+      read-on (came .1) (turn .loop-test .taken) (next .next-within .ensures) (mark .node-word-within .ensures) (stays .if1 .left) (w .0 .left) (w .1),
+    ))
     (c .if2 .came)
 
 store-link-requires-2 : tie.Need-store-link-requires-2 Inv-loop μ-loop
@@ -63,7 +89,11 @@ same-length : tie.Need-same-length Inv-loop μ-loop
 same-length c = search needs
 
 returns : tie.Need-returns Inv-loop μ-loop
-returns c = read-end (c .before .before .before .before .before .before .loop .inv .1) (c .before .before .before .before .before .loop-test .left) (c .before .before .before .before .if3 .taken) (c .before .before .store-link2 .ensures .0) (c .before .before .store-link2 .ensures .1)
+returns c =
+    let stored = c .before .before in
+    let other = stored .before .before in
+    let after = other .before in
+    read-end (after .before .loop .inv .1) (after .loop-test .left) (other .if3 .taken) (stored .store-link2 .ensures .0) (stored .store-link2 .ensures .1)
 
 same-length-2 : tie.Need-same-length-2 Inv-loop μ-loop
 same-length-2 c = search needs

@@ -80,7 +80,8 @@ module _ (t : Tables) (p v : ℕ) where
       let d : p ≢ a = λ e. f (rw (← e) (here (rw (← e) at pos))) in
       rw (z, link-put-other (t .nodes) p a v d, mark-stays a, kept-away h (next t a) (λ r. f (there pos r))))
 
--- ---- the walk that takes the marked nodes out. It stands at cur, with prev behind it, and hops enough to the end. Prev's link is cur, or a marked node that was passed over
+-- ---- the walk that takes the marked nodes out. It stands at cur, with prev behind it, and hops enough to the end; prev's link is cur, or a marked node
+-- that was passed over
 pub record At (t : Tables) (h prev cur : ℕ) : Type 0 where
   pub left : ℕ
   pub ends : Ends (link t) cur left
@@ -134,7 +135,7 @@ module _ {t : Tables} {q c : ℕ} where
       joined = inl refl;
     }
 
-    -- each is one node nearer the end
+    -- each of the two is one node nearer the end
     pub skip-left : (m : mark t c ≡ 1) → suc (at-skip m .left) ≡ w .left
     unfolding at-skip
     skip-left m = on-ends .2

@@ -236,7 +236,7 @@ made-later {t} {h} {q} {c} {x} w z m e r =
         kept-in g (made t x) c z (λ y. m (sym (mark-stays t (x .whose) (x .value) c) ∙ y))
         ∙ ap (λ ks. c ∷ ks) (r .same-kept g (omega arith))
 
--- passed over a marked node, the walk is as far from the end as it was
+-- a marked node is passed over: what holds from the next node on holds from here
 made-skipped : {t : Tables} {h q c : ℕ} {x : Store} {xs : List Store} {ks : List ℕ} (w : At t (suc h) q c) (z : c ≢ 0) (m : mark t c ≡ 1)
     → Made t h q (next t c) (at-skip w z m .left) ks x xs → Made t (suc h) q c (w .left) ks x xs
 made-skipped w z m r = record {
