@@ -15,8 +15,8 @@
  * The library calls nothing but memset and memcpy.
  *
  * For tables that are mirrored on every store: a refused call, board and free count store nothing there, not even what stands there already,
- * and a claim that finds no node free takes released ones off the list by storing the links that differ and no others. tests/stores watches
- * the archive for it. */
+ * and a claim that finds no node free takes those of released and withdrawn claims off the list by storing the links that differ and no
+ * others. tests/stores watches the archive for it. */
 #ifndef SOODHIQUNE_H
 #define SOODHIQUNE_H
 

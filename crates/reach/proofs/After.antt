@@ -16,6 +16,7 @@ use Rattle.rules.proofs.Ground.Logic.{either, or-left, or-right, or-case, or-ne
 use Rattle.rules.proofs.Ground.Pigeonhole.{Off, off-none, off-more}
 use Rattle.rules.proofs.Laws.Words.{put-link-length, same-node-count, same-seat-count, link-put-same, link-put-other, link-put-at-most}
 use Rattle.rules.proofs.Laws.Shape.{Sound}
+use Rattle.rules.proofs.Laws.NodesAlone.{taken-out-seats}
 use Rattle.rules.proofs.Laws.Kept.{kept-end, kept-in, kept-out, kept-away, kept-off, at-end, prev-not-cur, prev-behind}
 use Rattle.nodesets.specs.Set.{has, none, add}
 use Rattle.nodesets.proofs.Set.{has-none, none-length, has-add, add-length}
@@ -95,11 +96,6 @@ through-length : (ks : List ℕ) (t : Tables) (p : ℕ) → length (linkThrough 
 unfolding linkThrough
 through-length [] t p = put-link-length (t .nodes) p 0
 through-length (a ∷ ks) t p = through-length ks (setLink t p a) a ∙ put-link-length (t .nodes) p a
-
-pub through-seats : (ks : List ℕ) (t : Tables) (p : ℕ) → linkThrough t p ks .seats ≡ t .seats
-unfolding linkThrough
-through-seats [] t p = refl
-through-seats (a ∷ ks) t p = through-seats ks (setLink t p a) a
 
 through-other : (ks : List ℕ) (t : Tables) (p b : ℕ) → p ≢ b → isIn ks b ≡ false → link (linkThrough t p ks) b ≡ link t b
 unfolding linkThrough
@@ -228,23 +224,19 @@ module _ (t : Tables) (w : Sound t) where
   unfolding takenOut
   after-sized = sized-through (kept t) t 0 (nodeCount t) sized kept-within
 
-  after-seats : takenOut t .seats ≡ t .seats
-  unfolding takenOut
-  after-seats = through-seats (kept t) t 0
-
   pub after-count : nodeCount (takenOut t) ≡ nodeCount t
   after-count = same-node-count t (takenOut t) (after-sized .long ∙ sym (sized .long))
 
   after-seat-count : seatCount (takenOut t) ≡ seatCount t
-  after-seat-count = same-seat-count t (takenOut t) (ap length after-seats)
+  after-seat-count = same-seat-count t (takenOut t) (ap length (taken-out-seats t))
 
   after-named : Named (takenOut t)
   after-named =
       record {
         links = record { few = rw after-count (w .few-nodes); small = λ a. rw after-count (after-sized .small a) };
-        own-small = λ r. rw (after-count, after-seats) (named .own-small r);
-        prev-small = λ r. rw (after-count, after-seats) (named .prev-small r);
-        cur-small = λ r. rw (after-count, after-seats) (named .cur-small r);
+        own-small = λ r. rw (after-count, taken-out-seats t) (named .own-small r);
+        prev-small = λ r. rw (after-count, taken-out-seats t) (named .prev-small r);
+        cur-small = λ r. rw (after-count, taken-out-seats t) (named .cur-small r);
       }
 
   -- off the unmarked listed nodes no link changes
@@ -276,7 +268,7 @@ module _ (t : Tables) (w : Sound t) where
   unfolding reachOthers
   others-same s =
       rw (after-count, after-seat-count)
-      (seats-alike (kept t) t (takenOut t) named after-seats after-link (nodeCount t) s (addAll none (kept t)) (seatCount t)
+      (seats-alike (kept t) t (takenOut t) named (taken-out-seats t) after-link (nodeCount t) s (addAll none (kept t)) (seatCount t)
       (record { four = kept-grown .four; holds = λ a e. kept-has a ∙ listed-after a ∙ e }) .0)
 
   pub after-free : (s x : ℕ) → not (has (reachOthers t s (addAll none (kept t))) x) ≡ free (takenOut t) s x

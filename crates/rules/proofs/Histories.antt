@@ -9,7 +9,7 @@ use Rattle.rules.specs.Tables.{Tables, tables, fresh, readers, writers, 
 use Rattle.rules.specs.Comparison.{claim}
 use Rattle.rules.specs.Shape.{sound}
 use Rattle.rules.specs.Reach.{listOf}
-use Rattle.rules.specs.Stores.{store, stores}
+use Rattle.rules.specs.Stores.{store, stores, markedListed}
 use Rattle.rules.specs.Answers.{Answer, node, out, on, wait, held, back, refused, done}
 use Rattle.rules.specs.Calls.{clear}
 use Rattle.rules.specs.FreeCount.{counted, freeCount}
@@ -219,7 +219,7 @@ unfolding rules
 title-has-an-end = ((refl, refl), (refl, refl, refl, refl, refl), (refl, refl, refl, refl, refl), (refl, refl, refl, refl, refl))
 
 -- ---- 02 (iv): four writers hold, one behind the other, and every node is listed. Some are released; then the stores that take their nodes out, of the
--- head's link (0) and of nodes: one for each run of released nodes, wherever it lies. Before, each that stays was stored, and the head
+-- head's link (0) and of nodes': one for each run of released nodes, wherever it lies
 abbrev fourHold : List Call
 fourHold =
     b 0 0 10 2 ∷ (replicate 2 (s 0) ++ (b 1 10 20 2 ∷ (replicate 4 (s 1) ++ (b 2 20 30 2 ∷ (replicate 6 (s 2) ++ (b 3 30 40 2 ∷ replicate 8 (s 3)))))))
@@ -236,6 +236,7 @@ FewerWrites =
     × (stores (released (r 2 ∷ r 1 ∷ [])) ≡ store 1 4 ∷ [])
     × (stores (released (r 3 ∷ [])) ≡ store 3 0 ∷ [])
     × (stores (released (r 0 ∷ r 1 ∷ r 2 ∷ r 3 ∷ [])) ≡ store 0 0 ∷ [])
+    × (markedListed (released (r 2 ∷ r 1 ∷ [])) ≡ 2)
 
 -- and what begin answers and leaves: node 1, with the two that stay on the list
 abbrev pub AnswersStay : Type 0
@@ -245,7 +246,7 @@ AnswersStay =
 
 pub fewer-writes : FewerWrites × AnswersStay
 unfolding rules
-fewer-writes = ((refl, refl, refl, refl, refl, refl, refl), (refl, refl))
+fewer-writes = ((refl, refl, refl, refl, refl, refl, refl, refl), (refl, refl))
 
 -- ---- ours: seat 2 waits at node 1, and nodes 1 and 2 are released. Taken out, node 2 is at no seat's own, prev or cur; but
 -- seat 2 still reaches it through node 1, so it is not free

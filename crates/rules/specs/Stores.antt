@@ -18,8 +18,8 @@ pub record Store : Type 0 where
 abbrev pub store : ℕ → ℕ → Store
 store whose value = record { whose = whose; value = value }
 
--- "head and the unmarked listed nodes then link to the next unmarked one", the last to 0: from prev on, along the nodes that stay, one store for
--- each link that is another yet
+-- "head and the unmarked listed nodes then link to the next unmarked one", the last to 0, and "Store only the links that differ": from prev on,
+-- along the nodes that stay, one store for each link that does not stand so already
 unfoldable pub storesAlong : Tables → ℕ → List ℕ → List Store
 storesAlong t prev [] =
     if link t prev is 0 then []

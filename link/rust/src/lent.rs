@@ -1,5 +1,6 @@
 //! The calls on tables that stay the caller's: lent slices of words, as the archive takes them. Any slices and any numbers will do, and a
-//! refused call changes nothing. The two slices of a call must be those of one pair; [`Tables`](crate::Tables) keeps them together.
+//! refused call changes nothing. For who mirrors the tables on every store: a refused call, the board and the free count store nothing in
+//! them, not even what stands there already, and where nodes are taken off the list only the links that differ are stored. The two slices of a call must be those of one pair; [`Tables`](crate::Tables) keeps them together.
 
 use crate::answers::{answer, cleared, count, ran, well_formed, Answer, BadScript, Ran, Refused, Row, Shown};
 use crate::archive;

@@ -46,6 +46,10 @@ pub data Ends (link : ℕ → ℕ) : ℕ → ℕ → Type 0 where
   stop : Ends link 0 0
   more : {a n : ℕ} → 0 < a → Ends link (link a) n → Ends link a (suc n)
 
+pub ends-zero : {link : ℕ → ℕ} {a n : ℕ} → Ends link a n → n ≤ 0 → a ≡ 0
+ends-zero stop l = refl
+ends-zero (more h e) l = absurd (omega arith)
+
 pub ends-tail : {link : ℕ → ℕ} {a n : ℕ} → Ends link a n → a ≢ 0 → (m : ℕ) × Ends link (link a) m × (suc m ≡ n)
 ends-tail stop z = absurd (z refl)
 ends-tail (more {n = m} h e) z = (m, e, refl)

@@ -10,9 +10,9 @@ use Rattle.rules.specs.Notation.{_is_}
 use Rattle.rules.specs.Tables.{Tables, tables, beforeNodes, nodeWidth, nodeCount, mark, marked, link, next, head, setLink}
 use Rattle.rules.specs.Fetch.{keptFrom, kept, linkThrough, takenOut}
 use Rattle.rules.proofs.Ground.Logic.{branch}
-use Rattle.rules.proofs.Laws.Words.{link-put-same, link-put-other, node-count, same-link, put-link-twice}
-use Rattle.rules.proofs.Laws.Kept.{kept-away}
-use Rattle.rules.proofs.Ground.Following.{reach-target, reach-next, Ends, stop, more, ends-tail, no-circle, unlink-keeps-ends}
+use Rattle.rules.proofs.Laws.Words.{link-put-same, link-put-other, node-count, put-link-twice}
+use Rattle.rules.proofs.Laws.Kept.{through-ended, through-right, kept-away}
+use Rattle.rules.proofs.Ground.Following.{reach-target, reach-next, Ends, ends-zero, ends-tail, no-circle, unlink-keeps-ends}
 use Rattle.rules.specs.Reach.{Reach, here, there}
 use Rattle.rules.proofs.Ground.Pigeonhole.{short}
 use Rattle.rules.proofs.Invariant.View.{seatsOf}
@@ -51,22 +51,10 @@ unfolding linkThrough
 through-again [] t p v = ap (λ l. tables l (t .seats)) (put-link-twice (t .nodes) p v 0)
 through-again (a ∷ ks) t p v = ap (λ l. linkThrough (tables l (t .seats)) a ks) (put-link-twice (t .nodes) p v a)
 
-through-kept : (t : Tables) (p c : ℕ) (ks : List ℕ) → link t p ≡ c → linkThrough t p (c ∷ ks) ≡ linkThrough t c ks
-unfolding linkThrough
-through-kept t p c ks e = rw (same-link t p c e)
-
-through-end : (t : Tables) (p : ℕ) → link t p ≡ 0 → linkThrough t p [] ≡ t
-unfolding linkThrough
-through-end t p e = same-link t p 0 e
-
 -- a marked node is passed over, and the rest is done from the same prev
 through-marked : (h : ℕ) (t : Tables) (p v : ℕ) → (Reach (link t) p v → ⊥)
     → linkThrough (setLink t p v) p (keptFrom h (setLink t p v) v) ≡ linkThrough t p (keptFrom h t v)
 through-marked h t p v away = rw (kept-away t p v h v away) (through-again (keptFrom h t v) t p v)
-
-ends-zero : {link : ℕ → ℕ} {a k : ℕ} → Ends link a k → k ≤ 0 → a ≡ 0
-ends-zero stop l = refl
-ends-zero (more p e) l = absurd (omega arith)
 
 -- What holds of the tables and of prev is kept, if passing over a marked node keeps it and going on to any other does.
 module _ (Holds : Tables → ℕ → Type 0)
@@ -78,10 +66,10 @@ module _ (Holds : Tables → ℕ → Type 0)
   through-keeps : (h : ℕ) (t : Tables) (p c : ℕ) → Holds t p → link t p ≡ c → (k : ℕ) → Ends (link t) c k → k ≤ h
       → (q : ℕ) × Holds (linkThrough t p (keptFrom h t c)) q
   unfolding keptFrom
-  through-keeps zero t p c g e k ends l = rw (through-end t p (e ∙ ends-zero ends l)) (p, g)
+  through-keeps zero t p c g e k ends l = rw (through-ended t p (e ∙ ends-zero ends l)) (p, g)
   through-keeps (suc h) t p c g e k ends l =
       branch (λ ks. (q : ℕ) × Holds (linkThrough t p ks) q) (c is 0)
-      (λ z. rw (through-end t p (e ∙ eqb-true c 0 z)) (p, g))
+      (λ z. rw (through-ended t p (e ∙ eqb-true c 0 z)) (p, g))
       (λ z. let d = eqb-false c 0 z in
       let pos : 0 < c = omega arith in
       let v = next t c in
@@ -91,7 +79,7 @@ module _ (Holds : Tables → ℕ → Type 0)
       let left = unlink-keeps-ends (link t) (link (setLink t p v)) p c pos e new (λ a x. link-put-other (t .nodes) p a v (λ q. x (sym q))) (rest .1) in
       rw (through-marked h t p v (λ r. no-way-back t p g (rw e (there pos r)))) at
       (through-keeps h (setLink t p v) p v (passed-over t p c g e d (eqb-true (mark t c) 1 m)) new (left .0) (left .1) (omega arith)))
-      (λ m. rw (through-kept t p c (keptFrom h t v) e)
+      (λ m. rw (through-right t p c (keptFrom h t v) e)
       (through-keeps h t c v (gone-on t p c g e d (eqb-false (mark t c) 1 m)) refl (rest .0) (rest .1) (omega arith))))
 
   pub taken-out-keeps : (t : Tables) → Holds t 0 → (k : ℕ) → Ends (link t) (head t) k → k ≤ nodeCount t → (q : ℕ) × Holds (takenOut t) q

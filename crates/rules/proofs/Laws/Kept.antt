@@ -12,9 +12,9 @@ use Rattle.rules.specs.Reach.{Reach, here, there}
 use Rattle.rules.specs.Fetch.{keptFrom, linkThrough}
 use Rattle.rules.specs.Stores.{ListEnds}
 use Rattle.rules.proofs.Ground.Deciding.{if-same, if-true}
-use Rattle.rules.proofs.Ground.Following.{reach-target, Ends, stop, more, ends-tail, no-circle, away-keeps-ends}
+use Rattle.rules.proofs.Ground.Following.{reach-target, Ends, stop, more, ends-zero, ends-tail, no-circle, away-keeps-ends}
 use Rattle.rules.proofs.Ground.Pigeonhole.{Off, off-none, off-more}
-use Rattle.rules.proofs.Laws.Words.{link-put-other, node-put-link}
+use Rattle.rules.proofs.Laws.Words.{link-put-other, node-put-link, same-link}
 use Rattle.rules.proofs.Laws.Listed.{within-ends}
 
 -- prev and each of some nodes link to the one that follows
@@ -25,6 +25,13 @@ through-end t prev = refl
 pub through-more : (t : Tables) (prev a : ℕ) (ks : List ℕ) → linkThrough t prev (a ∷ ks) ≡ linkThrough (setLink t prev a) a ks
 unfolding linkThrough
 through-more t prev a ks = refl
+
+-- a link that is right already is stored as it was
+pub through-ended : (t : Tables) (prev : ℕ) → link t prev ≡ 0 → linkThrough t prev [] ≡ t
+through-ended t prev e = through-end t prev ∙ same-link t prev 0 e
+
+pub through-right : (t : Tables) (prev a : ℕ) (ks : List ℕ) → link t prev ≡ a → linkThrough t prev (a ∷ ks) ≡ linkThrough t a ks
+through-right t prev a ks e = through-more t prev a ks ∙ ap (λ u. linkThrough u a ks) (same-link t prev a e)
 
 -- ---- the unmarked nodes
 pub kept-end : (h : ℕ) (t : Tables) (a : ℕ) → a ≡ 0 → keptFrom h t a ≡ []
@@ -55,6 +62,12 @@ kept-enough t (more {a = a} p e) (suc h) (suc g) l l′ =
     if-same (mark t a) 1
     (λ m. kept-out g t a z m ∙ same ∙ sym (kept-out h t a z m))
     (λ m. kept-in g t a z m ∙ ap (λ ks. a ∷ ks) same ∙ sym (kept-in h t a z m))
+
+-- a node that stays, and then what stays behind it
+pub kept-on : (t : Tables) (h a : ℕ) (ks : List ℕ) → a ≢ 0 → mark t a ≢ 1 → ((g : ℕ) → h ≤ g → keptFrom g t (next t a) ≡ ks)
+    → (g : ℕ) → suc h ≤ g → keptFrom g t a ≡ a ∷ ks
+kept-on t h a ks z m behind zero l = absurd (omega arith)
+kept-on t h a ks z m behind (suc g) l = kept-in g t a z m ∙ ap (λ xs. a ∷ xs) (behind g (omega arith))
 
 -- what is not ahead is not among them
 pub kept-off : (h : ℕ) (t : Tables) (x a : ℕ) → (Reach (link t) x a → ⊥) → Off x (keptFrom h t a)
@@ -91,11 +104,7 @@ pub record At (t : Tables) (h prev cur : ℕ) : Type 0 where
 
 module _ {t : Tables} {q c : ℕ} where
   pub at-end : At t 0 q c → c ≡ 0
-  at-end w = none (w .ends) (w .enough)
-    where
-      none : {a k : ℕ} → Ends (link t) a k → k ≤ 0 → a ≡ 0
-      none stop l = refl
-      none (more p e) l = absurd (omega arith)
+  at-end w = ends-zero (w .ends) (w .enough)
 
   -- a link that differs is no 0
   pub at-there : {h : ℕ} → At t h q c → link t q ≢ c → link t q ≢ 0

@@ -15,9 +15,9 @@ use Rattle.rules.specs.Stores.{Store, store, storesAlong, stores, ListEn
 use Rattle.rules.proofs.Ground.Deciding.{if-same}
 use Rattle.rules.proofs.Ground.Following.{Ends, stop, more}
 use Rattle.rules.proofs.Ground.Pigeonhole.{Off, off-none, off-more}
-use Rattle.rules.proofs.Laws.Words.{link-put-there, link-put-other, same-link, put-link-length, same-node-count}
+use Rattle.rules.proofs.Laws.Words.{link-put-there, link-put-other, put-link-length, same-node-count}
 use Rattle.rules.proofs.Laws.Listed.{ends-within}
-use Rattle.rules.proofs.Laws.Kept.{through-end, through-more, kept-end, kept-in, kept-out, kept-ways, kept-enough, kept-off, mark-stays, At, at-end, at-there, cur-pos, on-ends, on-few, prev-not-cur, prev-behind, at-skip, at-on, skip-left, on-left, stored-ends, at-stored, kept-stored, at-head}
+use Rattle.rules.proofs.Laws.Kept.{through-end, through-more, through-ended, through-right, kept-on, kept-end, kept-in, kept-out, kept-ways, kept-enough, kept-off, mark-stays, At, at-end, at-there, cur-pos, on-ends, on-few, prev-not-cur, prev-behind, at-skip, at-on, skip-left, on-left, stored-ends, at-stored, kept-stored, at-head}
 
 -- ---- the list of stores, by the ways on
 module _ (t : Tables) (q : ℕ) where
@@ -119,9 +119,9 @@ ComesTo t q ks = storeAll t (storesAlong t q ks) ≡ linkThrough t q ks
 comes-to : (h : ℕ) (t : Tables) (q c : ℕ) → At t h q c → ComesTo t q (keptFrom h t c)
 comes-to =
     along ComesTo
-    (λ t q e. rw (along-ended t q e, all-none t, through-end t q, same-link t q 0 e))
+    (λ t q e. rw (along-ended t q e, all-none t, through-ended t q e))
     (λ t q d. rw (along-end t q d, all-more t (store q 0) [], all-none (setLink t q 0), through-end t q))
-    (λ t q c ks e r. rw (along-same t q c ks e, through-more t q c ks, same-link t q c e) r)
+    (λ t q c ks e r. rw (along-same t q c ks e, through-right t q c ks e) r)
     (λ t q c ks o r. rw (along-other t q c ks (o .differs), all-more t (store q c) (storesAlong t c ks), through-more t q c ks) (rw (o .others) at r))
 
 -- ---- each link that differs is stored once, and no other
@@ -202,17 +202,13 @@ made-here {t} {h} {q} {c} w z m d =
     record {
       to-prev-or-ahead = inl refl;
       stands = at-there w d;
-      same-kept = λ g l. rw new (kept-on g l);
+      same-kept = λ g l. rw new (kept-on u h c ks z (λ e. m (sym (mark-stays t q c c) ∙ e)) behind g l);
       others = along-same u q c ks new ∙ along-off q t c c ks (prev-not-cur w z) (kept-off h t q (next t c) (prev-behind w z));
       ends = rw new (suc (on-ends w z .0), more (cur-pos w z) (stored-ends w z c), let e = on-ends w z .2 in omega arith);
     }
   where
-    kept-on : (g : ℕ) → suc h ≤ g → keptFrom g (setLink t q c) c ≡ c ∷ keptFrom h t (next t c)
-    kept-on zero l = absurd (omega arith)
-    kept-on (suc g) l =
-        let few = on-few w z in
-        kept-in g (setLink t q c) c z (λ e. m (sym (mark-stays t q c c) ∙ e))
-        ∙ ap (λ ks. c ∷ ks) (kept-enough (setLink t q c) (stored-ends w z c) h g few (omega arith) ∙ kept-stored w z)
+    behind : (g : ℕ) → h ≤ g → keptFrom g (setLink t q c) (next (setLink t q c) c) ≡ keptFrom h t (next t c)
+    behind g l = let few = on-few w z in kept-enough (setLink t q c) (stored-ends w z c) h g few (omega arith) ∙ kept-stored w z
 
 -- or a later one: prev's link is right, and stays
 made-later : {t : Tables} {h q c : ℕ} {x : Store} {xs : List Store} (w : At t (suc h) q c) (z : c ≢ 0) → mark t c ≢ 1 → link t q ≡ c
@@ -225,16 +221,10 @@ made-later {t} {h} {q} {c} {x} w z m e r =
     record {
       to-prev-or-ahead = inr ahead;
       stands = r .stands;
-      same-kept = λ g l. rw new (kept-on g l);
+      same-kept = λ g l. rw new (kept-on u h c ks z (λ y. m (sym (mark-stays t (x .whose) (x .value) c) ∙ y)) (r .same-kept) g l);
       others = along-same u q c ks new ∙ r .others;
       ends = let k = r .ends in rw new (suc (k .0), more (cur-pos w z) (k .1), let f = on-left w z in let l = k .2 in omega arith);
     }
-  where
-    kept-on : (g : ℕ) → suc h ≤ g → keptFrom g (made t x) c ≡ c ∷ keptFrom h t (next t c)
-    kept-on zero l = absurd (omega arith)
-    kept-on (suc g) l =
-        kept-in g (made t x) c z (λ y. m (sym (mark-stays t (x .whose) (x .value) c) ∙ y))
-        ∙ ap (λ ks. c ∷ ks) (r .same-kept g (omega arith))
 
 -- a marked node is passed over: what holds from the next node on holds from here
 made-skipped : {t : Tables} {h q c : ℕ} {x : Store} {xs : List Store} {ks : List ℕ} (w : At t (suc h) q c) (z : c ≢ 0) (m : mark t c ≡ 1)
