@@ -1,6 +1,6 @@
--- Demand 3: nobody waits without cause. In every table that is reached, each `wait n` has its cause at node n; and a seat with a claim that is
--- stepped 6·N + 8 times, with no other call between, holds, or waits at a claim that clashes with its own and stands, or is refused 8 because
--- no node is free for it. Nothing else stands here: the words are those of specs/Cause.antt, and each proof is a citation.
+-- Demand 3: nobody waits without cause. In every table that is reached, each `wait n first end` has its cause at node n, in the frames from first up
+-- to end; and a seat with a claim that is stepped 6·N + 8 times, with no other call between, holds, or waits at a claim that clashes with its own in
+-- the frames named and stands, or is refused 8 because no node is free for it. Nothing else stands here: the words are those of specs/Cause.antt, and each proof is a citation.
 use Prim.Native.Nat.{ℕ, _+_, _*_, _≤_}
 use mathlib.Core.Path.{_≡_}
 use mathlib.Core.Logic.{_≢_, _⊎_}
@@ -16,8 +16,9 @@ use Rattle.rules.proofs.Waiting.EveryWait.{wait-caused}
 use Rattle.rules.proofs.Waiting.StepsAlone.{settled-tells}
 use Rattle.rules.proofs.Waiting.NobodyWaits.{settled, none-or-8, settled-by-run, run-ends}
 
--- ---- whenever a step answers `wait n`, the claim at n is the cause, in the tables that the step leaves
-pub every-wait-has-its-cause : {N S : ℕ} {t : Tables} → Reached N S t → (s n : ℕ) → step t s .answer ≡ wait n → Cause (step t s .after) s n
+-- ---- whenever a step answers `wait n first end`, the claim at n is the cause and these are the frames, in the tables that the step leaves
+pub every-wait-has-its-cause : {N S : ℕ} {t : Tables} → Reached N S t → (s n first end : ℕ) → step t s .answer ≡ wait n first end
+    → Cause (step t s .after) s n first end
 every-wait-has-its-cause r = wait-caused r
 
 -- ---- 6·N + 8 steps of one seat settle its claim

@@ -43,7 +43,7 @@ answers t calls = map (λ (turn : Turn). turn .did .answer) (trace t calls)
 abbrev pub H1 : Type 0
 H1 =
     play (ascii "4 3 10 4294967295\nb 0 10 20 2\ns 0\ns 0\nb 1 15 25 2\ns 1\nr 0\ns 1\ns 1\ns 1\ns 1\n")
-    ≡ ascii "1 node 1\n2 on\n3 held\n4 node 2\n5 wait 1\n6 out\n7 on\n8 on\n9 on\n10 held\nlist 2\nhold 1 15 25 2\ncovered 10\n"
+    ≡ ascii "1 node 1\n2 on\n3 held\n4 node 2\n5 wait 1 15 20\n6 out\n7 on\n8 on\n9 on\n10 held\nlist 2\nhold 1 15 25 2\ncovered 10\n"
 
 -- ---- H2: writers 10..20 and 20..30 both hold
 abbrev pub H2calls : List Call
@@ -56,7 +56,7 @@ H2 =
 
 -- ---- H3: with writer 10..20 held, writer 19..30 waits
 abbrev pub H3 : Type 0
-H3 = answers (cleared 4 4) (b 0 10 20 2 ∷ s 0 ∷ s 0 ∷ b 1 19 30 2 ∷ s 1 ∷ []) ≡ node 1 ∷ on ∷ held ∷ node 2 ∷ wait 1 ∷ []
+H3 = answers (cleared 4 4) (b 0 10 20 2 ∷ s 0 ∷ s 0 ∷ b 1 19 30 2 ∷ s 1 ∷ []) ≡ node 1 ∷ on ∷ held ∷ node 2 ∷ wait 1 19 20 ∷ []
 
 -- ---- H4: readers 0..100 and 50..60 both hold; a writer 70..80 waits at the first
 abbrev pub H4calls : List Call
@@ -64,7 +64,7 @@ H4calls = b 0 0 100 1 ∷ s 0 ∷ s 0 ∷ b 1 50 60 1 ∷ s 1 ∷ s 1 ∷ s 1 �
 
 abbrev pub H4 : Type 0
 H4 =
-    (answers (cleared 4 4) H4calls ≡ node 1 ∷ on ∷ held ∷ node 2 ∷ on ∷ on ∷ held ∷ node 3 ∷ wait 1 ∷ [])
+    (answers (cleared 4 4) H4calls ≡ node 1 ∷ on ∷ held ∷ node 2 ∷ on ∷ on ∷ held ∷ node 3 ∷ wait 1 70 80 ∷ [])
     × (holders (afterAll (cleared 4 4) H4calls) ≡ row 0 0 100 1 ∷ row 1 50 60 1 ∷ [])
 
 -- ---- H5: two readers of 5..9 hold
@@ -90,7 +90,7 @@ H8calls = b 0 0 10 2 ∷ s 0 ∷ s 0 ∷ b 1 0 10 2 ∷ s 1 ∷ r 0 ∷ b 0 0 10
 
 abbrev pub H8 : Type 0
 H8 =
-    (answers (cleared 2 4) H8calls ≡ node 1 ∷ on ∷ held ∷ node 2 ∷ wait 1 ∷ out ∷ refused 8 ∷ [])
+    (answers (cleared 2 4) H8calls ≡ node 1 ∷ on ∷ held ∷ node 2 ∷ wait 1 0 10 ∷ out ∷ refused 8 ∷ [])
     × (head (afterAll (cleared 2 4) H8calls) ≡ 1)
 
 -- ---- H9, N = 8: readers 1..10 (node 1) and 12..14 (node 2) hold. Seat 2 begins reader 5..20, seat 3 writer 15..20. Steps of
@@ -111,7 +111,7 @@ abbrev pub H9 : Type 0
 H9 =
     (answers (cleared 8 4) H9begun ≡ node 1 ∷ on ∷ held ∷ node 2 ∷ on ∷ on ∷ held ∷ node 3 ∷ node 4 ∷ [])
     × (holders H9start ≡ row 0 1 10 1 ∷ row 1 12 14 1 ∷ [])
-    × (answers H9start H9calls ≡ on ∷ on ∷ on ∷ on ∷ on ∷ on ∷ wait 4 ∷ on ∷ back ∷ on ∷ on ∷ held ∷ [])
+    × (answers H9start H9calls ≡ on ∷ on ∷ on ∷ on ∷ on ∷ on ∷ wait 4 15 20 ∷ on ∷ back ∷ on ∷ on ∷ held ∷ [])
     × (listOf H9end ≡ 1 ∷ 3 ∷ 2 ∷ [])
 
 -- ---- H10: then seat 3 steps three times: on, on, wait 3; its new node is 4
@@ -119,7 +119,7 @@ abbrev pub H10calls : List Call
 H10calls = s 3 ∷ s 3 ∷ s 3 ∷ []
 
 abbrev pub H10 : Type 0
-H10 = (answers H9end H10calls ≡ on ∷ on ∷ wait 3 ∷ []) × (own (afterAll H9end H10calls) 3 ≡ 4)
+H10 = (answers H9end H10calls ≡ on ∷ on ∷ wait 3 15 20 ∷ []) × (own (afterAll H9end H10calls) 3 ≡ 4)
 
 -- ---- H11: begin 7..7 is refusal 3; 0..4294967295 is accepted
 abbrev pub H11 : Type 0
@@ -253,14 +253,14 @@ fewer-writes = ((refl, refl, refl, refl, refl, refl, refl, refl), (refl, refl))
 abbrev pub ThroughRemoved : Type 0
 ThroughRemoved =
     answers (cleared 3 3) (b 0 0 10 2 ∷ s 0 ∷ s 0 ∷ b 1 20 30 2 ∷ s 1 ∷ s 1 ∷ s 1 ∷ s 1 ∷ b 2 5 30 2 ∷ s 2 ∷ r 0 ∷ r 1 ∷ b 0 40 50 2 ∷ [])
-    ≡ node 1 ∷ on ∷ held ∷ node 2 ∷ on ∷ on ∷ on ∷ held ∷ node 3 ∷ wait 1 ∷ out ∷ out ∷ refused 8 ∷ []
+    ≡ node 1 ∷ on ∷ held ∷ node 2 ∷ on ∷ on ∷ on ∷ held ∷ node 3 ∷ wait 1 5 10 ∷ out ∷ out ∷ refused 8 ∷ []
 
 -- ---- ours: seat 1 has passed node 1 when that is released, and seat 2 takes it out and holds 20..30. Seat 1 must not enter
 -- behind node 1, where no one would see it: it starts again and waits at seat 2's node
 abbrev pub BehindMarked : Type 0
 BehindMarked =
     answers (cleared 4 3) (b 0 0 10 2 ∷ s 0 ∷ s 0 ∷ b 1 20 30 1 ∷ s 1 ∷ r 0 ∷ b 2 20 30 2 ∷ s 2 ∷ s 2 ∷ s 2 ∷ s 1 ∷ s 1 ∷ [])
-    ≡ node 1 ∷ on ∷ held ∷ node 2 ∷ on ∷ out ∷ node 3 ∷ on ∷ on ∷ held ∷ on ∷ wait 3 ∷ []
+    ≡ node 1 ∷ on ∷ held ∷ node 2 ∷ on ∷ out ∷ node 3 ∷ on ∷ on ∷ held ∷ on ∷ wait 3 20 30 ∷ []
 
 pub our-histories : ThroughRemoved × BehindMarked
 unfolding rules

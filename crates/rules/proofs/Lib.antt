@@ -3,6 +3,7 @@ pub mod Histories
 pub mod Reaching
 pub mod Refusing
 pub mod Apart
+pub mod Shared
 pub mod Cause
 pub mod Covered
 pub mod HowMany

@@ -3,14 +3,17 @@ use Prim.Native.Nat.{ℕ}
 use mathlib.Core.Bool.{Bool}
 use mathlib.Core.List.{List, [], _∷_}
 use Rattle.rules.specs.Notation.{if_then_else_, _is_}
-use Rattle.rules.specs.Tables.{Tables, phase, cur}
+use Rattle.rules.specs.Tables.{Tables, phase, own, cur}
+use Rattle.rules.specs.Comparison.{claimOf, shared}
+use Rattle.rules.specs.declared.SharedRun.{SharedRun}
 
--- "Begin: `node n`. Release: `out`. Step .. `wait n` .. `held` .. `back` .. `on`", or the number of the refusal
+-- "Begin: `node n`. Release: `out`. Step .. `wait n` .. `held` .. `back` .. `on`", or the number of the refusal. With `wait n`, by 02 (v), "the first
+-- shared frame and the end of the shared run": "`wait` carries both"
 pub data Answer : Type 0 where
   node : ℕ → Answer
   out : Answer
   on : Answer
-  wait : ℕ → Answer
+  wait : ℕ → ℕ → ℕ → Answer
   held : Answer
   back : Answer
   refused : ℕ → Answer
@@ -41,11 +44,18 @@ refusing say (reason ∷ more) t accepted =
     if reason .holds then done (say (reason .number)) t
     else refusing say more t accepted
 
+-- what the claim waited at, that of cur, shares with the seat's own
+abbrev pub sharedAtCur : Tables → ℕ → SharedRun
+sharedAtCur t s = shared (claimOf t (cur t s)) (claimOf t (own t s))
+
+abbrev pub waiting : Tables → ℕ → Answer
+waiting t s = wait (cur t s) (sharedAtCur t s .first) (sharedAtCur t s .end)
+
 -- "Step, from the seat's new phase: 2 or 4 `wait n` with n = cur; 5 `held`; 6 `back`; else `on`."
 unfoldable pub answerOf : Tables → ℕ → Answer
 answerOf t s =
-    if phase t s is 2 then wait (cur t s)
-    else if phase t s is 4 then wait (cur t s)
+    if phase t s is 2 then waiting t s
+    else if phase t s is 4 then waiting t s
     else if phase t s is 5 then held
     else if phase t s is 6 then back
     else on

@@ -8,7 +8,8 @@ use Rattle.rules.specs.Comparison.{claimOf}
 use Rattle.rules.specs.Answers.{Answer, held, wait, refused, done}
 use Rattle.rules.specs.Calls.{step}
 use Rattle.rules.specs.Refusing.{NoNodeFree}
-use Rattle.rules.specs.Apart.{Covers, claimOfSeat, Holds, LinkedIn, Stands}
+use Rattle.rules.specs.Apart.{claimOfSeat, Holds, LinkedIn, Stands}
+use Rattle.rules.specs.Shared.{WholeShared}
 use Rattle.rules.specs.declared.Ran.{Ran}
 
 -- ---- steps of one seat with no other call between
@@ -21,28 +22,28 @@ pub data RunEnds (k : ℕ) (r : Ran) : Type 0 where
   all-stepped : r .steps ≡ k → r .refusal ≡ 0 → RunEnds k r
   stopped-at-8 : r .refusal ≡ 8 → r .steps < k → RunEnds k r
 
--- why seat s waits at node n: its claim stands, is another seat's, and both cover a frame which one of them writes
-pub record Cause (t : Tables) (s n : ℕ) : Type 0 where
+-- why seat s waits at node n for the frames from first up to but not including end: the claim at n stands, is another seat's, and one of the two
+-- writes; the frames are some, and all that both cover
+pub record Cause (t : Tables) (s n first end : ℕ) : Type 0 where
   pub seat : ℕ
   pub is-seat : seat < seatCount t
   pub other : seat ≢ s
   pub theirs : own t seat ≡ n
   pub linked-in : LinkedIn t seat
   pub stands : Stands t n
-  pub frame : ℕ
-  pub covered : Covers (claimOfSeat t s) frame
-  pub covered-by-theirs : Covers (claimOf t n) frame
-  pub one-writes : (claimOfSeat t s .kind ≡ 2) ⊎ (claimOf t n .kind ≡ 2)
+  pub some-frame : first < end
+  pub whole : WholeShared (claimOf t n) (claimOfSeat t s) first end
+  pub one-writes : (claimOf t n .kind ≡ 2) ⊎ (claimOfSeat t s .kind ≡ 2)
 
 -- how it stands with a claim that need not be stepped on, and what a step answers, which changes nothing: it holds, it waits with cause,
 -- or no node is free for it
 pub data Settled (t : Tables) (s : ℕ) : Type 0 where
   holds : Holds t s → step t s ≡ done held t → Settled t s
-  waits : (n : ℕ) → step t s ≡ done (wait n) t → Cause t s n → Settled t s
+  waits : (n first end : ℕ) → step t s ≡ done (wait n first end) t → Cause t s n first end → Settled t s
   no-node : step t s ≡ done (refused 8) t → phase t s ≡ 6 → NoNodeFree t s → Settled t s
 
 -- what a step of such a claim told the worker, and how the tables then are
 pub data Told (s : ℕ) (answer : Answer) (t : Tables) : Type 0 where
   told-held : answer ≡ held → Holds t s → Told s answer t
-  told-wait : (n : ℕ) → answer ≡ wait n → Cause t s n → Told s answer t
+  told-wait : (n first end : ℕ) → answer ≡ wait n first end → Cause t s n first end → Told s answer t
   told-8 : answer ≡ refused 8 → phase t s ≡ 6 → NoNodeFree t s → Told s answer t

@@ -16,6 +16,7 @@ pub mod Reached
 pub mod Means
 pub mod Refusing
 pub mod Apart
+pub mod Shared
 pub mod Cause
 pub mod Covered
 pub mod HowMany

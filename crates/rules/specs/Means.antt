@@ -15,7 +15,7 @@ abbrev pub means : Reply → Answer
 means (Node n) = node n
 means Out = out
 means On = on
-means (Wait n) = wait n
+means (Wait n first end) = wait n first end
 means Held = held
 means Back = back
 means (Refused number) = refused number

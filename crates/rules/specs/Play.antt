@@ -72,12 +72,12 @@ digits (suc hops) n = elim (n <? 10) [ true ↦ (48 + n % 10) ∷ [] | false ↦
 unfoldable pub decimal : ℕ → List ℕ
 decimal n = digits n n
 
--- ---- "Each call prints its number and its answer (`no k` if refused; the rest still run)"
+-- ---- "Each call prints its number and its answer (`no k` if refused; the rest still run)"; 02 (v): `wait 4 15 20`
 unfoldable pub answerText : Answer → List ℕ
 answerText (node n) = ascii "node " ++ decimal n
 answerText out = ascii "out"
 answerText on = ascii "on"
-answerText (wait n) = ascii "wait " ++ decimal n
+answerText (wait n first end) = ascii "wait " ++ decimal n ++ ascii " " ++ decimal first ++ ascii " " ++ decimal end
 answerText held = ascii "held"
 answerText back = ascii "back"
 answerText (refused number) = ascii "no " ++ decimal number

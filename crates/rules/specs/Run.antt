@@ -17,7 +17,7 @@ abbrev pub refusalOf : Answer → ℕ
 refusalOf (node n) = 0
 refusalOf out = 0
 refusalOf on = 0
-refusalOf (wait n) = 0
+refusalOf (wait n first end) = 0
 refusalOf held = 0
 refusalOf back = 0
 refusalOf (refused number) = number

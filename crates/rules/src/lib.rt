@@ -49,12 +49,18 @@ pub struct Contents {
     pub next: usize,
 }
 
-// What begin, step and release answer.
+// What two claims share: the first shared frame, and the frame after the last.
+pub struct SharedRun {
+    pub first: u32,
+    pub end: u32,
+}
+
+// What begin, step and release answer. A wait has the node waited at, and the first frame and the end of the shared run.
 pub enum Reply {
     Node(u32),
     Out,
     On,
-    Wait(u32),
+    Wait(u32, u32, u32),
     Held,
     Back,
     Refused(u32),

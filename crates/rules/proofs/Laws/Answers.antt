@@ -5,9 +5,9 @@ use mathlib.Core.Logic.{_≢_, _⊎_, inl, inr}
 use native.Mathlib.Omega.{arith}
 use borrow.Author.Tests.{eqb-true}
 use Rattle.rules.specs.Notation.{_is_}
-use Rattle.rules.specs.Tables.{Tables, phase, cur}
+use Rattle.rules.specs.Tables.{Tables, phase}
 use Rattle.rules.specs.Run.{refusalOf}
-use Rattle.rules.specs.Answers.{Answer, node, out, on, wait, held, back, refused, answerOf}
+use Rattle.rules.specs.Answers.{Answer, node, out, on, wait, held, back, refused, waiting, answerOf}
 use Rattle.rules.proofs.Ground.Logic.{branch}
 
 -- an answer that is a refusal is the refusal of its number
@@ -15,7 +15,7 @@ pub refused-as : (a : Answer) → refusalOf a ≢ 0 → a ≡ refused (refusalOf
 refused-as (node n) d = absurd (d refl)
 refused-as out d = absurd (d refl)
 refused-as on d = absurd (d refl)
-refused-as (wait n) d = absurd (d refl)
+refused-as (wait n first end) d = absurd (d refl)
 refused-as held d = absurd (d refl)
 refused-as back d = absurd (d refl)
 refused-as (refused number) d = refl
@@ -30,7 +30,7 @@ answer-accepts t s =
     (λ e. branch (λ a. refusalOf a ≡ 0) (phase t s is 6) (λ e. refl) (λ e. refl))))
 
 module _ (t : Tables) (s : ℕ) where
-  pub answers-wait : (phase t s ≡ 2) ⊎ (phase t s ≡ 4) → answerOf t s ≡ wait (cur t s)
+  pub answers-wait : (phase t s ≡ 2) ⊎ (phase t s ≡ 4) → answerOf t s ≡ waiting t s
   unfolding answerOf
   answers-wait (inl p) = rw p
   answers-wait (inr p) = rw p
@@ -43,19 +43,18 @@ module _ (t : Tables) (s : ℕ) where
   unfolding answerOf
   answers-back p = rw p
 
-  -- a seat that is told to wait is in phase 2 or 4, and waits at its cur
-  pub waits-in : (n : ℕ) → answerOf t s ≡ wait n → ((phase t s ≡ 2) ⊎ (phase t s ≡ 4)) × (cur t s ≡ n)
+  -- a seat that is told to wait is in phase 2 or 4, and is told where, and for which frames, by its cur
+  pub waits-in : (n first end : ℕ) → answerOf t s ≡ wait n first end → ((phase t s ≡ 2) ⊎ (phase t s ≡ 4)) × (waiting t s ≡ wait n first end)
   unfolding answerOf
-  waits-in n =
-      branch (λ a. a ≡ wait n → ((phase t s ≡ 2) ⊎ (phase t s ≡ 4)) × (cur t s ≡ n)) (phase t s is 2)
-      (λ e q. (inl (eqb-true (phase t s) 2 e), cc))
-      (λ e. branch (λ a. a ≡ wait n → ((phase t s ≡ 2) ⊎ (phase t s ≡ 4)) × (cur t s ≡ n)) (phase t s is 4)
-      (λ e q. (inr (eqb-true (phase t s) 4 e), cc))
-      (λ e. branch (λ a. a ≡ wait n → ((phase t s ≡ 2) ⊎ (phase t s ≡ 4)) × (cur t s ≡ n)) (phase t s is 5)
-      (λ e q. let z : _≡_ {A = ℕ} 0 1 = cc in absurd (omega arith))
-      (λ e. branch (λ a. a ≡ wait n → ((phase t s ≡ 2) ⊎ (phase t s ≡ 4)) × (cur t s ≡ n)) (phase t s is 6)
-      (λ e q. let z : _≡_ {A = ℕ} 0 1 = cc in absurd (omega arith))
+  waits-in n first end =
+      branch So (phase t s is 2) (λ e q. (inl (eqb-true (phase t s) 2 e), q))
+      (λ e. branch So (phase t s is 4) (λ e q. (inr (eqb-true (phase t s) 4 e), q))
+      (λ e. branch So (phase t s is 5) (λ e q. let z : _≡_ {A = ℕ} 0 1 = cc in absurd (omega arith))
+      (λ e. branch So (phase t s is 6) (λ e q. let z : _≡_ {A = ℕ} 0 1 = cc in absurd (omega arith))
       (λ e q. let z : _≡_ {A = ℕ} 0 1 = cc in absurd (omega arith)))))
+    where
+      So : Answer → Type 0
+      So a = a ≡ wait n first end → ((phase t s ≡ 2) ⊎ (phase t s ≡ 4)) × (waiting t s ≡ wait n first end)
 
   -- such an answer is no refusal
   pub answers-no-refusal : (k : ℕ) → answerOf t s ≡ refused k → ⊥

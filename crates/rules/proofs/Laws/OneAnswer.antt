@@ -43,7 +43,7 @@ replyOf : Answer → Reply
 replyOf (node n) = Node n
 replyOf out = Out
 replyOf on = On
-replyOf (wait n) = Wait n
+replyOf (wait n first end) = Wait n first end
 replyOf held = Held
 replyOf back = Back
 replyOf (refused number) = Refused number
@@ -53,7 +53,7 @@ unfolding replyOf
 read-back (Node n) = refl
 read-back Out = refl
 read-back On = refl
-read-back (Wait n) = refl
+read-back (Wait n first end) = refl
 read-back Held = refl
 read-back Back = refl
 read-back (Refused number) = refl

@@ -47,7 +47,7 @@ module _ {N S : ℕ} (s : ℕ) (s-in : s < S) where
 pub settled-tells : {t : Tables} {s : ℕ} → Settled t s → Told s (step t s .answer) (step t s .after)
 settled-tells {t} {s} w = elim w [
   | holds h e ↦ so e (told-held refl h)
-  | waits n e c ↦ so e (told-wait n refl c)
+  | waits n first end e c ↦ so e (told-wait n first end refl c)
   | no-node e p n ↦ so e (told-8 refl p n)
 ]
   where

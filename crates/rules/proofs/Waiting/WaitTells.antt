@@ -1,0 +1,93 @@
+-- What a step that answers `wait` tells, of any tables: it is said from the seat's new phase, of the claim at its cur and its own, so the frames are
+-- the whole of what the two share; and of sound ones, that a comparison which gives 0 is told so.
+use Prim.Native.Nat.{ℕ, _<_}
+use mathlib.Core.Path.{_≡_, ap, _∙_}
+use mathlib.Core.Bool.{true}
+use mathlib.Core.Logic.{_≢_, inl}
+use native.Mathlib.Omega.{arith}
+use lib.IntN.{pos}
+use borrow.Author.Tests.{ne-eqb}
+use Rattle.rules.specs.Notation.{_is_}
+use Rattle.rules.specs.Tables.{Tables, phaseAt, ownAt, curAt, seatCount, mark, phase, own, cur, setPhase}
+use Rattle.rules.specs.Comparison.{claimOf, compare, sharedRun, shared}
+use Rattle.rules.specs.Shape.{sound}
+use Rattle.rules.specs.Fetch.{Fetched}
+use Rattle.rules.specs.Answers.{Answer, wait, Done, done, sharedAtCur, waiting, answerOf, answered}
+use Rattle.rules.specs.Steps.{walking, refetched}
+use Rattle.rules.specs.Calls.{step}
+use Rattle.rules.specs.Apart.{claimOfSeat}
+use Rattle.rules.specs.Shared.{WholeShared, NoneShared}
+use Rattle.rules.specs.declared.SharedRun.{SharedRun}
+use Rattle.rules.proofs.Ground.Logic.{branch}
+use Rattle.rules.proofs.Laws.SharedRuns.{shared-whole, shared-none}
+use Rattle.rules.proofs.Laws.Answers.{answers-wait, waits-in}
+use Rattle.rules.proofs.Rules.RuleEffects.{phase-stored}
+use Rattle.rules.proofs.Rules.Reasons.{Stepping, in-1, in-2, in-3, in-4, in-6, at-rest, by-phase-1}
+use Rattle.rules.proofs.Rules.Accepting.{Stepped, step-refused, step-accepted, stepped, step-is}
+use Rattle.rules.proofs.Frames.SeatFrames.{sound-room}
+
+-- ---- an accepted step that answers `wait` answers so from the seat's new phase
+module _ (n first end : ℕ) where
+  refetched-from-phase : (t : Tables) (s : ℕ) (f : Fetched) → refetched t s f .answer ≡ wait n first end → answerOf (refetched t s f .after) s ≡ wait n first end
+  unfolding refetched
+  refetched-from-phase t s f =
+      branch (λ (d : Done Answer). d .answer ≡ wait n first end → answerOf (d .after) s ≡ wait n first end) (f .node is 0)
+      (λ e q. let z : _≡_ {A = ℕ} 0 1 = cc in absurd (omega arith))
+      (λ e q. q)
+
+  pub from-phase : {t : Tables} {s : ℕ} {d : Done Answer} → Stepping t s d → d .answer ≡ wait n first end → answerOf (d .after) s ≡ wait n first end
+  from-phase (in-1 e w) q = q
+  from-phase (in-2 e w) q = q
+  from-phase (in-3 e w) q = q
+  from-phase (in-4 e w) q = q
+  from-phase {t} {s} (in-6 {f = f} e w) q = refetched-from-phase t s f q
+  from-phase (at-rest a b c d e) q = q
+
+  stepped-waits : {t : Tables} {s : ℕ} {d : Done Answer} → Stepped t s d → d .answer ≡ wait n first end → waiting (d .after) s ≡ wait n first end
+  stepped-waits (step-refused k r) q = let z : _≡_ {A = ℕ} 0 1 = cc in absurd (omega arith)
+  stepped-waits {s = s} {d = d} (step-accepted e h busy w) q = waits-in (d .after) s n first end (from-phase w q) .1
+
+  -- what the answer tells
+  module _ (t : Tables) (s : ℕ) (answers : step t s .answer ≡ wait n first end) where
+    abbrev u : Tables
+    u = step t s .after
+
+    told : waiting u s ≡ wait n first end
+    told = stepped-waits (stepped t s) answers
+
+    pub at-node : cur u s ≡ n
+    at-node = let w = told in cc
+
+    at-run : sharedRun first end ≡ shared (claimOf u n) (claimOfSeat u s)
+    at-run =
+        let w = told in
+        let from : sharedAtCur u s .first ≡ first = cc in
+        let to : sharedAtCur u s .end ≡ end = cc in
+        rw (← from, ← to, ← at-node)
+
+    pub told-whole : WholeShared (claimOf u n) (claimOfSeat u s) first end
+    told-whole = let e = at-run in rw (ap (λ (r : SharedRun). r .first) e, ap (λ (r : SharedRun). r .end) e) (shared-whole (claimOf u n) (claimOfSeat u s))
+
+    pub told-none : NoneShared (claimOf u n) (claimOfSeat u s) → (first ≡ 0) × (end ≡ 0)
+    told-none z =
+        let e = at-run ∙ shared-none (claimOf u n) (claimOfSeat u s) z in
+        (ap (λ (r : SharedRun). r .first) e, ap (λ (r : SharedRun). r .end) e)
+
+-- ---- a walker that finds an unmarked claim where the comparison gives 0
+module _ (t : Tables) (s : ℕ) (is-sound : sound t ≡ true) (is-seat : s < seatCount t) (p : phase t s ≡ 1) where
+  begins-to-wait : cur t s ≢ 0 → mark t (cur t s) ≢ 1 → compare (claimOf t (cur t s)) (claimOfSeat t s) ≡ pos 0 → walking t s ≡ setPhase t s 2
+  unfolding walking
+  begins-to-wait c m e = rw (ne-eqb (cur t s) 0 c, ne-eqb (mark t (cur t s)) 1 m, e)
+
+  says-so : answerOf (setPhase t s 2) s ≡ waiting t s
+  says-so =
+      let w = phase-stored t s (sound-room t s is-sound is-seat) 2 in
+      let same-cur : cur (setPhase t s 2) s ≡ cur t s = w .at-s curAt (omega arith) in
+      let same-own : own (setPhase t s 2) s ≡ own t s = w .at-s ownAt (omega arith) in
+      answers-wait (setPhase t s 2) s (inl (w .at-s phaseAt (omega arith))) ∙ rw (same-cur, same-own)
+
+  pub clash-told : cur t s ≢ 0 → mark t (cur t s) ≢ 1 → compare (claimOf t (cur t s)) (claimOfSeat t s) ≡ pos 0
+      → step t s ≡ done (waiting t s) (setPhase t s 2)
+  clash-told c m e =
+      step-is t s is-sound is-seat (omega arith) ∙ by-phase-1 t s p ∙ ap (λ u. answered u s) (begins-to-wait c m e)
+      ∙ ap (λ a. done a (setPhase t s 2)) says-so
