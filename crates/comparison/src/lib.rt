@@ -1,9 +1,14 @@
-// The comparison of a listed node with one's own claim, as a signed number.
+// The comparison of a listed node with one's own claim, as a signed number, and the run of frames that the two share. The run is a function of its own:
+// whoever waits on, or waits in phase 4, is told it and no comparison is made; and a walk that passes a claim pays for none.
 ghost use mathlib.Core.Path.{_≡_};
 ghost use mathlib.Core.List.{[]};
 ghost use Rattle.rules.specs.Tables.{tables};
 ghost use Rattle.rules.specs.Comparison.{claim, claimOf, compare};
+ghost use Rattle.rules.specs.Comparison as rule;
 ghost use Rattle.comparison.specs.Behind.{liesBehind};
+use rules::SharedRun;
+
+// ---- the number
 
 // what starts at `start` lies behind a claim of first frame `first` and end frame `end`
 fn lies_behind(first: u32, end: u32, start: u32, both_read: bool) -> bool
@@ -43,4 +48,46 @@ pub fn compare_nodes(nodes: &[u32], c: u32, o: u32) -> i32
     let o_end = words::node_word(nodes, o, words::END);
     let o_kind = words::node_word(nodes, o, words::KIND);
     compare_claims(c_start, c_end, c_kind, o_start, o_end, o_kind)
+}
+
+// ---- what two claims share
+
+fn later(a: u32, b: u32) -> u32
+    ensures { λ r. ⌜ r ≡ rule.later a b ⌝ }
+{
+    if a <= b {
+        return b;
+    }
+    a
+}
+
+fn earlier(a: u32, b: u32) -> u32
+    ensures { λ r. ⌜ r ≡ rule.earlier a b ⌝ }
+{
+    if a <= b {
+        return a;
+    }
+    b
+}
+
+// 0 and 0 where there is no frame from `first` up to `end`
+fn run_or_none(first: u32, end: u32) -> SharedRun
+    ensures { λ r. ⌜ r ≡ rule.runOrNone first end ⌝ }
+{
+    if first < end {
+        return SharedRun { first: first, end: end };
+    }
+    SharedRun { first: 0, end: 0 }
+}
+
+pub fn shared_by_nodes(nodes: &[u32], c: u32, o: u32) -> SharedRun
+    ensures { λ r. ⌜ r ≡ rule.shared (claimOf (tables (now (nodes .entry)) []) c) (claimOf (tables (now (nodes .entry)) []) o) ⌝ }
+{
+    let c_start = words::node_word(nodes, c, words::START);
+    let c_end = words::node_word(nodes, c, words::END);
+    let o_start = words::node_word(nodes, o, words::START);
+    let o_end = words::node_word(nodes, o, words::END);
+    let first = later(c_start, o_start);
+    let end = earlier(c_end, o_end);
+    run_or_none(first, end)
 }

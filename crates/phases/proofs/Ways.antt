@@ -28,7 +28,7 @@ module _ (n t n′ t′ : List ℕ) (s x y k a : ℕ) (isFetched : fetched a (ta
   unfolding withdrawn refetched
   refetch-none e = rw (none-kept n t n′ t′ s a (claim x y k) isFetched e, ← same-claim, ← isFetched, e)
 
-  pub refetch-node : (r : Answer) → r ≡ answerOf (tables [] t′) s → a ≢ 0 → done r (tables n′ t′) ≡ withdrawn (tables n t) s
+  pub refetch-node : (r : Answer) → r ≡ answerOf (tables n′ t′) s → a ≢ 0 → done r (tables n′ t′) ≡ withdrawn (tables n t) s
   unfolding withdrawn refetched
   refetch-node r p d = rw (← same-claim, ← isFetched, ne-eqb a 0 d) (answered-is n′ t′ (tables n′ t′) s r p refl)
 

@@ -25,7 +25,7 @@ fn step_withdrawn(nodes: &mut [u32], seats: &mut [u32], s: u32) -> Reply
     if a == 0 {
         return Reply::Refused(8);
     }
-    steps::answer(seats, s)
+    steps::answer(nodes, seats, s)
 }
 
 // the phase decides the step

@@ -21,7 +21,7 @@ fn refusal_of(reply: Reply) -> u32
         Reply::Node(_) => 0,
         Reply::Out => 0,
         Reply::On => 0,
-        Reply::Wait(_) => 0,
+        Reply::Wait(_, _, _) => 0,
         Reply::Held => 0,
         Reply::Back => 0,
     }

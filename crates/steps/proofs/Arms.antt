@@ -14,9 +14,11 @@ use native.Mathlib.Omega.{arith}
 use borrow.Author.Tests.{eq-eqb, ne-eqb}
 use Rattle.rules.specs.Tables.{Tables, tables, seatWidth, seatCountOf, nodeWord, putNode, linkWord, seatWord, putSeat, clearWords, kindAt, markAt, startAt, endAt, phaseAt, ownAt, prevAt, curAt, countWord, setCount, phase}
 use Rattle.rules.specs.Shape.{sound}
-use Rattle.rules.specs.Comparison.{claimOf, compare}
-use Rattle.rules.specs.Answers.{Answer, on, wait, held, back, done, answerOf, answered}
+use Rattle.rules.specs.Comparison.{claimOf, compare, shared}
+use Rattle.rules.specs.Answers.{Answer, on, wait, held, back, done, waiting, answerOf, answered}
 use Rattle.rules.specs.Steps.{moveTo, joined, unlink, pass, linkIn, startValidating, lookAgain, insert, kindOf, hold, withdraw, leave, walking, waitingToEnter, readerValidating, writerValidating, validating, readerWaiting}
+use Rattle.rules.specs.declared.SharedRun.{SharedRun}
+use Rattle.rules.proofs.Laws.Answers.{answers-wait, answers-held, answers-back}
 use Rattle.rules.proofs.Laws.Counts.{count-few, holder-counts}
 use Rattle.comparison.proofs.Signs.{compare-fits, at-zero, below-zero, above-zero}
 use Rattle.steps.specs.Parts.{skip, skipAndLink, walkByComparison, wakeTo, isPast, readOn, endsBefore, writeOn, markAndClear}
@@ -230,35 +232,32 @@ module _ (n t t′ : List ℕ) (s c o : ℕ) (r : ℤ) where
       w ∙ sym (rw (way q pc po) (above-zero r _ _ _ (rw q (compare-fits (claimOf (tables n []) c) (claimOf (tables n []) o))) d e))
 
 -- ---- the answer
-module _ (t : List ℕ) (s p c : ℕ) (isPhase : p ≡ seatWord t s phaseAt) (isCur : c ≡ seatWord t s curAt) where
-  pub answer-wait : (p ≡ 2) ⊎ (p ≡ 4) → wait c ≡ answerOf (tables [] t) s
-  unfolding answerOf
-  answer-wait (inl e) = rw (sym isPhase ∙ e) (ap wait isCur)
-  answer-wait (inr e) = rw (sym isPhase ∙ e) (ap wait isCur)
+module _ (n t : List ℕ) (s : ℕ) where
+  pub waiting-is : (o c : ℕ) (r : SharedRun) → r ≡ shared (claimOf (tables n []) c) (claimOf (tables n []) o) → c ≡ seatWord t s curAt → o ≡ seatWord t s ownAt
+      → wait c (r .first) (r .end) ≡ waiting (tables n t) s
+  waiting-is o c r e pc po = rw (e, pc, po)
 
-  pub answer-held : p ≡ 5 → held ≡ answerOf (tables [] t) s
-  unfolding answerOf
-  answer-held e = rw (← isPhase, e)
+  module _ (p : ℕ) (isPhase : p ≡ seatWord t s phaseAt) where
+    pub answer-wait : (a : Answer) → a ≡ waiting (tables n t) s → (p ≡ 2) ⊎ (p ≡ 4) → a ≡ answerOf (tables n t) s
+    answer-wait a e w = e ∙ sym (answers-wait (tables n t) s (rw (← isPhase) w))
 
-  pub answer-back : p ≡ 6 → back ≡ answerOf (tables [] t) s
-  unfolding answerOf
-  answer-back e = rw (← isPhase, e)
+    pub answer-held : p ≡ 5 → held ≡ answerOf (tables n t) s
+    answer-held e = sym (answers-held (tables n t) s (sym isPhase ∙ e))
 
-  pub answer-on : ((p ≡ 2) ⊎ (p ≡ 4) → ⊥) → p ≢ 5 → p ≢ 6 → on ≡ answerOf (tables [] t) s
-  unfolding answerOf
-  answer-on w d e = rw (← isPhase, ne-eqb p 2 (λ q. w (inl q)), ne-eqb p 4 (λ q. w (inr q)), ne-eqb p 5 d, ne-eqb p 6 e)
+    pub answer-back : p ≡ 6 → back ≡ answerOf (tables n t) s
+    answer-back e = sym (answers-back (tables n t) s (sym isPhase ∙ e))
 
-answer-alone : (n t : List ℕ) (s : ℕ) → answerOf (tables [] t) s ≡ answerOf (tables n t) s
-unfolding answerOf
-answer-alone n t s = refl
+    pub answer-on : ((p ≡ 2) ⊎ (p ≡ 4) → ⊥) → p ≢ 5 → p ≢ 6 → on ≡ answerOf (tables n t) s
+    unfolding answerOf
+    answer-on w d e = rw (← isPhase, ne-eqb p 2 (λ q. w (inl q)), ne-eqb p 4 (λ q. w (inr q)), ne-eqb p 5 d, ne-eqb p 6 e)
 
-pub answered-is : (n′ t′ : List ℕ) (u : Tables) (s : ℕ) (a : Answer) → a ≡ answerOf (tables [] t′) s → tables n′ t′ ≡ u → done a (tables n′ t′) ≡ answered u s
-answered-is n′ t′ u s a p w = rw (p ∙ answer-alone n′ t′ s, w)
+pub answered-is : (n′ t′ : List ℕ) (u : Tables) (s : ℕ) (a : Answer) → a ≡ answerOf (tables n′ t′) s → tables n′ t′ ≡ u → done a (tables n′ t′) ≡ answered u s
+answered-is n′ t′ u s a p w = rw (p, w)
 
-pub enter-is : (n t t′ : List ℕ) (s : ℕ) (a : Answer) → a ≡ answerOf (tables [] t′) s → tables n t′ ≡ wakeTo 1 (tables n t) s → done a (tables n t′) ≡ answered (waitingToEnter (tables n t) s) s
+pub enter-is : (n t t′ : List ℕ) (s : ℕ) (a : Answer) → a ≡ answerOf (tables n t′) s → tables n t′ ≡ wakeTo 1 (tables n t) s → done a (tables n t′) ≡ answered (waitingToEnter (tables n t) s) s
 unfolding wakeTo waitingToEnter
 enter-is n t t′ s a p w = answered-is n t′ (waitingToEnter (tables n t) s) s a p w
 
-pub wait-is : (n t t′ : List ℕ) (s : ℕ) (a : Answer) → a ≡ answerOf (tables [] t′) s → tables n t′ ≡ wakeTo 3 (tables n t) s → done a (tables n t′) ≡ answered (readerWaiting (tables n t) s) s
+pub wait-is : (n t t′ : List ℕ) (s : ℕ) (a : Answer) → a ≡ answerOf (tables n t′) s → tables n t′ ≡ wakeTo 3 (tables n t) s → done a (tables n t′) ≡ answered (readerWaiting (tables n t) s) s
 unfolding wakeTo readerWaiting
 wait-is n t t′ s a p w = answered-is n t′ (readerWaiting (tables n t) s) s a p w

@@ -7,7 +7,7 @@ ghost use mathlib.Core.List.{[]};
 ghost use Prim.Native.Nat.{_<_};
 ghost use Rattle.rules.specs.Tables.{tables, seatCountOf, phase};
 ghost use Rattle.rules.specs.Shape.{sound};
-ghost use Rattle.rules.specs.Answers.{done, answerOf, answered};
+ghost use Rattle.rules.specs.Answers.{done, waiting as answer·waiting, answerOf, answered};
 ghost use Rattle.rules.specs.Means.{means};
 ghost use Rattle.rules.specs.Steps as rule;
 ghost use Rattle.steps.specs.Parts as part;
@@ -295,13 +295,22 @@ fn validate(nodes: &mut [u32], seats: &mut [u32], s: u32)
 
 // ---- the answer from the seat's new phase
 
-pub fn answer(seats: &[u32], s: u32) -> Reply
-    ensures { λ r. ⌜ means r ≡ answerOf (tables [] (now (seats .entry))) s ⌝ }
+// where the seat waits, and for which frames: what the claim there and its own share
+fn waiting(nodes: &[u32], seats: &[u32], s: u32) -> Reply
+    ensures { λ r. ⌜ means r ≡ answer·waiting (tables (now (nodes .entry)) (now (seats .entry))) s ⌝ }
+{
+    let own = words::seat_word(seats, s, words::OWN);
+    let cur = words::seat_word(seats, s, words::CUR);
+    let run = comparison::shared_by_nodes(nodes, cur, own);
+    Reply::Wait(cur, run.first, run.end)
+}
+
+pub fn answer(nodes: &[u32], seats: &[u32], s: u32) -> Reply
+    ensures { λ r. ⌜ means r ≡ answerOf (tables (now (nodes .entry)) (now (seats .entry))) s ⌝ }
 {
     let phase = words::seat_word(seats, s, words::PHASE);
-    let cur = words::seat_word(seats, s, words::CUR);
     match phase {
-        2 | 4 => Reply::Wait(cur),
+        2 | 4 => waiting(nodes, seats, s),
         5 => Reply::Held,
         6 => Reply::Back,
         _ => Reply::On,
@@ -314,14 +323,14 @@ pub fn step_walking(nodes: &mut [u32], seats: &mut [u32], s: u32) -> Reply
     ensures { λ r. ⌜ done (means r) (tables (now (nodes .exit)) (now (seats .exit))) ≡ answered (rule.walking (tables (now (nodes .entry)) (now (seats .entry))) s) s ⌝ }
 {
     walk(nodes, seats, s);
-    answer(seats, s)
+    answer(nodes, seats, s)
 }
 
 pub fn step_waiting_to_enter(nodes: &[u32], seats: &mut [u32], s: u32) -> Reply
     ensures { λ r. ⌜ done (means r) (tables (now (nodes .entry)) (now (seats .exit))) ≡ answered (rule.waitingToEnter (tables (now (nodes .entry)) (now (seats .entry))) s) s ⌝ }
 {
     wake(nodes, seats, s, 1);
-    answer(seats, s)
+    answer(nodes, seats, s)
 }
 
 pub fn step_validating(nodes: &mut [u32], seats: &mut [u32], s: u32) -> Reply
@@ -329,14 +338,14 @@ pub fn step_validating(nodes: &mut [u32], seats: &mut [u32], s: u32) -> Reply
     ensures { λ r. ⌜ done (means r) (tables (now (nodes .exit)) (now (seats .exit))) ≡ answered (rule.validating (tables (now (nodes .entry)) (now (seats .entry))) s) s ⌝ }
 {
     validate(nodes, seats, s);
-    answer(seats, s)
+    answer(nodes, seats, s)
 }
 
 pub fn step_reader_waiting(nodes: &[u32], seats: &mut [u32], s: u32) -> Reply
     ensures { λ r. ⌜ done (means r) (tables (now (nodes .entry)) (now (seats .exit))) ≡ answered (rule.readerWaiting (tables (now (nodes .entry)) (now (seats .entry))) s) s ⌝ }
 {
     wake(nodes, seats, s, 3);
-    answer(seats, s)
+    answer(nodes, seats, s)
 }
 
 // ---- release

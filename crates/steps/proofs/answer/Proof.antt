@@ -7,8 +7,8 @@ use Rattle.steps.proofs.answer.Tie as tie
 seat-word-requires : tie.Need-seat-word-requires
 seat-word-requires c κs = search needs
 
-seat-word-requires-2 : tie.Need-seat-word-requires-2
-seat-word-requires-2 c κs = search needs
+waiting-requires : tie.Need-waiting-requires
+waiting-requires c κs = search needs
 
 returns : tie.Need-returns
 returns c = search answer-wait
@@ -24,5 +24,4 @@ returns-4 c = search answer-on
 
 pub answer-spec : {M : Type 1} → statement M
 answer-spec =
-    tie.close
-    (tie.spec seat-word-requires seat-word-requires-2 returns returns-2 returns-3 returns-4)
+    tie.close (tie.spec seat-word-requires waiting-requires returns returns-2 returns-3 returns-4)

@@ -1,0 +1,35 @@
+-- What two nodes share, as one law for each way through the code.
+use Prim.Native.Nat.{ℕ, _≤_, _<_}
+use mathlib.Core.Path.{_≡_, refl, sym, _∙_}
+use mathlib.Core.List.{List, []}
+use borrow.Author.Tests.{le-leb, lt-leb, lt-ltb, le-ltb}
+use Rattle.rules.specs.Notation.{if_then_else_}
+use Rattle.rules.specs.Tables.{tables, nodeWord, startAt, endAt}
+use Rattle.rules.specs.Comparison.{claimOf, later, earlier, sharedRun, runOrNone, shared}
+use Rattle.rules.specs.declared.SharedRun.{SharedRun}
+
+module _ (a b : ℕ) where
+  pub later-second : a ≤ b → b ≡ later a b
+  later-second h = rw (le-leb a b h)
+
+  pub later-first : b < a → a ≡ later a b
+  later-first h = rw (lt-leb a b h)
+
+  pub earlier-first : a ≤ b → a ≡ earlier a b
+  earlier-first h = rw (le-leb a b h)
+
+  pub earlier-second : b < a → b ≡ earlier a b
+  earlier-second h = rw (lt-leb a b h)
+
+  pub some-run : a < b → sharedRun a b ≡ runOrNone a b
+  unfolding runOrNone
+  some-run h = rw (lt-ltb a b h)
+
+  pub no-run : b ≤ a → sharedRun 0 0 ≡ runOrNone a b
+  unfolding runOrNone
+  no-run h = rw (le-ltb a b h)
+
+pub shared-is : (l : List ℕ) (c o a b x y first end : ℕ) (r : SharedRun) → r ≡ runOrNone first end → end ≡ earlier b y → first ≡ later a x
+    → y ≡ nodeWord l o endAt → x ≡ nodeWord l o startAt → b ≡ nodeWord l c endAt → a ≡ nodeWord l c startAt
+    → r ≡ shared (claimOf (tables l []) c) (claimOf (tables l []) o)
+shared-is l c o a b x y first end r p q f py px pb pa = p ∙ rw (q, f, py, px, pb, pa)
