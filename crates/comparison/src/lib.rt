@@ -75,7 +75,10 @@ fn run_or_none(first: u32, end: u32) -> SharedRun
     ensures { λ r. ⌜ r ≡ rule.runOrNone first end ⌝ }
 {
     if first < end {
-        return SharedRun { first: first, end: end };
+        return SharedRun {
+            first: first,
+            end: end,
+        };
     }
     SharedRun { first: 0, end: 0 }
 }

@@ -19,7 +19,8 @@ use Rattle.rules.specs.declared.Reply.{Reply}
 use Rattle.rules.specs.declared.Script.{Script}
 use Rattle.script.specs.Bounded.{Bounded}
 use Rattle.text.specs.Page.{Page, page, puts}
-use Rattle.replies.specs.Codes.{codeOf, numberOf, answerBy}
+use Rattle.replies.specs.Codes.{saidOf, answerBy}
+use Rattle.replies.specs.declared.Said.{Said}
 use Rattle.text.specs.Lines.{answerLine}
 use Rattle.text.proofs.Pages.{puts-append}
 use Rattle.replies.proofs.Codes.{answer-by-means}
@@ -39,9 +40,9 @@ module _ (line : Line) (t : Tables) (d : Done Answer) where
   unfolding call callOf
   call-releases g h e = rw (ne-eqb (line .code) 1 g, ne-eqb (line .code) 2 h) e
 
--- a reply's code and number serve in its place
-pub said-is : (r : Reply) (code number : ℕ) (t : Tables) (d : Done Answer) → done (means r) t ≡ d → code ≡ codeOf r → number ≡ numberOf r → done (answerBy code number) t ≡ d
-said-is r code number t d e f g = rw (f, g, answer-by-means r) e
+-- a reply's numbers serve in its place
+pub said-is : (r : Reply) (s : Said) (t : Tables) (d : Done Answer) → done (means r) t ≡ d → s ≡ saidOf r → done (answerBy s) t ≡ d
+said-is r s t d e f = rw (f, answer-by-means r) e
 
 -- ---- the calls from the i-th on
 drop-map : (f : Line → Call) (i : ℕ) (l : List Line) → drop i (map f l) ≡ map f (drop i l)
@@ -73,17 +74,17 @@ unfolding playFrom afterAll trace turnsText turnText answerLine
 play-step number c calls t after answer p e = rw (puts-append, ← e)
 
 module _ (q : Played) (script : Script) (i : ℕ) (n s out : List ℕ) (next : ℕ) where
-  pub play-again : (n′ s′ out′ : List ℕ) (next′ code number : ℕ) (line : Line) →
+  pub play-again : (n′ s′ out′ : List ℕ) (next′ : ℕ) (said : Said) (line : Line) →
       playFrom (i + 1) (drop i (callsOf script)) (tables n s) (page out next) ≡ q →
-      page out′ next′ ≡ puts (page out next) (answerLine (i + 1) (answerBy code number)) →
-      done (answerBy code number) (tables n′ s′) ≡ call (tables n s) (callOf line) →
+      page out′ next′ ≡ puts (page out next) (answerLine (i + 1) (answerBy said)) →
+      done (answerBy said) (tables n′ s′) ≡ call (tables n s) (callOf line) →
       line ≡ getD (script .rows) i noLine →
       i < script .k →
       Bounded script →
       playFrom (i + 1 + 1) (drop (i + 1) (callsOf script)) (tables n′ s′) (page out′ next′) ≡ q
-  play-again n′ s′ out′ next′ code number line p e c d h k =
+  play-again n′ s′ out′ next′ said line p e c d h k =
       let more = rw (calls-more script i h k) at p in
-      let step = play-step (i + 1) (callOf (getD (script .rows) i noLine)) (drop (i + 1) (callsOf script)) (tables n s) (tables n′ s′) (answerBy code number) (page out next) (rw d at c) in
+      let step = play-step (i + 1) (callOf (getD (script .rows) i noLine)) (drop (i + 1) (callsOf script)) (tables n s) (tables n′ s′) (answerBy said) (page out next) (rw d at c) in
       rw e (sym step ∙ more)
 
   pub play-done : playFrom (i + 1) (drop i (callsOf script)) (tables n s) (page out next) ≡ q → script .k ≤ i → Bounded script → played (tables n s) (page out next) ≡ q

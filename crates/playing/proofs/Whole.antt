@@ -84,7 +84,7 @@ module _ (t : Tables) (script : Script) (n s : List ℕ) (p q : Page) (isPlayed 
   played-sound r = rw (ap (λ (x : Played). x .after) isPlayed) (always-sound (calls-reached r (callsOf script)))
 
   -- what is printed of 1,000 calls on the longest tables
-  pub played-short : (at end : ℕ) → end ≤ at + 11 * nodeCountOf n + 49 * seatCountOf s + 34 → at ≤ 0 + 21 * script .k → Reached (script .n) (script .s) t → Bounded script → end ≤ 26986
+  pub played-short : (at end : ℕ) → end ≤ at + 11 * nodeCountOf n + 49 * seatCountOf s + 34 → at ≤ 0 + 43 * script .k → Reached (script .n) (script .s) t → Bounded script → end ≤ 48986
   played-short at end e a r b =
       let w = is-sound (tables n s) (played-sound r) in
       let k = b .calls in
@@ -106,7 +106,7 @@ module _ (src : List ℕ) (script : Script) (isScript : script ≡ readScript sr
   play-good h = rw (← isScript, eq-eqb (script .refusal) 0 h)
 
 -- a text that ends before the buffer does stands whole in it, and what stood behind it stays
-pub whole : (src text l l′ : List ℕ) (r : ℕ) → page l′ r ≡ puts (page l 0) text → play src ≡ text → r ≤ 26986 → length l ≡ 32768 → length l′ ≡ length l → (take r l′ ≡ play src) × ((drop r l′ ≡ drop r l) × (((r ≤ length l′) × (r ≡ length (take r l′))) × (r ≤ 26986)))
+pub whole : (src text l l′ : List ℕ) (r : ℕ) → page l′ r ≡ puts (page l 0) text → play src ≡ text → r ≤ 48986 → length l ≡ 49152 → length l′ ≡ length l → (take r l′ ≡ play src) × ((drop r l′ ≡ drop r l) × (((r ≤ length l′) × (r ≡ length (take r l′))) × (r ≤ 48986)))
 whole src text l l′ r e f h m k =
     let w = written l l′ text r e (omega arith) in
     (w .0 ∙ sym f, (w .1, ((omega arith, sym (length-take-le r l′ (omega arith))), h)))

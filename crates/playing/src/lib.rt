@@ -18,15 +18,10 @@ ghost use Rattle.text.specs.Page.{page, puts};
 ghost use Rattle.replies.specs.Codes.{answerBy};
 ghost use Rattle.holders.specs.Holding.{heldBy};
 ghost use Rattle.playing.specs.Played.{played, playFrom, playedText};
+use replies::Said;
 use rules::Line;
 use rules::Reply;
 use rules::Script;
-
-// What a call answered, as it is printed.
-struct Said {
-    code: u32,
-    number: u32,
-}
 
 // The call of one line.
 fn make_call(nodes: &mut [u32], seats: &mut [u32], line: Line) -> Reply
@@ -42,14 +37,12 @@ fn make_call(nodes: &mut [u32], seats: &mut [u32], line: Line) -> Reply
     claims::release(nodes, seats, line.seat)
 }
 
+// What it answered, as it is printed.
 fn say_call(nodes: &mut [u32], seats: &mut [u32], line: Line) -> Said
-    ensures { λ r. ⌜ done (answerBy (r .code) (r .number)) (tables (now (nodes .exit)) (now (seats .exit))) ≡ call (tables (now (nodes .entry)) (now (seats .entry))) (callOf line) ⌝ }
+    ensures { λ r. ⌜ done (answerBy r) (tables (now (nodes .exit)) (now (seats .exit))) ≡ call (tables (now (nodes .entry)) (now (seats .entry))) (callOf line) ⌝ }
 {
     let reply = make_call(nodes, seats, line);
-    Said {
-        code: replies::code_of(reply),
-        number: replies::number_of(reply),
-    }
+    replies::say(reply)
 }
 
 // The calls of a script, each with its line.
@@ -63,7 +56,7 @@ fn play_calls(
     requires { ⌜ Bounded script ⌝ }
     ensures { λ r. ⌜ played (tables (now (nodes .exit)) (now (seats .exit))) (page (now (out .exit)) r)
         ≡ playFrom 1 (callsOf script) (tables (now (nodes .entry)) (now (seats .entry))) (page (now (out .entry)) at) ⌝ }
-    ensures { λ r. ⌜ r ≤ at + 21 * script .k ⌝ }
+    ensures { λ r. ⌜ r ≤ at + 43 * script .k ⌝ }
 {
     let k = script.k;
     let mut next = at;
@@ -71,7 +64,7 @@ fn play_calls(
     while i < k {
         let line = script.rows[i as usize];
         let said = say_call(nodes, seats, line);
-        next = text::put_turn(out, next, i + 1, said.code, said.number);
+        next = text::put_turn(out, next, i + 1, said);
         i += 1;
     }
     next
@@ -150,7 +143,7 @@ fn play_tables(nodes: &mut [u32], seats: &mut [u32], out: &mut [u8], script: Scr
     requires { ⌜ Bounded script ⌝ }
     requires { ⌜ Reached (script .n) (script .s) (tables (now nodes) (now seats)) ⌝ }
     ensures { λ r. ⌜ page (now (out .exit)) r ≡ puts (page (now (out .entry)) 0) (playedText (tables (now (nodes .entry)) (now (seats .entry))) (callsOf script)) ⌝ }
-    ensures { λ r. ⌜ r ≤ 26986 ⌝ }
+    ensures { λ r. ⌜ r ≤ 48986 ⌝ }
 {
     let next = play_calls(nodes, seats, out, 0, script);
     put_end(nodes, seats, out, next)
@@ -161,7 +154,7 @@ fn play_script(out: &mut [u8], script: Script) -> usize
     requires { ⌜ Bounded script ⌝ }
     requires { ⌜ script .refusal ≡ 0 ⌝ }
     ensures { λ r. ⌜ page (now (out .exit)) r ≡ puts (page (now (out .entry)) 0) (scriptText script) ⌝ }
-    ensures { λ r. ⌜ r ≤ 26986 ⌝ }
+    ensures { λ r. ⌜ r ≤ 48986 ⌝ }
 {
     let mut nodes = words::fresh_nodes(script.title);
     let mut seats = words::fresh_seats();
@@ -171,12 +164,12 @@ fn play_script(out: &mut [u8], script: Script) -> usize
 }
 
 // Every byte that the program prints for the bytes of a script, and no other byte of the buffer. The buffer has room for any: at most
-// 26,986 are printed.
-pub fn play(src: &[u8], out: &mut [u8; 32768]) -> usize
+// 48,986 are printed.
+pub fn play(src: &[u8], out: &mut [u8; 49152]) -> usize
     ensures { λ r. ⌜ take r (now (out .exit)) ≡ Play·play (now (src .entry)) ⌝ }
     ensures { λ r. ⌜ drop r (now (out .exit)) ≡ drop r (now (out .entry)) ⌝ }
     ensures { λ r. ⌜ (r ≤ length (now (out .exit))) × (r ≡ length (take r (now (out .exit)))) ⌝ }
-    ensures { λ r. ⌜ r ≤ 26986 ⌝ }
+    ensures { λ r. ⌜ r ≤ 48986 ⌝ }
 {
     let script = script::read(src);
     let refusal = script.refusal;

@@ -1,33 +1,43 @@
-// A reply as two numbers, what kind of answer it is and its number: for callers that print it or hand it on as a number.
+// A reply as numbers: for callers that print it or hand it on as such.
 ghost use mathlib.Core.Path.{_≡_};
-ghost use Rattle.replies.specs.Codes.{codeOf, numberOf};
+ghost use Rattle.replies.specs.Codes.{saidPlainly, saidOf};
 use rules::Reply;
 
-pub fn code_of(reply: Reply) -> u32
-    ensures { λ r. ⌜ r ≡ codeOf reply ⌝ }
+// What kind of answer a reply is, its number, and of a wait the first shared frame and the end of the shared run. 0 where the answer has none.
+pub struct Said {
+    pub code: u32,
+    pub number: u32,
+    pub first: u32,
+    pub end: u32,
+}
+
+// an answer with no run
+fn plain(code: u32, number: u32) -> Said
+    ensures { λ r. ⌜ r ≡ saidPlainly code number ⌝ }
 {
-    match reply {
-        Reply::Refused(_) => 0,
-        Reply::Node(_) => 1,
-        Reply::Out => 2,
-        Reply::On => 3,
-        Reply::Wait(_) => 4,
-        Reply::Held => 5,
-        Reply::Back => 6,
+    Said {
+        code: code,
+        number: number,
+        first: 0,
+        end: 0,
     }
 }
 
-// 0 where the answer has none
-pub fn number_of(reply: Reply) -> u32
-    ensures { λ r. ⌜ r ≡ numberOf reply ⌝ }
+pub fn say(reply: Reply) -> Said
+    ensures { λ r. ⌜ r ≡ saidOf reply ⌝ }
 {
     match reply {
-        Reply::Refused(number) => number,
-        Reply::Node(n) => n,
-        Reply::Out => 0,
-        Reply::On => 0,
-        Reply::Wait(n) => n,
-        Reply::Held => 0,
-        Reply::Back => 0,
+        Reply::Refused(number) => plain(0, number),
+        Reply::Node(n) => plain(1, n),
+        Reply::Out => plain(2, 0),
+        Reply::On => plain(3, 0),
+        Reply::Wait(n, first, end) => Said {
+            code: 4,
+            number: n,
+            first: first,
+            end: end,
+        },
+        Reply::Held => plain(5, 0),
+        Reply::Back => plain(6, 0),
     }
 }

@@ -15,7 +15,7 @@ fn main() {
         io::write_all(STDERR_FILENO, b"soodhiqune: the script could not be read\n");
         return;
     }
-    let mut out = [0u8; 32768];
+    let mut out = [0u8; 49152];
     let m = playing::play(&script[..n], &mut out);
     if !io::write_all(STDOUT_FILENO, &out[..m]) {
         io::write_all(

@@ -12,41 +12,50 @@ use Rattle.rules.specs.Answers.{Answer}
 use Rattle.rules.specs.Play.{ascii, decimal, answerText, rowText}
 use Rattle.rules.proofs.Ground.Logic.{branch}
 use Rattle.text.specs.Page.{Page, page, puts}
-use Rattle.replies.specs.Codes.{answerBy}
+use Rattle.replies.specs.Codes.{said, answerBy}
+use Rattle.replies.specs.declared.Said.{Said}
 use Rattle.text.specs.Lines.{answerLine, row}
 use Rattle.text.proofs.Pages.{joined, reached}
 use Rattle.text.proofs.Decimals.{decimal-length}
 
 -- ---- the ways through put_answer: a code that is matched, and any other
-pub answer-by : (p q : Page) (code key n : ℕ) → code ≡ key → q ≡ puts p (answerText (answerBy key n)) → q ≡ puts p (answerText (answerBy code n))
-answer-by p q code key n e h = rw e h
+module _ (p q : Page) (s : Said) where
+  pub answer-by : (key : ℕ) → s .code ≡ key → q ≡ puts p (answerText (answerBy (said key (s .number) (s .first) (s .end)))) → q ≡ puts p (answerText (answerBy s))
+  unfolding answerBy
+  answer-by key e h = rw e h
 
-pub answer-other : (p q : Page) (code n : ℕ) → (code ≡ 1 → ⊥) → (code ≡ 2 → ⊥) → (code ≡ 3 → ⊥) → (code ≡ 4 → ⊥) → (code ≡ 5 → ⊥) → (code ≡ 6 → ⊥) → q ≡ puts p (ascii "no " ++ decimal n) → q ≡ puts p (answerText (answerBy code n))
-unfolding answerBy answerText
-answer-other p q code n a b c d e f h = rw (ne-eqb code 1 a, ne-eqb code 2 b, ne-eqb code 3 c, ne-eqb code 4 d, ne-eqb code 5 e, ne-eqb code 6 f) h
+  pub answer-other : (s .code ≡ 1 → ⊥) → (s .code ≡ 2 → ⊥) → (s .code ≡ 3 → ⊥) → (s .code ≡ 4 → ⊥) → (s .code ≡ 5 → ⊥) → (s .code ≡ 6 → ⊥) → q ≡ puts p (ascii "no " ++ decimal (s .number)) → q ≡ puts p (answerText (answerBy s))
+  unfolding answerBy answerText
+  answer-other a b c d e f h = rw (ne-eqb (s .code) 1 a, ne-eqb (s .code) 2 b, ne-eqb (s .code) 3 c, ne-eqb (s .code) 4 d, ne-eqb (s .code) 5 e, ne-eqb (s .code) 6 f) h
 
 -- ---- how long the lines are: a number below 2 to the 32 has at most 10 digits, one below 2 to the 64 at most 20
-named-length : (word : List ℕ) (n : ℕ) → length word ≤ 5 → n ≤ 4294967295 → length (word ++ decimal n) ≤ 15
-named-length word n w h = let d = decimal-length 9 n (omega arith) in rw length-append (omega arith)
+-- the numbers of an answer need no more than 32 bits
+pub record Words (s : Said) : Type 0 where
+  pub number : s .number ≤ 4294967295
+  pub first : s .first ≤ 4294967295
+  pub end : s .end ≤ 4294967295
 
 abbrev Short : Answer → Type 0
-Short answer = length (answerText answer) ≤ 15
+Short answer = length (answerText answer) ≤ 37
 
-answer-length : (code n : ℕ) → n ≤ 4294967295 → Short (answerBy code n)
+answer-length : (s : Said) → Words s → Short (answerBy s)
 unfolding answerBy answerText
-answer-length code n h =
-    branch Short (code is 1) (λ e. named-length (ascii "node ") n (omega arith) h)
-    (λ e. branch Short (code is 2) (λ e. omega arith)
-    (λ e. branch Short (code is 3) (λ e. omega arith)
-    (λ e. branch Short (code is 4) (λ e. named-length (ascii "wait ") n (omega arith) h)
-    (λ e. branch Short (code is 5) (λ e. omega arith)
-    (λ e. branch Short (code is 6) (λ e. omega arith) (λ e. named-length (ascii "no ") n (omega arith) h))))))
+answer-length s w =
+    let a = decimal-length 9 (s .number) (let h = w .number in omega arith) in
+    let b = decimal-length 9 (s .first) (let h = w .first in omega arith) in
+    let c = decimal-length 9 (s .end) (let h = w .end in omega arith) in
+    branch Short (s .code is 1) (λ e. simp length-append (omega arith))
+    (λ e. branch Short (s .code is 2) (λ e. omega arith)
+    (λ e. branch Short (s .code is 3) (λ e. omega arith)
+    (λ e. branch Short (s .code is 4) (λ e. simp length-append (omega arith))
+    (λ e. branch Short (s .code is 5) (λ e. omega arith)
+    (λ e. branch Short (s .code is 6) (λ e. omega arith) (λ e. simp length-append (omega arith)))))))
 
-answer-line-length : (number code n : ℕ) → number < 10000 → n ≤ 4294967295 → length (answerLine number (answerBy code n)) ≤ 21
+answer-line-length : (number : ℕ) (s : Said) → number < 10000 → Words s → length (answerLine number (answerBy s)) ≤ 43
 unfolding answerLine
-answer-line-length number code n h i =
+answer-line-length number s h w =
     let a = decimal-length 3 number h in
-    let b = answer-length code n i in
+    let b = answer-length s w in
     simp length-append (omega arith)
 
 row-length : (seat first end kind : ℕ) → seat ≤ 4294967295 → first ≤ 4294967295 → end ≤ 4294967295 → kind ≤ 4294967295 → length (rowText (row seat first end kind)) ≤ 49
@@ -60,10 +69,10 @@ row-length seat first end kind h i j k =
 
 -- ---- so far the place moves where a line is put
 module _ (l l′ : List ℕ) (at r : ℕ) where
-  pub turn-reaches : (number code n : ℕ) → page l′ r ≡ puts (page l at) (answerLine number (answerBy code n)) → number < 10000 → n ≤ 4294967295 → r ≤ at + 21
-  turn-reaches number code n e h i =
+  pub turn-reaches : (number : ℕ) (s : Said) → page l′ r ≡ puts (page l at) (answerLine number (answerBy s)) → number < 10000 → Words s → r ≤ at + 43
+  turn-reaches number s e h w =
       let a = reached l l′ _ at r e in
-      let b = answer-line-length number code n h i in
+      let b = answer-line-length number s h w in
       omega arith
 
   pub row-reaches : (seat first end kind : ℕ) → page l′ r ≡ puts (page l at) (rowText (row seat first end kind)) → seat ≤ 4294967295 → first ≤ 4294967295 → end ≤ 4294967295 → kind ≤ 4294967295 → r ≤ at + 49

@@ -3,10 +3,12 @@ ghost use mathlib.Core.Path.{_≡_};
 ghost use Prim.Native.Nat.{_+_, _≤_};
 ghost use mathlib.Core.List.{[], _∷_, _++_};
 ghost use lib.ListN.{length};
+ghost use Rattle.rules.specs.Answers.{wait};
 ghost use Rattle.rules.specs.Play.{ascii, decimal, answerText, rowText};
 ghost use Rattle.text.specs.Page.{page, puts};
 ghost use Rattle.replies.specs.Codes.{answerBy};
 ghost use Rattle.text.specs.Lines.{answerLine, row};
+use replies::Said;
 
 pub fn put_byte(out: &mut [u8], at: usize, b: u8) -> usize
     ensures { λ r. ⌜ page (now (out .exit)) r ≡ puts (page (now (out .entry)) at) (b ∷ []) ⌝ }
@@ -78,27 +80,37 @@ pub fn put_row(out: &mut [u8], at: usize, seat: u32, first: u32, end: u32, kind:
     put_byte(out, d, b'\n')
 }
 
-// A reply as a code and a number, which the printers take in its place.
-fn put_answer(out: &mut [u8], at: usize, code: u32, n: u32) -> usize
-    ensures { λ r. ⌜ page (now (out .exit)) r ≡ puts (page (now (out .entry)) at) (answerText (answerBy code n)) ⌝ }
+// `wait n first end`
+fn put_wait(out: &mut [u8], at: usize, n: u32, first: u32, end: u32) -> usize
+    ensures { λ r. ⌜ page (now (out .exit)) r ≡ puts (page (now (out .entry)) at) (answerText (wait n first end)) ⌝ }
 {
+    let a = put_named(out, at, b"wait ", n as u64);
+    let b = put_next(out, a, first);
+    put_next(out, b, end)
+}
+
+// A reply as numbers, which the printers take in its place.
+fn put_answer(out: &mut [u8], at: usize, said: Said) -> usize
+    ensures { λ r. ⌜ page (now (out .exit)) r ≡ puts (page (now (out .entry)) at) (answerText (answerBy said)) ⌝ }
+{
+    let code = said.code;
     match code {
-        1 => put_named(out, at, b"node ", n as u64),
+        1 => put_named(out, at, b"node ", said.number as u64),
         2 => put_text(out, at, b"out"),
         3 => put_text(out, at, b"on"),
-        4 => put_named(out, at, b"wait ", n as u64),
+        4 => put_wait(out, at, said.number, said.first, said.end),
         5 => put_text(out, at, b"held"),
         6 => put_text(out, at, b"back"),
-        _ => put_named(out, at, b"no ", n as u64),
+        _ => put_named(out, at, b"no ", said.number as u64),
     }
 }
 
 // A call's line: its number and its answer.
-pub fn put_turn(out: &mut [u8], at: usize, number: u32, code: u32, n: u32) -> usize
-    ensures { λ r. ⌜ page (now (out .exit)) r ≡ puts (page (now (out .entry)) at) (answerLine number (answerBy code n)) ⌝ }
+pub fn put_turn(out: &mut [u8], at: usize, number: u32, said: Said) -> usize
+    ensures { λ r. ⌜ page (now (out .exit)) r ≡ puts (page (now (out .entry)) at) (answerLine number (answerBy said)) ⌝ }
 {
     let a = put_number(out, at, number as u64);
     let b = put_byte(out, a, b' ');
-    let c = put_answer(out, b, code, n);
+    let c = put_answer(out, b, said);
     put_byte(out, c, b'\n')
 }

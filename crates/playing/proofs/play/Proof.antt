@@ -22,7 +22,7 @@ put-line-requires c κs = search needs
 returns : tie.Need-returns
 returns c =
     let n : length (c .put-line .last .0) ≡ length (c .before .before .before .before .before .before .before .args .out .now) = search needs in
-    let m : length (c .before .before .before .before .before .before .before .args .out .now) ≡ 32768 = search needs in
+    let m : length (c .before .before .before .before .before .before .before .args .out .now) ≡ 49152 = search needs in
     let read = c .before .before .before .before .before in
     whole _ _ _ _ _ (c .put-line .ensures .0) (play-bad _ _ (read .read .ensures) (c .before .before .before .before .if1 .taken)) (omega (arith, c .put-line .ensures .1)) m n
 
@@ -33,7 +33,7 @@ returns-2 : tie.Need-returns-2
 returns-2 c =
     let start = c .before .before .before .before .before in
     let n : length (c .play-script .last .0) ≡ length (start .args .out .now) = search needs in
-    let m : length (start .args .out .now) ≡ 32768 = search needs in
+    let m : length (start .args .out .now) ≡ 49152 = search needs in
     whole _ _ _ _ _ (c .play-script .ensures .0) (play-good _ _ (c .before .before .before .read .ensures) (c .before .before .if1 .left)) (c .play-script .ensures .1) m n
 
 pub play-spec : {M : Type 1} → statement M

@@ -1,5 +1,5 @@
 -- `playing::play_calls` meets its contract. The loop's invariant: the calls still to be made, on the tables and the page so far, give the
--- whole; and no line is longer than 21 bytes. The measure is the number of calls left.
+-- whole; and no line is longer than 43 bytes. The measure is the number of calls left.
 use borrow.Author.Needs.{needs}
 use native.Mathlib.Omega.{arith}
 use Rattle.playing.proofs.Turns.{play-again, play-done}
@@ -15,7 +15,7 @@ use Rattle.playing.proofs.play_calls.Statement.{statement}
 use Rattle.playing.proofs.play_calls.Tie as tie
 
 abbrev Inv-loop : tie.InvT-loop
-Inv-loop nodes₀ seats₀ out₀ at script k next₀ i₀ nodes seats out next i = (length nodes ≡ length nodes₀) × (length seats ≡ length seats₀) × (length out ≡ length out₀) × (i ≤ script .k) × (next ≤ at + 21 * i) × (playFrom (i + 1) (drop i (callsOf script)) (tables nodes seats) (page out next) ≡ playFrom 1 (callsOf script) (tables nodes₀ seats₀) (page out₀ at))
+Inv-loop nodes₀ seats₀ out₀ at script k next₀ i₀ nodes seats out next i = (length nodes ≡ length nodes₀) × (length seats ≡ length seats₀) × (length out ≡ length out₀) × (i ≤ script .k) × (next ≤ at + 43 * i) × (playFrom (i + 1) (drop i (callsOf script)) (tables nodes seats) (page out next) ≡ playFrom 1 (callsOf script) (tables nodes₀ seats₀) (page out₀ at))
 
 abbrev μ-loop : tie.MeasureT-loop
 μ-loop nodes₀ seats₀ out₀ at script k next₀ i₀ nodes seats out next i = script .k - i
@@ -48,7 +48,7 @@ loop-less : tie.Need-loop-less Inv-loop μ-loop
 loop-less c = omega arith
 
 loop-again : tie.Need-loop-again Inv-loop μ-loop
-loop-again c = (omega arith, omega arith, omega arith, omega arith, omega (arith, turn-reaches _ _ _ _ _ _ _ (c .before .before .put-turn .ensures) (omega arith) (omega arith)), search play-again)
+loop-again c = (omega arith, omega arith, omega arith, omega arith, omega (arith, turn-reaches _ _ _ _ _ _ (c .before .before .put-turn .ensures) (omega arith) (record { number = omega arith; first = omega arith; end = omega arith })), search play-again)
 
 same-length : tie.Need-same-length Inv-loop μ-loop
 same-length c = search needs

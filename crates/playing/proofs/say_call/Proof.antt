@@ -1,4 +1,4 @@
--- `playing::say_call` meets its contract: a reply's code and number serve in its place.
+-- `playing::say_call` meets its contract: a reply's numbers serve in its place.
 use Rattle.playing.proofs.Turns.{said-is}
 use borrow.Author.Needs.{needs}
 use Rattle.playing.proofs.say_call.Statement.{statement}
@@ -7,11 +7,8 @@ use Rattle.playing.proofs.say_call.Tie as tie
 make-call-requires : tie.Need-make-call-requires
 make-call-requires c κs = search needs
 
-code-of-requires : tie.Need-code-of-requires
-code-of-requires c κs = search needs
-
-number-of-requires : tie.Need-number-of-requires
-number-of-requires c κs = search needs
+say-requires : tie.Need-say-requires
+say-requires c κs = search needs
 
 same-length : tie.Need-same-length
 same-length c = search needs
@@ -24,11 +21,4 @@ returns c = search said-is
 
 pub say-call-spec : {M : Type 1} → statement M
 say-call-spec =
-    tie.close
-    (tie.spec
-    make-call-requires
-    code-of-requires
-    number-of-requires
-    same-length
-    same-length-2
-    returns)
+    tie.close (tie.spec make-call-requires say-requires same-length same-length-2 returns)
