@@ -3,13 +3,13 @@ use Prim.Native.Nat.{ℕ, zero, suc, _+_, _*_, _/_, _%_, _≤_, _<_}
 use mathlib.Core.Logic.{_≢_}
 use native.Mathlib.Numerals.{add-one}
 use lib.ListN.{getD, set, length, length-set}
-use borrow.Author.Tests.{ne-eqb}
+use borrow.Author.Tests.{ne-eqb, eqb-true}
 use Rattle.rules.specs.Script.{noLine, readScript}
 use Rattle.script.proofs.Bounds.{read-bounded}
 use Rattle.rules.specs.declared.Line.{Line}
 use Rattle.rules.specs.declared.Script.{Script}
 use mathlib.Core.Path.{_≡_, refl, sym, ap, _∙_}
-use mathlib.Core.List.{List}
+use mathlib.Core.List.{List, [], _∷_}
 use native.Mathlib.Omega.{arith}
 use Rattle.rules.specs.Tables.{Tables}
 use Rattle.rules.specs.Answers.{Answer, Done, done}
@@ -23,8 +23,12 @@ use Rattle.rules.specs.declared.CountReply.the-variants.{Count, Refused as Coun
 use Rattle.rules.specs.declared.BoardReply.{BoardReply}
 use Rattle.rules.specs.declared.BoardReply.the-variants.{Rows, Refused as BoardRefused}
 use Rattle.rules.specs.declared.Ran.{Ran}
-use Rattle.replies.specs.Codes.{codeOf, numberOf}
-use Rattle.boundary.specs.Encoded.{Halves, halves, halvesOf, encode, encodeCount, encodeRan, encoded, encodedRun, told, tellAnswer, tell, putLine, putTopLine, rowAt, linesAfter, scriptNumbers, readAs, encodeScript}
+use Rattle.rules.specs.Notation.{_is_}
+use Rattle.rules.proofs.Ground.Logic.{branch}
+use Rattle.replies.specs.Codes.{saidOf, answerBy}
+use Rattle.replies.specs.declared.Said.{Said}
+use Rattle.replies.proofs.Codes.{answer-by-means}
+use Rattle.boundary.specs.Encoded.{Halves, halves, halvesOf, encode, encodeCount, encodeRan, encoded, encodedRun, stepTold, sharedAfter, tellStep, told, tellAnswer, tell, putLine, putTopLine, rowAt, linesAfter, scriptNumbers, readAs, encodeScript}
 
 -- ---- two halves
 pub joined-is : (a b : ℕ) → b < 4294967296 → halvesOf (4294967296 * a + b) ≡ halves a b
@@ -39,20 +43,53 @@ unfolding halvesOf
 none-is = refl
 
 -- ---- an answer
-by-code : (r : Reply) → halves (codeOf r) (numberOf r) ≡ encode (means r)
+by-code : (r : Reply) → halves (saidOf r .code) (saidOf r .number) ≡ encode (means r)
 by-code (Node n) = refl
 by-code Out = refl
 by-code On = refl
-by-code (Wait n) = refl
+by-code (Wait n first end) = refl
 by-code Held = refl
 by-code Back = refl
 by-code (Refused number) = refl
 
-pub encoded-by : (r : Reply) (h : Halves) (code number : ℕ) → h ≡ halves code number → number ≡ numberOf r → code ≡ codeOf r → h ≡ encode (means r)
-encoded-by r h code number e p q = e ∙ rw (p, q) (by-code r)
+pub encoded-by : (r : Reply) (s : Said) (h : Halves) → h ≡ halves (s .code) (s .number) → s ≡ saidOf r → h ≡ encode (means r)
+encoded-by r s h e p = e ∙ rw p (by-code r)
 
 pub encoded-is : (d : Done Answer) (r : Reply) (t : Tables) (h : Halves) → h ≡ encode (means r) → done (means r) t ≡ d → done h t ≡ encoded d
 encoded-is d r t h p q = rw (p, ← q)
+
+-- ---- a step's answer, and its two words
+two-words : (l : List ℕ) (first end : ℕ) → length l ≡ 2 → set (set l 0 first) 1 end ≡ first ∷ end ∷ []
+two-words [] first end e = absurd (omega arith)
+two-words (x ∷ []) first end e = absurd (omega arith)
+two-words (x ∷ y ∷ []) first end e = refl
+two-words (x ∷ y ∷ z ∷ l) first end e = absurd (omega arith)
+
+module _ (s : Said) (l : List ℕ) where
+  pub shared-stored : length l ≡ 2 → s .code ≡ 4 → set (set l 0 (s .first)) 1 (s .end) ≡ sharedAfter l (answerBy s)
+  unfolding answerBy
+  shared-stored n e = rw e (two-words l (s .first) (s .end) n)
+
+  -- any answer but a wait leaves them
+  pub shared-kept : s .code ≢ 4 → l ≡ sharedAfter l (answerBy s)
+  unfolding answerBy
+  shared-kept d =
+      branch As-found (s .code is 1) (λ e. refl) (λ e.
+      branch As-found (s .code is 2) (λ e. refl) (λ e.
+      branch As-found (s .code is 3) (λ e. refl) (λ e.
+      branch As-found (s .code is 4) (λ e. absurd (d (eqb-true (s .code) 4 e))) (λ e.
+      branch As-found (s .code is 5) (λ e. refl) (λ e.
+      branch As-found (s .code is 6) (λ e. refl) (λ e. refl))))))
+    where
+      As-found : Answer → Type 0
+      As-found a = l ≡ sharedAfter l a
+
+pub step-told-is : (d : Done Answer) (r : Reply) (s : Said) (t : Tables) (l l′ : List ℕ) (h : Halves) → h ≡ halves (s .code) (s .number) → l′ ≡ sharedAfter l (answerBy s) → s ≡ saidOf r
+    → done (means r) t ≡ d → stepTold h l′ t ≡ tellStep l d
+step-told-is d r s t l l′ h e f p q =
+    let number : h ≡ encode (means r) = encoded-by r s h e p in
+    let words : l′ ≡ sharedAfter l (means r) = f ∙ rw (p, answer-by-means r) in
+    rw (number, words, ← q)
 
 -- ---- the other answers
 pub count-is : (r : CountReply) (k : ℕ) (h : Halves) → h ≡ halves 1 k → r ≡ Count k → h ≡ encodeCount (meansCount r)

@@ -9,7 +9,7 @@ use Rattle.rules.specs.Tables.{Tables, tables}
 use Rattle.rules.specs.Answers.{Done, done}
 use Rattle.rules.proofs.Laws.OneAnswer.{Settles, SettlesAnswer, one-value, one-result}
 use Rattle.playing.proofs.OneAnswer.{one-text}
-use Rattle.boundary.specs.Encoded.{Halves, halvesOf, Told, told, ReadAs, readAs}
+use Rattle.boundary.specs.Encoded.{Halves, halvesOf, StepTold, stepTold, Told, told, ReadAs, readAs}
 use Rattle.boundary.proofs.soodhiqune_clear.Reads as clear
 use Rattle.boundary.proofs.soodhiqune_clear.Kinds as clear-kinds
 use Rattle.boundary.proofs.soodhiqune_begin.Reads as begin
@@ -42,6 +42,12 @@ one-number promised a b t u p q =
     let w = one-result promised (halvesOf a) (halvesOf b) t u p q in
     (same-halves a b (w .0), w .1)
 
+one-step-number : (promised : StepTold) (a b : ℕ) (m n : List ℕ) (t u : Tables) → stepTold (halvesOf a) m t ≡ promised → stepTold (halvesOf b) n u ≡ promised
+    → (a ≡ b) × _≡_ {A = Tables × List ℕ} (t, m) (u, n)
+one-step-number promised a b m n t u p q =
+    let e = one-value p q in
+    (same-halves a b (ap (λ (x : StepTold). x .number) e), ap (λ (x : StepTold). (x .after, x .shared)) e)
+
 one-board-number : (promised : Told) (a b c d : ℕ) (m n : List ℕ) → told (halvesOf a) c m ≡ promised → told (halvesOf b) d n ≡ promised → (a ≡ b) × _≡_ {A = List ℕ × ℕ} (m, c) (n, d)
 one-board-number promised a b c d m n p q =
     let e = one-value p q in
@@ -59,8 +65,9 @@ one-clear κs args a b s t = one-result _ a b _ _
 pub one-begin : Settles begin-kinds.ps begin-kinds.r begin.Post (λ κs s. tables (now (s .0)) (now (s .1 .0)))
 one-begin κs args a b s t = one-number _ a b _ _
 
-pub one-step : Settles step-kinds.ps step-kinds.r step.Post (λ κs s. tables (now (s .0)) (now (s .1 .0)))
-one-step κs args a b s t = one-number _ a b _ _
+-- the tables, and the two words for the shared run
+pub one-step : Settles step-kinds.ps step-kinds.r {B = Tables × List ℕ} step.Post (λ κs s. (tables (now (s .0)) (now (s .1 .0)), now (s .1 .1 .1 .0)))
+one-step κs args a b s t = one-step-number _ a b _ _ _ _
 
 pub one-release : Settles release-kinds.ps release-kinds.r release.Post (λ κs s. tables (now (s .0)) (now (s .1 .0)))
 one-release κs args a b s t = one-number _ a b _ _
@@ -76,7 +83,7 @@ one-run κs args a b s t = one-number _ a b _ _
 pub one-board : Settles board-kinds.ps board-kinds.r {B = List ℕ × ℕ} board.Post (λ κs s. (now (s .1 .1 .0), now (s .1 .1 .1 .0)))
 one-board κs args a b s t = one-board-number _ a b _ _ _ _
 
--- the 5,003 numbers
+-- the 5,004 numbers
 pub one-read : Settles read-kinds.ps read-kinds.r read.Post (λ κs s. now (s .1 .0))
 one-read κs args a b s t p q = one-read-number _ a b _ _ (p .0) (q .0)
 

@@ -8,16 +8,17 @@ use contract.Lifetimes.{Lfts}
 use denote.Ref.{now}
 use denote.Triple.Clauses.{AtExit}
 use Rattle.rules.specs.Tables.{Tables, tables}
-use Rattle.rules.specs.Comparison.{claim}
+use Rattle.rules.specs.Comparison.{Claim, claim}
 use Rattle.rules.specs.Answers.{Answer, node, out, on, wait, held, back, refused, Done, done}
 use Rattle.rules.specs.FreeCount.{Counted, freeCount}
 use Rattle.rules.specs.Board.{Boarded, Shown, shown, boardNumbers}
 use Rattle.rules.specs.Calls as call
 use Rattle.rules.specs.Run as running
 use Rattle.rules.specs.declared.Ran.{Ran}
+use Rattle.rules.proofs.Rules.Accepting.{begin-answers, release-answers}
 use Rattle.replies.specs.Codes.{answerBy}
-use Rattle.boundary.specs.Encoded.{Halves, halvesOf, encode, encodeCount, encodeRan, encoded, encodedRun, Told, told, tellAnswer, tell}
-use Rattle.boundary.specs.Decoded.{decode, decodeCount, decodeRan, decodeBoard}
+use Rattle.boundary.specs.Encoded.{Halves, halvesOf, encode, encodeCount, encodeRan, encoded, encodedRun, StepTold, stepTold, sharedAfter, tellStep, Told, told, tellAnswer, tell}
+use Rattle.boundary.specs.Decoded.{decode, decodeStep, decodeCount, decodeRan, decodeBoard}
 use Rattle.boundary.proofs.soodhiqune_begin.Reads as begin
 use Rattle.boundary.proofs.soodhiqune_begin.Kinds as begin-kinds
 use Rattle.boundary.proofs.soodhiqune_step.Reads as step
@@ -38,20 +39,32 @@ Tells {n} ps r promise given read =
     promise κs args a s →
     read κs a s ≡ given κs args
 
--- ---- an answer is read back from its halves, whatever its number
-pub answer-back : (a : Answer) → decode (encode a) ≡ a
+-- ---- a step's answer is read back from its halves and its two words, whatever its numbers
+pub answer-back : (lent : List ℕ) (a : Answer) → decodeStep (encode a) (sharedAfter lent a) ≡ a
 unfolding answerBy
-answer-back (node n) = refl
-answer-back out = refl
-answer-back on = refl
-answer-back (wait n) = refl
-answer-back held = refl
-answer-back back = refl
-answer-back (refused number) = refl
+answer-back lent (node n) = refl
+answer-back lent out = refl
+answer-back lent on = refl
+answer-back lent (wait n first end) = refl
+answer-back lent held = refl
+answer-back lent back = refl
+answer-back lent (refused number) = refl
 
--- so two different answers never give one number
-pub answers-apart : (a b : Answer) → encode a ≡ encode b → a ≡ b
-answers-apart a b e = sym (answer-back a) ∙ ap decode e ∙ answer-back b
+-- so two different answers never give one number and the same two words
+pub answers-apart : (lent : List ℕ) (a b : Answer) → encode a ≡ encode b → sharedAfter lent a ≡ sharedAfter lent b → a ≡ b
+answers-apart lent a b e f = sym (answer-back lent a) ∙ rw (e, f) (answer-back lent b)
+
+-- those of begin and release, which are no waits, from the halves alone
+abbrev ReadBack : Answer → Type 0
+ReadBack a = decode (encode a) ≡ a
+
+begin-back : (t : Tables) (s : ℕ) (c : Claim) → ReadBack (call.begin t s c .answer)
+unfolding answerBy
+begin-back t s c = begin-answers t s c ReadBack (λ n. refl) (λ number. refl)
+
+release-back : (t : Tables) (s : ℕ) → ReadBack (call.release t s .answer)
+unfolding answerBy
+release-back t s = release-answers t s ReadBack refl (λ number. refl)
 
 pub count-back : (c : Counted) → decodeCount (encodeCount c) ≡ c
 count-back (Counted.counted n) = refl
@@ -71,8 +84,12 @@ rows-back covered (Boarded.filled count frames) l = refl
 rows-back covered (Boarded.refused number) l = refl
 
 -- ---- so is what a call gave
-done-back : (d : Done Answer) (r : ℕ) (t : Tables) → done (halvesOf r) t ≡ encoded d → done (decode (halvesOf r)) t ≡ d
-done-back d r t p = ap (λ (x : Done Halves). done (decode (x .answer)) (x .after)) p ∙ ap (λ (a : Answer). done a (d .after)) (answer-back (d .answer))
+done-back : (d : Done Answer) → ReadBack (d .answer) → (r : ℕ) (t : Tables) → done (halvesOf r) t ≡ encoded d → done (decode (halvesOf r)) t ≡ d
+done-back d e r t p = ap (λ (x : Done Halves). done (decode (x .answer)) (x .after)) p ∙ ap (λ (a : Answer). done a (d .after)) e
+
+step-back : (d : Done Answer) (lent shared : List ℕ) (r : ℕ) (t : Tables) → stepTold (halvesOf r) shared t ≡ tellStep lent d → done (decodeStep (halvesOf r) shared) t ≡ d
+step-back d lent shared r t p =
+    ap (λ (x : StepTold). done (decodeStep (x .number) (x .shared)) (x .after)) p ∙ ap (λ (a : Answer). done a (d .after)) (answer-back lent (d .answer))
 
 run-back : (d : Done Ran) (r : ℕ) (t : Tables) → done (halvesOf r) t ≡ encodedRun d → done (decodeRan (halvesOf r)) t ≡ d
 run-back d r t p = ap (λ (x : Done Halves). done (decodeRan (x .answer)) (x .after)) p
@@ -87,17 +104,17 @@ told-back d lent r covered rows p =
 pub begin-told : Tells begin-kinds.ps begin-kinds.r begin.Post
     (λ κs args. call.begin (tables (now (args .0)) (now (args .1 .0))) (args .1 .1 .0) (claim (args .1 .1 .1 .0) (args .1 .1 .1 .1 .0) (args .1 .1 .1 .1 .1 .0)))
     (λ κs r s. done (decode (halvesOf r)) (tables (now (s .0)) (now (s .1 .0))))
-begin-told κs args r s = done-back _ r _
+begin-told κs args r s = done-back _ (begin-back _ _ _) r _
 
 pub step-told : Tells step-kinds.ps step-kinds.r step.Post
     (λ κs args. call.step (tables (now (args .0)) (now (args .1 .0))) (args .1 .1 .0))
-    (λ κs r s. done (decode (halvesOf r)) (tables (now (s .0)) (now (s .1 .0))))
-step-told κs args r s = done-back _ r _
+    (λ κs r s. done (decodeStep (halvesOf r) (now (s .1 .1 .1 .0))) (tables (now (s .0)) (now (s .1 .0))))
+step-told κs args r s = step-back _ _ _ r _
 
 pub release-told : Tells release-kinds.ps release-kinds.r release.Post
     (λ κs args. call.release (tables (now (args .0)) (now (args .1 .0))) (args .1 .1 .0))
     (λ κs r s. done (decode (halvesOf r)) (tables (now (s .0)) (now (s .1 .0))))
-release-told κs args r s = done-back _ r _
+release-told κs args r s = done-back _ (release-back _ _) r _
 
 pub free-count-told : Tells free-count-kinds.ps free-count-kinds.r free-count.Post
     (λ κs args. freeCount (tables (now (args .0)) (now (args .1 .0))))

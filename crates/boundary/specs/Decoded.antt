@@ -12,12 +12,16 @@ use Rattle.rules.specs.Script.{line, badAt}
 use Rattle.rules.specs.declared.Ran.{Ran}
 use Rattle.rules.specs.declared.Line.{Line}
 use Rattle.rules.specs.declared.Script.{Script}
-use Rattle.replies.specs.Codes.{answerBy}
+use Rattle.replies.specs.Codes.{said, saidPlainly, answerBy}
 use Rattle.boundary.specs.Encoded.{Halves, rowAt}
 
--- begin, step and release
+-- begin and release, which never answer `wait`
 abbrev pub decode : Halves → Answer
-decode h = answerBy (h .upper) (h .lower)
+decode h = answerBy (saidPlainly (h .upper) (h .lower))
+
+-- step, with the two words for the shared run
+abbrev pub decodeStep : Halves → List ℕ → Answer
+decodeStep h shared = answerBy (said (h .upper) (h .lower) (getD shared 0 0) (getD shared 1 0))
 
 abbrev pub decodeCount : Halves → Counted
 decodeCount h =

@@ -1,9 +1,11 @@
 -- An answer as one number: what kind of answer in the upper 32 bits, its number in the lower. The promises speak of the two halves, so
--- that no two answers are one number, however large theirs are. A refusal is its own number.
+-- that no two answers are one number, however large theirs are; of a wait, together with its shared run, which crosses in two words of its own. A
+-- refusal is its own number.
 use Prim.Native.Nat.{ℕ, zero, suc, _+_, _*_, _/_, _%_}
-use mathlib.Core.List.{List}
+use mathlib.Core.List.{List, [], _∷_}
 use lib.ListN.{getD, set}
 use Rattle.rules.specs.Notation.{if_then_else_, _is_}
+use Rattle.rules.specs.Tables.{Tables}
 use Rattle.rules.specs.Answers.{Answer, node, out, on, wait, held, back, refused, Done, done}
 use Rattle.rules.specs.FreeCount.{Counted}
 use Rattle.rules.specs.Board.{Boarded, Shown}
@@ -28,7 +30,7 @@ encode (refused number) = halves 0 number
 encode (node n) = halves 1 n
 encode out = halves 2 0
 encode on = halves 3 0
-encode (wait n) = halves 4 n
+encode (wait n first end) = halves 4 n
 encode held = halves 5 0
 encode back = halves 6 0
 
@@ -45,6 +47,28 @@ encoded d = done (encode (d .answer)) (d .after)
 
 abbrev pub encodedRun : Done Ran → Done Halves
 encodedRun d = done (encodeRan (d .answer)) (d .after)
+
+-- ---- step: a number, the two words for the shared run, and the tables. On a wait the words become the first shared frame and the end of the shared run; on
+-- every other answer, a refusal too, they stay as found
+pub record StepTold : Type 0 where
+  pub number : Halves
+  pub shared : List ℕ
+  pub after : Tables
+
+abbrev pub stepTold : Halves → List ℕ → Tables → StepTold
+stepTold number shared after = record { number = number; shared = shared; after = after }
+
+abbrev pub sharedAfter : List ℕ → Answer → List ℕ
+sharedAfter lent (wait n first end) = first ∷ end ∷ []
+sharedAfter lent (refused number) = lent
+sharedAfter lent (node n) = lent
+sharedAfter lent out = lent
+sharedAfter lent on = lent
+sharedAfter lent held = lent
+sharedAfter lent back = lent
+
+abbrev pub tellStep : List ℕ → Done Answer → StepTold
+tellStep lent d = stepTold (encode (d .answer)) (sharedAfter lent (d .answer)) (d .after)
 
 -- ---- the board: a number, the word for the covered frames, and the rows. A refusal leaves that word as found
 pub record Told : Type 0 where

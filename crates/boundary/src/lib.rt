@@ -1,5 +1,5 @@
-// The public calls for C and Rust to link: over numbers and slices alone, each answer encoded as one number. A slice crosses as its address
-// and its length.
+// The public calls for C and Rust to link: over numbers and slices alone, each answer encoded as one number, a wait's shared run in two words beside it. A
+// slice crosses as its address and its length, an array as its address.
 ghost use mathlib.Core.Path.{_≡_};
 ghost use Prim.Native.Nat.{_+_, _≤_};
 ghost use lib.ListN.{length, take, drop};
@@ -13,7 +13,9 @@ ghost use Rattle.rules.specs.FreeCount.{freeCount};
 ghost use Rattle.rules.specs.Run as running;
 ghost use Rattle.rules.specs.Board.{boardNumbers};
 ghost use Rattle.rules.specs.Play.{play as Play·play};
-ghost use Rattle.boundary.specs.Encoded.{halves, halvesOf, encode, encodeCount, encoded, encodedRun, told, tell, putLine, linesAfter, scriptNumbers, readAs, encodeScript};
+ghost use Rattle.replies.specs.Codes.{answerBy};
+ghost use Rattle.boundary.specs.Encoded.{halves, halvesOf, encode, encodeCount, encoded, encodedRun, stepTold, sharedAfter, tellStep, told, tell, putLine, linesAfter, scriptNumbers, readAs, encodeScript};
+use replies::Said;
 use rules::BoardReply;
 use rules::CountReply;
 use rules::Line;
@@ -32,9 +34,19 @@ fn joined(upper: u32, lower: u32) -> u64
 fn number_of(reply: Reply) -> u64
     ensures { λ r. ⌜ halvesOf r ≡ encode (means reply) ⌝ }
 {
-    let code = replies::code_of(reply);
-    let number = replies::number_of(reply);
-    joined(code, number)
+    let said = replies::say(reply);
+    joined(said.code, said.number)
+}
+
+// the two words for the shared run, where the answer is a wait
+fn put_shared(shared: &mut [u32; 2], said: Said)
+    ensures { λ r. ⌜ now (shared .exit) ≡ sharedAfter (now (shared .entry)) (answerBy said) ⌝ }
+{
+    let code = said.code;
+    if code == 4 {
+        shared[0] = said.first;
+        shared[1] = said.end;
+    }
 }
 
 fn number_of_count(reply: CountReply) -> u64
@@ -72,11 +84,18 @@ pub extern "C" fn soodhiqune_begin(
 }
 
 #[no_mangle]
-pub extern "C" fn soodhiqune_step(nodes: &mut [u32], seats: &mut [u32], seat: u32) -> u64
-    ensures { λ r. ⌜ done (halvesOf r) (tables (now (nodes .exit)) (now (seats .exit))) ≡ encoded (call.step (tables (now (nodes .entry)) (now (seats .entry))) seat) ⌝ }
+pub extern "C" fn soodhiqune_step(
+    nodes: &mut [u32],
+    seats: &mut [u32],
+    seat: u32,
+    shared: &mut [u32; 2],
+) -> u64
+    ensures { λ r. ⌜ stepTold (halvesOf r) (now (shared .exit)) (tables (now (nodes .exit)) (now (seats .exit))) ≡ tellStep (now (shared .entry)) (call.step (tables (now (nodes .entry)) (now (seats .entry))) seat) ⌝ }
 {
     let reply = claims::step(nodes, seats, seat);
-    number_of(reply)
+    let said = replies::say(reply);
+    put_shared(shared, said);
+    joined(said.code, said.number)
 }
 
 #[no_mangle]
@@ -127,12 +146,12 @@ pub extern "C" fn soodhiqune_board(
     }
 }
 
-// The bytes printed for a script, at most 26,986 of the 32,768 lent; their number.
+// The bytes printed for a script, at most 48,986 of the 49,152 lent; their number.
 #[no_mangle]
-pub extern "C" fn soodhiqune_play(script: &[u8], out: &mut [u8; 32768]) -> u64
+pub extern "C" fn soodhiqune_play(script: &[u8], out: &mut [u8; 49152]) -> u64
     ensures { λ r. ⌜ take r (now (out .exit)) ≡ Play·play (now (script .entry)) ⌝ }
     ensures { λ r. ⌜ drop r (now (out .exit)) ≡ drop r (now (out .entry)) ⌝ }
-    ensures { λ r. ⌜ (r ≤ 26986) × (r ≡ length (take r (now (out .exit)))) ⌝ }
+    ensures { λ r. ⌜ (r ≤ 48986) × (r ≡ length (take r (now (out .exit)))) ⌝ }
 {
     playing::play(script, out) as u64
 }

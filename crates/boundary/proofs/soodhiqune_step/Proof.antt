@@ -1,5 +1,5 @@
 -- `boundary::soodhiqune_step` meets its promise.
-use Rattle.boundary.proofs.Codes.{encoded-is}
+use Rattle.boundary.proofs.Codes.{step-told-is}
 use borrow.Author.Needs.{needs}
 use Rattle.boundary.proofs.soodhiqune_step.Statement.{statement}
 use Rattle.boundary.proofs.soodhiqune_step.Tie as tie
@@ -7,8 +7,14 @@ use Rattle.boundary.proofs.soodhiqune_step.Tie as tie
 step-requires : tie.Need-step-requires
 step-requires c κs = search needs
 
-number-of-requires : tie.Need-number-of-requires
-number-of-requires c κs = search needs
+say-requires : tie.Need-say-requires
+say-requires c κs = search needs
+
+put-shared-requires : tie.Need-put-shared-requires
+put-shared-requires c κs = search needs
+
+joined-requires : tie.Need-joined-requires
+joined-requires c κs = search needs
 
 same-length : tie.Need-same-length
 same-length c = search needs
@@ -17,8 +23,16 @@ same-length-2 : tie.Need-same-length-2
 same-length-2 c = search needs
 
 returns : tie.Need-returns
-returns c = search encoded-is
+returns c = search step-told-is
 
 pub soodhiqune-step-spec : {M : Type 1} → statement M
 soodhiqune-step-spec =
-    tie.close (tie.spec step-requires number-of-requires same-length same-length-2 returns)
+    tie.close
+    (tie.spec
+    step-requires
+    say-requires
+    put-shared-requires
+    joined-requires
+    same-length
+    same-length-2
+    returns)

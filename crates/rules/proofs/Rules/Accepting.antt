@@ -10,7 +10,7 @@ use Rattle.rules.specs.Tables.{Tables, seatCount, title, phase}
 use Rattle.rules.specs.Comparison.{Claim}
 use Rattle.rules.specs.Shape.{sound, isKind}
 use Rattle.rules.specs.Fetch.{Fetched}
-use Rattle.rules.specs.Answers.{Answer, refused, out, Done, done}
+use Rattle.rules.specs.Answers.{Answer, node, refused, out, Done, done}
 use Rattle.rules.specs.Steps.{leave, stepByPhase}
 use Rattle.rules.specs.Calls.{noSeat, begun, begin, step, release}
 use Rattle.rules.specs.Play.{Call, beginCall, stepCall, releaseCall}
@@ -73,6 +73,18 @@ beginning t s c =
     branch (Beginning t s c) (not (phase t s is 0)) (λ e. begin-refused 5 (not-idle has proper within (eqb-false (phase t s) 0 (not-true (phase t s is 0) e)))) (λ e₅.
     begin-accepted (has .is-sound) (has .is-seat) proper within (eqb-true (phase t s) 0 (not-false (phase t s is 0) e₅)) (fetching t s c))))))
 
+-- begin answers with a node, or is refused
+begun-answers : (t : Tables) (f : Fetched) (P : Answer → Type 0) → ((n : ℕ) → P (node n)) → ((number : ℕ) → P (refused number)) → P (begun t f .answer)
+unfolding begun
+begun-answers t f P taken not-taken = branch (λ (d : Done Answer). P (d .answer)) (f .node is 0) (λ e. not-taken 8) (λ e. taken (f .node))
+
+pub begin-answers : (t : Tables) (s : ℕ) (c : Claim) (P : Answer → Type 0) → ((n : ℕ) → P (node n)) → ((number : ℕ) → P (refused number)) → P (begin t s c .answer)
+begin-answers t s c P taken not-taken = go (beginning t s c)
+  where
+    go : {d : Done Answer} → Beginning t s c d → P (d .answer)
+    go (begin-refused number r) = not-taken number
+    go (begin-accepted {f} e h p w i k) = begun-answers t f P taken not-taken
+
 pub data Stepped (t : Tables) (s : ℕ) : Done Answer → Type 0 where
   step-refused : (number : ℕ) → Refuses t (stepCall s) number → Stepped t s (done (refused number) t)
   step-accepted : {d : Done Answer} → sound t ≡ true → s < seatCount t → phase t s ≢ 0 → Stepping t s d → Stepped t s d
@@ -96,6 +108,14 @@ releasing t s =
     branch (Releasing t s) (not (phase t s is 5))
     (λ e. release-refused 7 (not-holding has (eqb-false (phase t s) 5 (not-true (phase t s is 5) e))))
     (λ e. release-accepted (has .is-sound) (has .is-seat) (eqb-true (phase t s) 5 (not-false (phase t s is 5) e))))
+
+-- release answers `out`, or is refused
+pub release-answers : (t : Tables) (s : ℕ) (P : Answer → Type 0) → P out → ((number : ℕ) → P (refused number)) → P (release t s .answer)
+release-answers t s P left not-left = go (releasing t s)
+  where
+    go : {d : Done Answer} → Releasing t s d → P (d .answer)
+    go (release-refused number r) = not-left number
+    go (release-accepted e h p) = left
 
 -- a step is refused and changes nothing, or is the step by phase
 pub step-or-same : (t : Tables) (s : ℕ) (P : Tables → Type 0) → P t
