@@ -39,7 +39,8 @@ fn number_of(reply: Reply) -> u64
 }
 
 // the two words for the shared run, where the answer is a wait
-fn put_shared(shared: &mut [u32; 2], said: Said)
+fn put_shared(shared: &mut [u32], said: Said)
+    requires { ⌜ length (now shared) ≡ 2 ⌝ }
     ensures { λ r. ⌜ now (shared .exit) ≡ sharedAfter (now (shared .entry)) (answerBy said) ⌝ }
 {
     let code = said.code;

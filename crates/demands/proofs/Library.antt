@@ -1,14 +1,14 @@
 -- The demands, of the library: what is proved of the rules, of the library's own promises. The words are those of Made and of the rules'
--- specs/Refusing.antt, Apart.antt, Cause.antt, Covered.antt, HowMany.antt and Title.antt; each proof cites what stands at the door of the rules'
--- proofs.
+-- specs/Refusing.antt, Apart.antt, Shared.antt, Cause.antt, Covered.antt, HowMany.antt and Title.antt; each proof cites what stands at the door of the
+-- rules' proofs.
 use Prim.Native.Nat.{ℕ, _+_, _*_, _/_, _≤_}
 use mathlib.Core.Path.{_≡_, sym, ap, _∙_}
 use mathlib.Core.Bool.{true}
 use mathlib.Core.List.{List}
 use mathlib.Core.Logic.{_≢_, _⊎_}
 use lib.ListN.{length, replicate}
-use Rattle.rules.specs.Tables.{Tables, readers, writers, title, start, phase, own}
-use Rattle.rules.specs.Comparison.{Claim}
+use Rattle.rules.specs.Tables.{Tables, readers, writers, title, start, phase, own, cur}
+use Rattle.rules.specs.Comparison.{Claim, claimOf}
 use Rattle.rules.specs.Shape.{sound}
 use Rattle.rules.specs.Reach.{listOf}
 use Rattle.rules.specs.Answers.{Answer, node, wait, refused, Done, done}
@@ -19,6 +19,7 @@ use Rattle.rules.specs.Reached.{Request}
 use Rattle.rules.specs.Run.{ran}
 use Rattle.rules.specs.Refusing.{WithinTitle, Refuses, ClearRefuses, DamageRefuses, BoardRefuses}
 use Rattle.rules.specs.Apart.{Covers, claimOfSeat, Holds, LinkedIn, Stands, OfOneSeat, Rising, IsItsSteps, Stops, GivenUp, callsMade, StillStands}
+use Rattle.rules.specs.Shared.{WholeShared, NoneShared}
 use Rattle.rules.specs.Cause.{Cause, Settled, Told}
 use Rattle.rules.specs.Covered.{addedUp, In32Bits}
 use Rattle.rules.specs.HowMany.{CountsRight, CountsMove}
@@ -26,6 +27,7 @@ use Rattle.rules.specs.Title.{AllWithin, perCent}
 use Rattle.rules.specs.declared.Ran.{Ran}
 use Rattle.rules.proofs.Refusing as refusing
 use Rattle.rules.proofs.Apart as apart
+use Rattle.rules.proofs.Shared as shares
 use Rattle.rules.proofs.Cause as cause
 use Rattle.rules.proofs.Covered as covers
 use Rattle.rules.proofs.HowMany as many
@@ -127,6 +129,23 @@ pub board-at-most-100 : {t : Tables} {rows after : List ℕ} {n covered : ℕ} �
     → perCent covered (title t) ≤ 100
 board-at-most-100 {t} m = rw (board-covers m .1) (titled.at-most-100 t (board-accepted m))
 
+-- ---- which frames clash, of any tables: a step that answers `wait` names the node that its seat then waits at, and the whole of what the claim there and
+-- its own cover; 0 and 0 where that is no frame
+pub wait-names-the-whole : {t u : Tables} {s n first end : ℕ} → CallMade t (stepCall s) (wait n first end) u
+    → (cur u s ≡ n) × WholeShared (claimOf u n) (claimOfSeat u s) first end
+unfolding call
+wait-names-the-whole {t} {s = s} {n} {first} {end} m =
+    let e = made-call m in
+    let q = sym (ap (λ (x : Done Answer). x .answer) e) in
+    rw (ap (λ (x : Done Answer). x .after) e) (shares.at-the-node t s n first end q, shares.wait-names-the-whole t s n first end q)
+
+pub wait-for-no-frame : {t u : Tables} {s n first end : ℕ} → CallMade t (stepCall s) (wait n first end) u → NoneShared (claimOf u n) (claimOfSeat u s)
+    → (first ≡ 0) × (end ≡ 0)
+unfolding call
+wait-for-no-frame {t} {s = s} {n} {first} {end} m none =
+    let e = made-call m in
+    shares.wait-for-no-frame t s n first end (sym (ap (λ (x : Done Answer). x .answer) e)) (rw (ap (λ (x : Done Answer). x .after) e) at none)
+
 -- ---- demand 2, of tables that the library cleared and that only its calls have changed since
 module _ {N S : ℕ} {t : Tables} (l : Lent N S t) where
   -- two holders share a frame only if both read
@@ -185,12 +204,12 @@ module _ {N S : ℕ} {t : Tables} (l : Lent N S t) where
       → covered ≡ addedUp (holders t)
   writers-covered writers m = board-covers m .1 ∙ covers.the-sum-for-writers (lent-reached l) writers
 
-  -- ---- demand 3: every `wait n` has its cause at node n
-  pub every-wait-has-its-cause : (s n : ℕ) {u : Tables} → CallMade t (stepCall s) (wait n) u → Cause u s n
+  -- ---- demand 3: every `wait n first end` has its cause at node n, in the frames from first up to end
+  pub every-wait-has-its-cause : (s n first end : ℕ) {u : Tables} → CallMade t (stepCall s) (wait n first end) u → Cause u s n first end
   unfolding call
-  every-wait-has-its-cause s n m =
+  every-wait-has-its-cause s n first end m =
       let e = made-call m in
-      rw (ap (λ (d : Done Answer). d .after) e) (cause.every-wait-has-its-cause (lent-reached l) s n (sym (ap (λ (d : Done Answer). d .answer) e)))
+      rw (ap (λ (d : Done Answer). d .after) e) (cause.every-wait-has-its-cause (lent-reached l) s n first end (sym (ap (λ (d : Done Answer). d .answer) e)))
 
   -- 6·N + 8 steps of a seat with a claim settle it, and the last of them tells the worker how
   pub nobody-waits-without-cause : (s : ℕ) → phase t s ≢ 0 → {u : Tables} → StepsMade s (6 * N + 8) t u → Settled u s
