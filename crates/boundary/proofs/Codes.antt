@@ -3,7 +3,7 @@ use Prim.Native.Nat.{ℕ, zero, suc, _+_, _*_, _/_, _%_, _≤_, _<_}
 use mathlib.Core.Logic.{_≢_}
 use native.Mathlib.Numerals.{add-one}
 use lib.ListN.{getD, set, length, length-set}
-use borrow.Author.Tests.{ne-eqb, eqb-true}
+use borrow.Author.Tests.{ne-eqb}
 use Rattle.rules.specs.Script.{noLine, readScript}
 use Rattle.script.proofs.Bounds.{read-bounded}
 use Rattle.rules.specs.declared.Line.{Line}
@@ -23,11 +23,8 @@ use Rattle.rules.specs.declared.CountReply.the-variants.{Count, Refused as Coun
 use Rattle.rules.specs.declared.BoardReply.{BoardReply}
 use Rattle.rules.specs.declared.BoardReply.the-variants.{Rows, Refused as BoardRefused}
 use Rattle.rules.specs.declared.Ran.{Ran}
-use Rattle.rules.specs.Notation.{_is_}
-use Rattle.rules.proofs.Ground.Logic.{branch}
-use Rattle.replies.specs.Codes.{saidOf, answerBy}
+use Rattle.replies.specs.Codes.{saidOf}
 use Rattle.replies.specs.declared.Said.{Said}
-use Rattle.replies.proofs.Codes.{answer-by-means}
 use Rattle.boundary.specs.Encoded.{Halves, halves, halvesOf, encode, encodeCount, encodeRan, encoded, encodedRun, stepTold, sharedAfter, tellStep, told, tellAnswer, tell, putLine, putTopLine, rowAt, linesAfter, scriptNumbers, readAs, encodeScript}
 
 -- ---- two halves
@@ -65,31 +62,35 @@ two-words (x ∷ []) first end e = absurd (omega arith)
 two-words (x ∷ y ∷ []) first end e = refl
 two-words (x ∷ y ∷ z ∷ l) first end e = absurd (omega arith)
 
-module _ (s : Said) (l : List ℕ) where
-  pub shared-stored : length l ≡ 2 → s .code ≡ 4 → set (set l 0 (s .first)) 1 (s .end) ≡ sharedAfter l (answerBy s)
-  unfolding answerBy
-  shared-stored n e = rw e (two-words l (s .first) (s .end) n)
+-- by the code of its reply
+module _ (r : Reply) (s : Said) (l : List ℕ) (isSaid : s ≡ saidOf r) where
+  run-at-4 : (r : Reply) → saidOf r .code ≡ 4 → sharedAfter l (means r) ≡ saidOf r .first ∷ saidOf r .end ∷ []
+  run-at-4 (Wait n first end) e = refl
+  run-at-4 (Refused number) e = absurd (omega arith)
+  run-at-4 (Node n) e = absurd (omega arith)
+  run-at-4 Out e = absurd (omega arith)
+  run-at-4 On e = absurd (omega arith)
+  run-at-4 Held e = absurd (omega arith)
+  run-at-4 Back e = absurd (omega arith)
 
-  -- any answer but a wait leaves them
-  pub shared-kept : s .code ≢ 4 → l ≡ sharedAfter l (answerBy s)
-  unfolding answerBy
-  shared-kept d =
-      branch As-found (s .code is 1) (λ e. refl) (λ e.
-      branch As-found (s .code is 2) (λ e. refl) (λ e.
-      branch As-found (s .code is 3) (λ e. refl) (λ e.
-      branch As-found (s .code is 4) (λ e. absurd (d (eqb-true (s .code) 4 e))) (λ e.
-      branch As-found (s .code is 5) (λ e. refl) (λ e.
-      branch As-found (s .code is 6) (λ e. refl) (λ e. refl))))))
-    where
-      As-found : Answer → Type 0
-      As-found a = l ≡ sharedAfter l a
+  else-kept : (r : Reply) → saidOf r .code ≢ 4 → sharedAfter l (means r) ≡ l
+  else-kept (Wait n first end) d = absurd (d refl)
+  else-kept (Refused number) d = refl
+  else-kept (Node n) d = refl
+  else-kept Out d = refl
+  else-kept On d = refl
+  else-kept Held d = refl
+  else-kept Back d = refl
 
-pub step-told-is : (d : Done Answer) (r : Reply) (s : Said) (t : Tables) (l l′ : List ℕ) (h : Halves) → h ≡ halves (s .code) (s .number) → l′ ≡ sharedAfter l (answerBy s) → s ≡ saidOf r
-    → done (means r) t ≡ d → stepTold h l′ t ≡ tellStep l d
-step-told-is d r s t l l′ h e f p q =
-    let number : h ≡ encode (means r) = encoded-by r s h e p in
-    let words : l′ ≡ sharedAfter l (means r) = f ∙ rw (p, answer-by-means r) in
-    rw (number, words, ← q)
+  pub shared-stored : length l ≡ 2 → s .code ≡ 4 → set (set l 0 (s .first)) 1 (s .end) ≡ sharedAfter l (means r)
+  shared-stored n e = two-words l (s .first) (s .end) n ∙ rw isSaid (sym (run-at-4 r (rw isSaid at e)))
+
+  pub shared-kept : s .code ≢ 4 → l ≡ sharedAfter l (means r)
+  shared-kept d = sym (else-kept r (rw isSaid at d))
+
+pub step-told-is : (d : Done Answer) (r : Reply) (t : Tables) (l l′ : List ℕ) (h : Halves) → h ≡ encode (means r) → l′ ≡ sharedAfter l (means r) → done (means r) t ≡ d
+    → stepTold h l′ t ≡ tellStep l d
+step-told-is d r t l l′ h e f q = rw (e, f, ← q)
 
 -- ---- the other answers
 pub count-is : (r : CountReply) (k : ℕ) (h : Halves) → h ≡ halves 1 k → r ≡ Count k → h ≡ encodeCount (meansCount r)

@@ -13,9 +13,7 @@ ghost use Rattle.rules.specs.FreeCount.{freeCount};
 ghost use Rattle.rules.specs.Run as running;
 ghost use Rattle.rules.specs.Board.{boardNumbers};
 ghost use Rattle.rules.specs.Play.{play as Play·play};
-ghost use Rattle.replies.specs.Codes.{answerBy};
 ghost use Rattle.boundary.specs.Encoded.{halves, halvesOf, encode, encodeCount, encoded, encodedRun, stepTold, sharedAfter, tellStep, told, tell, putLine, linesAfter, scriptNumbers, readAs, encodeScript};
-use replies::Said;
 use rules::BoardReply;
 use rules::CountReply;
 use rules::Line;
@@ -39,10 +37,11 @@ fn number_of(reply: Reply) -> u64
 }
 
 // the two words for the shared run, where the answer is a wait
-fn put_shared(shared: &mut [u32], said: Said)
+fn put_shared(shared: &mut [u32], reply: Reply)
     requires { ⌜ length (now shared) ≡ 2 ⌝ }
-    ensures { λ r. ⌜ now (shared .exit) ≡ sharedAfter (now (shared .entry)) (answerBy said) ⌝ }
+    ensures { λ r. ⌜ now (shared .exit) ≡ sharedAfter (now (shared .entry)) (means reply) ⌝ }
 {
+    let said = replies::say(reply);
     let code = said.code;
     if code == 4 {
         shared[0] = said.first;
@@ -94,9 +93,8 @@ pub extern "C" fn soodhiqune_step(
     ensures { λ r. ⌜ stepTold (halvesOf r) (now (shared .exit)) (tables (now (nodes .exit)) (now (seats .exit))) ≡ tellStep (now (shared .entry)) (call.step (tables (now (nodes .entry)) (now (seats .entry))) seat) ⌝ }
 {
     let reply = claims::step(nodes, seats, seat);
-    let said = replies::say(reply);
-    put_shared(shared, said);
-    joined(said.code, said.number)
+    put_shared(shared, reply);
+    number_of(reply)
 }
 
 #[no_mangle]

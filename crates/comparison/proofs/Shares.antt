@@ -15,11 +15,11 @@ module _ (a b : ℕ) where
   pub later-first : b < a → a ≡ later a b
   later-first h = rw (lt-leb a b h)
 
-  pub earlier-first : a ≤ b → a ≡ earlier a b
-  earlier-first h = rw (le-leb a b h)
+  pub earlier-second : b ≤ a → b ≡ earlier a b
+  earlier-second h = rw (le-leb b a h)
 
-  pub earlier-second : b < a → b ≡ earlier a b
-  earlier-second h = rw (lt-leb a b h)
+  pub earlier-first : a < b → a ≡ earlier a b
+  earlier-first h = rw (lt-leb b a h)
 
   pub some-run : a < b → sharedRun a b ≡ runOrNone a b
   unfolding runOrNone

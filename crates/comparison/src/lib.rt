@@ -64,10 +64,10 @@ fn later(a: u32, b: u32) -> u32
 fn earlier(a: u32, b: u32) -> u32
     ensures { λ r. ⌜ r ≡ rule.earlier a b ⌝ }
 {
-    if a <= b {
-        return a;
+    if b <= a {
+        return b;
     }
-    b
+    a
 }
 
 // 0 and 0 where there is no frame from `first` up to `end`

@@ -56,7 +56,7 @@ abbrev pub later : ℕ → ℕ → ℕ
 later a b = if a ≤? b then b else a
 
 abbrev pub earlier : ℕ → ℕ → ℕ
-earlier a b = if a ≤? b then a else b
+earlier a b = if b ≤? a then b else a
 
 -- "where .. the claim waited at shares no frame, both are 0"
 unfoldable pub runOrNone : ℕ → ℕ → SharedRun

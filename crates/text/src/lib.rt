@@ -84,9 +84,9 @@ pub fn put_row(out: &mut [u8], at: usize, seat: u32, first: u32, end: u32, kind:
 fn put_wait(out: &mut [u8], at: usize, n: u32, first: u32, end: u32) -> usize
     ensures { λ r. ⌜ page (now (out .exit)) r ≡ puts (page (now (out .entry)) at) (answerText (wait n first end)) ⌝ }
 {
-    let a = put_named(out, at, b"wait ", n as u64);
-    let b = put_next(out, a, first);
-    put_next(out, b, end)
+    let node = put_named(out, at, b"wait ", n as u64);
+    let run = put_next(out, node, first);
+    put_next(out, run, end)
 }
 
 // A reply as numbers, which the printers take in its place.

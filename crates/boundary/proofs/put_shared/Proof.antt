@@ -4,6 +4,9 @@ use borrow.Author.Needs.{needs}
 use Rattle.boundary.proofs.put_shared.Statement.{statement}
 use Rattle.boundary.proofs.put_shared.Tie as tie
 
+say-requires : tie.Need-say-requires
+say-requires c κs = search needs
+
 slice-write-shared : tie.Need-slice-write-shared
 slice-write-shared c = search needs
 
@@ -21,4 +24,5 @@ returns-2 c = search shared-kept
 
 pub put-shared-spec : {M : Type 1} → statement M
 put-shared-spec =
-    tie.close (tie.spec slice-write-shared slice-write-shared-2 same-length returns returns-2)
+    tie.close
+    (tie.spec say-requires slice-write-shared slice-write-shared-2 same-length returns returns-2)

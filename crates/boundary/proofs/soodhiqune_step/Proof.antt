@@ -7,14 +7,11 @@ use Rattle.boundary.proofs.soodhiqune_step.Tie as tie
 step-requires : tie.Need-step-requires
 step-requires c κs = search needs
 
-say-requires : tie.Need-say-requires
-say-requires c κs = search needs
-
 put-shared-requires : tie.Need-put-shared-requires
 put-shared-requires c κs = search needs
 
-joined-requires : tie.Need-joined-requires
-joined-requires c κs = search needs
+number-of-requires : tie.Need-number-of-requires
+number-of-requires c κs = search needs
 
 same-length : tie.Need-same-length
 same-length c = search needs
@@ -30,9 +27,8 @@ soodhiqune-step-spec =
     tie.close
     (tie.spec
     step-requires
-    say-requires
     put-shared-requires
-    joined-requires
+    number-of-requires
     same-length
     same-length-2
     returns)

@@ -35,9 +35,9 @@ record Earlier (a b m : ℕ) : Type 0 where
 
 earlier-is : (a b : ℕ) → Earlier a b (earlier a b)
 earlier-is a b =
-    branch (Earlier a b) (a ≤? b)
-    (λ e. record { to-first = omega arith; to-second = leb-true a b e; most = λ f p q. p })
-    (λ e. let h = leb-false a b e in record { to-first = omega arith; to-second = omega arith; most = λ f p q. q })
+    branch (Earlier a b) (b ≤? a)
+    (λ e. record { to-first = leb-true b a e; to-second = omega arith; most = λ f p q. q })
+    (λ e. let h = leb-false b a e in record { to-first = omega arith; to-second = omega arith; most = λ f p q. p })
 
 -- ---- the run is the whole of what both cover, of any two claims
 module _ (c o : Claim) where
