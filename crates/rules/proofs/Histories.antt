@@ -1,5 +1,5 @@
 -- The small histories of document 01, H1 to H11, as one statement over the group, proved by computing with the rules; beside them the
--- examples of requests (i) to (iv) of document 02, and two of our own, for the faults that H1 to H11 do not tell apart.
+-- examples of requests (i) to (v) of document 02, and two of our own, for the faults that H1 to H11 do not tell apart.
 use Prim.Native.Nat.{ℕ}
 use mathlib.Core.Path.{_≡_, refl}
 use mathlib.Core.Bool.{true, false}
@@ -247,6 +247,39 @@ AnswersStay =
 pub fewer-writes : FewerWrites × AnswersStay
 unfolding rules
 fewer-writes = ((refl, refl, refl, refl, refl, refl, refl, refl), (refl, refl))
+
+-- ---- 02 (v): while writer 10..20 holds, each further claim is told what it shares with it: the end of it, its beginning, all of one's own, all of the
+-- other, one frame, and, asked again, the same; 20..30 shares nothing with it and moves on
+abbrev waiters : List Call
+waiters =
+    b 1 15 25 2 ∷ s 1 ∷ b 2 5 12 1 ∷ s 2 ∷ b 3 12 15 2 ∷ s 3 ∷ b 4 0 30 2 ∷ s 4 ∷ b 5 19 20 1 ∷ s 5 ∷ b 6 20 30 2 ∷ s 6 ∷ s 1 ∷ s 4 ∷ []
+
+abbrev pub WhichFrames : Type 0
+WhichFrames =
+    (answers (afterAll (cleared 8 8) (b 0 10 20 2 ∷ s 0 ∷ s 0 ∷ [])) waiters
+    ≡ node 2 ∷ wait 1 15 20 ∷ node 3 ∷ wait 1 10 12 ∷ node 4 ∷ wait 1 12 15 ∷ node 5 ∷ wait 1 10 20 ∷ node 6 ∷ wait 1 19 20 ∷ node 7 ∷ on ∷ wait 1 15 20 ∷ wait 1 10 20 ∷ [])
+    × (answers (afterAll H9start (s 3 ∷ s 3 ∷ s 2 ∷ s 2 ∷ s 3 ∷ s 2 ∷ s 2 ∷ [])) (s 2 ∷ s 2 ∷ []) ≡ wait 4 15 20 ∷ wait 4 15 20 ∷ [])
+
+-- in sound tables that no calls come to: the one seat is in this phase with claim start..end, at cur; node 1 is 10..20, and both claims are of this kind
+abbrev neverReached : ℕ → ℕ → ℕ → ℕ → ℕ → Tables
+neverReached phase cur start end kind =
+    tables (1 ∷ 0 ∷ 0 ∷ 100 ∷ 10 ∷ 20 ∷ kind ∷ 0 ∷ 0 ∷ start ∷ end ∷ kind ∷ 0 ∷ 0 ∷ []) (phase ∷ 2 ∷ 0 ∷ cur ∷ [])
+
+-- 0 and 0 where the two share no frame, in phase 4 too, and where they only touch; readers are told what they share, and who waits at its own node its
+-- own claim
+abbrev pub NoFrames : Type 0
+NoFrames =
+    (answers (neverReached 2 1 30 40 2) (s 0 ∷ []) ≡ wait 1 0 0 ∷ [])
+    × (answers (neverReached 4 1 30 40 2) (s 0 ∷ []) ≡ wait 1 0 0 ∷ [])
+    × (answers (neverReached 2 1 20 30 2) (s 0 ∷ []) ≡ wait 1 0 0 ∷ [])
+    × (answers (neverReached 4 1 0 10 2) (s 0 ∷ []) ≡ wait 1 0 0 ∷ [])
+    × (answers (neverReached 2 1 15 30 1) (s 0 ∷ []) ≡ wait 1 15 20 ∷ [])
+    × (answers (neverReached 4 1 0 11 1) (s 0 ∷ []) ≡ wait 1 10 11 ∷ [])
+    × (answers (neverReached 2 2 30 40 2) (s 0 ∷ []) ≡ wait 2 30 40 ∷ [])
+
+pub which-frames-clash : WhichFrames × NoFrames
+unfolding rules
+which-frames-clash = ((refl, refl), (refl, refl, refl, refl, refl, refl, refl))
 
 -- ---- ours: seat 2 waits at node 1, and nodes 1 and 2 are released. Taken out, node 2 is at no seat's own, prev or cur; but
 -- seat 2 still reaches it through node 1, so it is not free
