@@ -113,8 +113,7 @@ enum soodhiqune_answer {
     SOODHIQUNE_NODE,    /* the claim has this node; step it */
     SOODHIQUNE_OUT,     /* it is released */
     SOODHIQUNE_ON,      /* it moved on; step it again */
-    SOODHIQUNE_WAIT,    /* it waits at this node, whose claim shares the frames that are told; step it again once that is released or
-                           withdrawn */
+    SOODHIQUNE_WAIT,    /* it waits at this node, whose claim shares the frames told; step it again once that is released or withdrawn */
     SOODHIQUNE_HELD,    /* it holds; the worker may write */
     SOODHIQUNE_BACK     /* it was withdrawn, since a reader was there first; step it again, and it takes a node anew */
 };

@@ -1,6 +1,6 @@
 /* H1 of document 01, every refusal, how many hold, where the title ends, which frames clash, and the edges of what may be lent, through
- * include/soodhiqune.h and the archive: that the header says how each call is made, and that its names and sizes are those of the library. It is C99 and C++.
- * Prints what differs, and a closing line 'N passed, M failed'. */
+ * include/soodhiqune.h and the archive: that the header says how each call is made, and that its names and sizes are those of the library.
+ * It is C99 and C++. Prints what differs, and a closing line 'N passed, M failed'. */
 #include "../include/soodhiqune.h"
 
 #include <stdio.h>
@@ -88,7 +88,8 @@ static void check_lengths(void)
     const size_t node_words = SOODHIQUNE_NODE_WORDS(1), seat_words = SOODHIQUNE_SEAT_WORDS(1);
     check("the numbers that documents 01 and 02 say", SOODHIQUNE_NODE_WORDS(4) == 24 && SOODHIQUNE_SEAT_WORDS(3) == 12 &&
           SOODHIQUNE_ROW_WORDS(2) == 8 && SOODHIQUNE_SHARED_WORDS == 2 && SOODHIQUNE_SCRIPT_NUMBERS == 5004 &&
-          SOODHIQUNE_EMPTY_CLAIM == 3 && SOODHIQUNE_EMPTY_TITLE == 3 && SOODHIQUNE_NO_SUCH_KIND == 4 && SOODHIQUNE_BAD_SCRIPT == 10 && SOODHIQUNE_BEYOND_TITLE == 11);
+          SOODHIQUNE_EMPTY_CLAIM == 3 && SOODHIQUNE_EMPTY_TITLE == 3 && SOODHIQUNE_NO_SUCH_KIND == 4 && SOODHIQUNE_BAD_SCRIPT == 10 &&
+          SOODHIQUNE_BEYOND_TITLE == 11);
     check("the fewest", accepts_lengths(node_words, seat_words));
     check("the most", accepts_lengths(SOODHIQUNE_NODE_WORDS(SOODHIQUNE_MOST_NODES), SOODHIQUNE_SEAT_WORDS(SOODHIQUNE_MOST_SEATS)));
     check("a node too many", !accepts_lengths(SOODHIQUNE_NODE_WORDS(SOODHIQUNE_MOST_NODES + 1), seat_words));

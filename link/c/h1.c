@@ -1,6 +1,6 @@
 /* An example for C: H1 of document 01, on a title of 25 frames. Seat 0 claims frames 10 up to 20 and holds them; seat 1 claims 15 up to
- * 25, waits, since both cover 15 up to 20, and holds once seat 0 has released. Prints what `./play < scripts/h01.txt` prints, but for the list; then how much of the
- * title is covered, for a planner, and how many hold, as a display would show it after each message.
+ * 25, waits, since both cover 15 up to 20, and holds once seat 0 has released. Prints what `./play < scripts/h01.txt` prints, but for the
+ * list; then how much of the title is covered, for a planner, and how many hold, as a display would show it after each message.
  *
  *     cc h1.c $(pkg-config --cflags --libs soodhiqune) -o h1      after ./install --prefix DIR, with DIR/lib/pkgconfig in PKG_CONFIG_PATH
  */
