@@ -61,10 +61,10 @@ enum soodhiqune_before_nodes {
     SOODHIQUNE_BEFORE_NODES     /* so many words stand before node 1 */
 };
 
-/* ---- what a step that answers wait tells beside the node, in the two words that it is lent: the frames from
- * shared[SOODHIQUNE_SHARED_FIRST] up to but not including shared[SOODHIQUNE_SHARED_END] are all those that both claims cover, the one that
- * waits and the one that it waits at. There is one at least in tables that were cleared once and changed only by these calls; in others
- * that are sound there may be none, and both are 0. */
+/* ---- the two words in which a step that answers wait tells what it waits for: the frames from shared[SOODHIQUNE_SHARED_FIRST] up to but
+ * not including shared[SOODHIQUNE_SHARED_END] are all those that both claims cover, the one that waits and the one that it waits at. In
+ * tables that clear made and only these calls have changed there is at least one; in other sound tables there may be none, and both words
+ * are 0. */
 
 enum soodhiqune_shared { SOODHIQUNE_SHARED_FIRST, SOODHIQUNE_SHARED_END, SOODHIQUNE_SHARED_WORDS };
 
