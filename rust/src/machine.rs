@@ -323,8 +323,8 @@ fn compare(c: Claim, o: Claim) -> i32 {
     }
 }
 
-/// 02: "The pair is the whole of what both claims cover"; "where, in any sound table, the claim waited at shares no frame, both
-/// are 0". Of what kinds they are it does not speak.
+/// 02: "The pair is the whole of what both claims cover", whatever their kinds; "where, in any sound table, the claim waited at
+/// shares no frame, both are 0".
 fn shared_run(c: Claim, o: Claim) -> Range<u32> {
     let shared = c.start.max(o.start)..c.end.min(o.end);
     if shared.is_empty() {

@@ -104,7 +104,8 @@ pub fn any_words(random: &mut Random) -> Tables {
     (nodes, seats)
 }
 
-/// Where claims lie: most start at so many frames from the first one, the others at an edge, and none is longer than this.
+/// Where claims lie: most start at one of so many frames from a first one on, the others at an edge, and none is longer
+/// than this.
 #[derive(Clone, Copy)]
 struct Frames {
     first: u32,

@@ -1,5 +1,5 @@
-//! Which frames clash: the run that 02 lets `wait` carry, "the whole of what both claims cover", frame by frame and edge by edge;
-//! along the histories, in any sound tables, as printed, and where it is told to who lends two words for it.
+//! Which frames clash: the run that 02 lets `wait` carry, "the whole of what both claims cover", frame by frame and edge by
+//! edge; along the histories, in any sound tables, as printed, and in the two words that a step is lent.
 
 use crate::driver::{outcome, Call, Case};
 use crate::generate::{good, of_waits};
@@ -152,7 +152,7 @@ fn the_waits_of_the_histories() {
     assert_eq!([H2, H5, H6, H7, H11].map(waits_of), [""; 5]);
 }
 
-/// H9 with a second step of the reader that waits in phase 4, before the writer goes back.
+/// H9 with two steps more of the reader that waits in phase 4, before the writer goes back.
 #[test]
 fn a_claim_that_waits_on_is_told_the_same_again_in_both_phases() {
     let phase_2 = "b 0 10 20 2; s 0; s 0; b 1 15 25 1; s 1; s 1; s 1; r 0; s 1";
@@ -265,7 +265,7 @@ fn with_every_other_answer_and_refusal_the_two_words_stay() {
     }
 }
 
-/// More than the room of before, and no more than may be printed.
+/// 02's longer lines need more room than 32,768 bytes, and never more than there is.
 #[test]
 fn scripts_of_waits_print_more_than_32768_bytes() {
     let mut random = Random::new(22);
