@@ -8,7 +8,8 @@
  *   seats   S seats of four words: phase, own, prev, cur (S is 1 to 64)
  *
  * What is asked of the caller:
- *   addresses   of so many words or bytes, aligned as their type asks; no two of a call overlap. NULL will do where the length is 0
+ *   addresses   of so many words or bytes, aligned as their type asks; no two of a call overlap. NULL will do where the length is 0, but
+ *               not for shared, covered, numbers and printed, whose lengths are always the same
  *   threads     one call at a time on a pair of tables, save that board and free count only read. Nothing is kept between calls, so
  *               calls on different tables may be made at once
  *   stack       SOODHIQUNE_STACK_BYTES, and SOODHIQUNE_SCRIPT_STACK_BYTES for read and play, whatever is lent
@@ -38,7 +39,7 @@ extern "C" {
 #define SOODHIQUNE_MOST_SCRIPT_BYTES 16384
 #define SOODHIQUNE_MOST_SCRIPT_ROWS 1000
 #define SOODHIQUNE_SCRIPT_NUMBERS SOODHIQUNE_SCRIPT_ROW(SOODHIQUNE_MOST_SCRIPT_ROWS)
-#define SOODHIQUNE_PRINTED_BYTES 32768
+#define SOODHIQUNE_PRINTED_BYTES 49152
 
 /* Room for the deepest stack seen, arguments and return address included: begin 432 bytes, step 480, run 544, board 1,224, every other call
  * on tables fewer; read 80,704 and play 87,024. tests/stack.c paints a stack, makes the calls on it, and fails if one needs more than is
@@ -59,6 +60,13 @@ enum soodhiqune_before_nodes {
     SOODHIQUNE_TITLE,           /* the title's frame count, from 1: a claim may end at it and not beyond */
     SOODHIQUNE_BEFORE_NODES     /* so many words stand before node 1 */
 };
+
+/* ---- the two words in which a step that answers wait tells what it waits for: the frames from shared[SOODHIQUNE_SHARED_FIRST] up to but
+ * not including shared[SOODHIQUNE_SHARED_END] are all those that both claims cover, the one that waits and the one that it waits at. In
+ * tables that clear made and only these calls have changed there is at least one; in other sound tables there may be none, and both words
+ * are 0. */
+
+enum soodhiqune_shared { SOODHIQUNE_SHARED_FIRST, SOODHIQUNE_SHARED_END, SOODHIQUNE_SHARED_WORDS };
 
 /* ---- words of a board's row r: rows[SOODHIQUNE_ROW_WORDS(r) + SOODHIQUNE_ROW_KIND] and the like */
 
@@ -105,7 +113,7 @@ enum soodhiqune_answer {
     SOODHIQUNE_NODE,    /* the claim has this node; step it */
     SOODHIQUNE_OUT,     /* it is released */
     SOODHIQUNE_ON,      /* it moved on; step it again */
-    SOODHIQUNE_WAIT,    /* it waits at this node, whose claim shares a frame; step it again once that is released or withdrawn */
+    SOODHIQUNE_WAIT,    /* it waits at this node, whose claim shares the frames told; step it again once that is released or withdrawn */
     SOODHIQUNE_HELD,    /* it holds; the worker may write */
     SOODHIQUNE_BACK     /* it was withdrawn, since a reader was there first; step it again, and it takes a node anew */
 };
@@ -184,8 +192,10 @@ uint64_t soodhiqune_clear(uint32_t *nodes, size_t node_words, uint32_t *seats, s
 uint64_t soodhiqune_begin(uint32_t *nodes, size_t node_words, uint32_t *seats, size_t seat_words,
                           uint32_t seat, uint32_t start, uint32_t end, uint32_t kind);
 
-/* One step of a seat. Answers: on, wait, held, back. Refused: damaged, no such seat, seat idle, no node free. */
-uint64_t soodhiqune_step(uint32_t *nodes, size_t node_words, uint32_t *seats, size_t seat_words, uint32_t seat);
+/* One step of a seat. Answers: on, wait, held, back. Every wait, the first and each that follows, stores the frames that both claims cover
+ * into the SOODHIQUNE_SHARED_WORDS words at shared; with any other answer they are as found. Refused: damaged, no such seat, seat idle, no
+ * node free; they are then as found too. */
+uint64_t soodhiqune_step(uint32_t *nodes, size_t node_words, uint32_t *seats, size_t seat_words, uint32_t seat, uint32_t *shared);
 
 /* Ends the claim of a seat that holds. Answers: out. Refused: damaged, no such seat, not holding. */
 uint64_t soodhiqune_release(uint32_t *nodes, size_t node_words, uint32_t *seats, size_t seat_words, uint32_t seat);
@@ -206,7 +216,7 @@ uint64_t soodhiqune_free_count(const uint32_t *nodes, size_t node_words, const u
  * found. */
 uint64_t soodhiqune_read(const uint8_t *script, size_t bytes, uint32_t *numbers);
 
-/* What the program prints for a script, into SOODHIQUNE_PRINTED_BYTES bytes; gives the number of bytes, at most 26,986. The others stay. */
+/* What the program prints for a script, into SOODHIQUNE_PRINTED_BYTES bytes; gives the number of bytes, at most 48,986. The others stay. */
 uint64_t soodhiqune_play(const uint8_t *script, size_t bytes, uint8_t *printed);
 
 #ifdef __cplusplus

@@ -1,12 +1,12 @@
-/* H1 of document 01, every refusal, how many hold, where the title ends, and the edges of what may be lent, through include/soodhiqune.h
- * and the archive: that the header says how each call is made, and that its names and sizes are those of the library. It is C99 and C++.
- * Prints what differs, and a closing line 'N passed, M failed'. */
+/* H1 of document 01, every refusal, how many hold, where the title ends, which frames clash, and the edges of what may be lent, through
+ * include/soodhiqune.h and the archive: that the header says how each call is made, and that its names and sizes are those of the library.
+ * It is C99 and C++. Prints what differs, and a closing line 'N passed, M failed'. */
 #include "../include/soodhiqune.h"
 
 #include <stdio.h>
 #include <string.h>
 
-enum { NODES = 4, SEATS = 3, FRAMES = 25, UNTOUCHED = 9 };
+enum { NODES = 4, SEATS = 3, FRAMES = 25, UNTOUCHED = 9, LENT_WORDS = SOODHIQUNE_SHARED_WORDS + 2 };
 
 #define NODE_TABLE nodes, SOODHIQUNE_NODE_WORDS(NODES)
 #define SEAT_TABLE seats, SOODHIQUNE_SEAT_WORDS(SEATS)
@@ -48,6 +48,36 @@ static int ran(uint64_t given, uint32_t steps, enum soodhiqune_refusal refusal)
     return soodhiqune_run_steps(given) == steps && soodhiqune_run_refusal(given) == refusal;
 }
 
+/* a step is lent the words behind the first of these and before the last */
+static uint32_t lent[LENT_WORDS];
+
+static int tells(uint32_t first, uint32_t end)
+{
+    const uint32_t *shared = lent + 1;
+    return lent[0] == UNTOUCHED && lent[LENT_WORDS - 1] == UNTOUCHED && shared[SOODHIQUNE_SHARED_FIRST] == first &&
+           shared[SOODHIQUNE_SHARED_END] == end;
+}
+
+/* a step; unless it answers wait, what it was lent to tell the shared frames stays */
+static uint64_t stepped(uint32_t *table, size_t node_words, uint32_t *seat_table, size_t seat_words, uint32_t seat)
+{
+    uint64_t given;
+    size_t word;
+    for (word = 0; word < LENT_WORDS; word++) {
+        lent[word] = UNTOUCHED;
+    }
+    given = soodhiqune_step(table, node_words, seat_table, seat_words, seat, lent + 1);
+    if (soodhiqune_answer_of(given) != SOODHIQUNE_WAIT) {
+        check("shared words as found", tells(UNTOUCHED, UNTOUCHED));
+    }
+    return given;
+}
+
+static int waits(uint64_t given, uint32_t node, uint32_t first, uint32_t end)
+{
+    return answers(given, SOODHIQUNE_WAIT, node) && tells(first, end);
+}
+
 static int accepts_lengths(size_t node_words, size_t seat_words)
 {
     return soodhiqune_clear(nodes, node_words, seats, seat_words, 1) == SOODHIQUNE_ACCEPTED;
@@ -57,8 +87,9 @@ static void check_lengths(void)
 {
     const size_t node_words = SOODHIQUNE_NODE_WORDS(1), seat_words = SOODHIQUNE_SEAT_WORDS(1);
     check("the numbers that documents 01 and 02 say", SOODHIQUNE_NODE_WORDS(4) == 24 && SOODHIQUNE_SEAT_WORDS(3) == 12 &&
-          SOODHIQUNE_ROW_WORDS(2) == 8 && SOODHIQUNE_SCRIPT_NUMBERS == 5004 && SOODHIQUNE_EMPTY_CLAIM == 3 &&
-          SOODHIQUNE_EMPTY_TITLE == 3 && SOODHIQUNE_NO_SUCH_KIND == 4 && SOODHIQUNE_BAD_SCRIPT == 10 && SOODHIQUNE_BEYOND_TITLE == 11);
+          SOODHIQUNE_ROW_WORDS(2) == 8 && SOODHIQUNE_SHARED_WORDS == 2 && SOODHIQUNE_SCRIPT_NUMBERS == 5004 &&
+          SOODHIQUNE_EMPTY_CLAIM == 3 && SOODHIQUNE_EMPTY_TITLE == 3 && SOODHIQUNE_NO_SUCH_KIND == 4 && SOODHIQUNE_BAD_SCRIPT == 10 &&
+          SOODHIQUNE_BEYOND_TITLE == 11);
     check("the fewest", accepts_lengths(node_words, seat_words));
     check("the most", accepts_lengths(SOODHIQUNE_NODE_WORDS(SOODHIQUNE_MOST_NODES), SOODHIQUNE_SEAT_WORDS(SOODHIQUNE_MOST_SEATS)));
     check("a node too many", !accepts_lengths(SOODHIQUNE_NODE_WORDS(SOODHIQUNE_MOST_NODES + 1), seat_words));
@@ -69,7 +100,7 @@ static void check_lengths(void)
     check("a word too many for the node", !accepts_lengths(node_words + 1, seat_words));
     check("a word too few for the seat", !accepts_lengths(node_words, seat_words - 1));
     check("a word too many for the seat", !accepts_lengths(node_words, seat_words + 1));
-    check("a table that is too short", refuses(soodhiqune_step(nodes, node_words - 1, seats, seat_words, 0), SOODHIQUNE_DAMAGED));
+    check("a table that is too short", refuses(stepped(nodes, node_words - 1, seats, seat_words, 0), SOODHIQUNE_DAMAGED));
 }
 
 static void check_claims(void)
@@ -77,13 +108,14 @@ static void check_claims(void)
     const uint32_t holds[] = {1, 1, 1, 1, 0};
     memset(nodes, 7, sizeof nodes);
     memset(seats, 7, sizeof seats);
-    check("a table of sevens is damaged", refuses(soodhiqune_step(TABLES, 0), SOODHIQUNE_DAMAGED));
+    check("a table of sevens is damaged", refuses(stepped(TABLES, 0), SOODHIQUNE_DAMAGED));
     check("clear", soodhiqune_clear(TABLES, FRAMES) == SOODHIQUNE_ACCEPTED);
     check("seat 0 begins", answers(soodhiqune_begin(TABLES, 0, 10, 20, SOODHIQUNE_WRITES), SOODHIQUNE_NODE, 1));
-    check("seat 0 enters", answers(soodhiqune_step(TABLES, 0), SOODHIQUNE_ON, 0));
-    check("seat 0 holds", answers(soodhiqune_step(TABLES, 0), SOODHIQUNE_HELD, 0));
+    check("seat 0 enters", answers(stepped(TABLES, 0), SOODHIQUNE_ON, 0));
+    check("seat 0 holds", answers(stepped(TABLES, 0), SOODHIQUNE_HELD, 0));
     check("seat 1 begins", answers(soodhiqune_begin(TABLES, 1, 15, 25, SOODHIQUNE_WRITES), SOODHIQUNE_NODE, 2));
-    check("seat 1 waits at node 1", answers(soodhiqune_step(TABLES, 1), SOODHIQUNE_WAIT, 1));
+    check("seat 1 waits at node 1, which shares frames 15 up to 20", waits(stepped(TABLES, 1), 1, 15, 20));
+    check("seat 1 waits on, and is told so again", waits(stepped(TABLES, 1), 1, 15, 20));
     check("nodes 3 and 4 are free", counts(soodhiqune_free_count(TABLES), 2));
     check("seat 1 does not hold", refuses(soodhiqune_release(TABLES, 1), SOODHIQUNE_NOT_HOLDING));
     check("seat 0 releases", answers(soodhiqune_release(TABLES, 0), SOODHIQUNE_OUT, 0));
@@ -99,7 +131,7 @@ static void check_refusals(void)
     check("beyond the title", refuses(soodhiqune_begin(TABLES, 1, 7, 26, 9), SOODHIQUNE_BEYOND_TITLE));
     check("no such kind", refuses(soodhiqune_begin(TABLES, 1, 7, 25, 9), SOODHIQUNE_NO_SUCH_KIND));
     check("the seat has a claim", refuses(soodhiqune_begin(TABLES, 1, 7, 25, SOODHIQUNE_READS), SOODHIQUNE_SEAT_HAS_CLAIM));
-    check("the seat is idle", refuses(soodhiqune_step(TABLES, 0), SOODHIQUNE_SEAT_IDLE));
+    check("the seat is idle", refuses(stepped(TABLES, 0), SOODHIQUNE_SEAT_IDLE));
 }
 
 /* H7 */
@@ -118,7 +150,7 @@ static void check_no_node(void)
 /* a writer that meets a reader goes back, and begins anew though its claim ends with the title: document 01's H9 and H10 */
 static void check_back(void)
 {
-    const uint32_t first[] = {0, 0}, second[] = {1, 1, 1}, others[] = {3, 3, 2, 2, 3, 2, 2, 3};
+    const uint32_t first[] = {0, 0}, second[] = {1, 1, 1}, others[] = {3, 3, 2, 2, 3, 2};
     uint32_t table[SOODHIQUNE_NODE_WORDS(8)], four[SOODHIQUNE_SEAT_WORDS(4)];
 #define H9 table, SOODHIQUNE_NODE_WORDS(8), four, SOODHIQUNE_SEAT_WORDS(4)
     soodhiqune_clear(H9, 20);
@@ -129,8 +161,12 @@ static void check_back(void)
     soodhiqune_begin(H9, 2, 5, 20, SOODHIQUNE_READS);
     soodhiqune_begin(H9, 3, 15, 20, SOODHIQUNE_WRITES);
     soodhiqune_run(H9, ENTRIES(others), 9);
-    check("the writer goes back", answers(soodhiqune_step(H9, 3), SOODHIQUNE_BACK, 0));
-    check("the writer takes a node anew", answers(soodhiqune_step(H9, 3), SOODHIQUNE_ON, 0) && table[SOODHIQUNE_TITLE] == 20);
+    check("a reader meets a writer that it shares frames with", waits(stepped(H9, 2), 4, 15, 20));
+    check("it waits on, and is told so again", waits(stepped(H9, 2), 4, 15, 20));
+    check("the writer looks at the readers", answers(stepped(H9, 3), SOODHIQUNE_ON, 0));
+    check("the writer goes back", answers(stepped(H9, 3), SOODHIQUNE_BACK, 0));
+    check("the writer takes a node anew", answers(stepped(H9, 3), SOODHIQUNE_ON, 0) && table[SOODHIQUNE_TITLE] == 20);
+    check("the reader's wait is over", answers(stepped(H9, 2), SOODHIQUNE_ON, 0));
 }
 
 static void check_board(void)
@@ -169,6 +205,38 @@ static void check_covered(void)
     check("their shared frames are covered once, which is the whole title", covered == 100 && covered == table[SOODHIQUNE_TITLE]);
 }
 
+/* seat 1 writes 15 up to 25 and waits at seat 0's claim of these frames, told that it shares those */
+static int waits_at(uint32_t *table, uint32_t *both, uint32_t start, uint32_t end, uint32_t first, uint32_t shared_end)
+{
+    const uint32_t holds[] = {0, 0};
+    soodhiqune_clear(BOTH, UINT32_MAX);
+    soodhiqune_begin(BOTH, 0, start, end, SOODHIQUNE_READS);
+    soodhiqune_run(BOTH, ENTRIES(holds), 9);
+    soodhiqune_begin(BOTH, 1, 15, 25, SOODHIQUNE_WRITES);
+    return waits(stepped(BOTH, 1), 1, first, shared_end);
+}
+
+/* which frames clash: document 02's fifth request */
+static void check_shared(void)
+{
+    uint32_t table[SOODHIQUNE_NODE_WORDS(2)], both[SOODHIQUNE_SEAT_WORDS(2)];
+    uint32_t *end_of_node_1 = table + SOODHIQUNE_BEFORE_NODES + 1, *cur_of_seat_1 = both + SOODHIQUNE_SEAT_WORDS(1) + 3;
+    check("a part of each claim is shared", waits_at(table, both, 10, 20, 15, 20) && waits_at(table, both, 20, 30, 20, 25));
+    check("all of the waiting claim", waits_at(table, both, 0, 100, 15, 25) && waits_at(table, both, 0, UINT32_MAX, 15, 25));
+    check("all of the claim waited at", waits_at(table, both, 17, 19, 17, 19));
+    check("all of both", waits_at(table, both, 15, 25, 15, 25));
+    check("a frame", waits_at(table, both, 24, UINT32_MAX, 24, 25) && waits_at(table, both, 0, 16, 15, 16));
+    *end_of_node_1 = 15;
+    check("no frame, in a table that no call leaves", waits(stepped(BOTH, 1), 1, 0, 0));
+    *cur_of_seat_1 = 2;
+    check("at its own node, in such a table", waits(stepped(BOTH, 1), 2, 15, 25));
+    soodhiqune_clear(BOTH, UINT32_MAX);
+    soodhiqune_begin(BOTH, 0, 0, UINT32_MAX, SOODHIQUNE_WRITES);
+    stepped(BOTH, 0);
+    soodhiqune_begin(BOTH, 1, 0, UINT32_MAX, SOODHIQUNE_WRITES);
+    check("all frames there are", waits(stepped(BOTH, 1), 1, 0, UINT32_MAX));
+}
+
 static int holding(const uint32_t *table, uint32_t readers, uint32_t writers)
 {
     return table[SOODHIQUNE_HOLDING_READERS] == readers && table[SOODHIQUNE_HOLDING_WRITERS] == writers;
@@ -197,8 +265,8 @@ static void check_counts(void)
     check("two readers hold", ran(soodhiqune_run(FOUR, ENTRIES(second), 9), 3, SOODHIQUNE_ACCEPTED) && holding(table, 2, 0));
     soodhiqune_begin(FOUR, 2, 20, 30, SOODHIQUNE_WRITES);
     check("a writer is on its way", ran(soodhiqune_run(FOUR, ENTRIES(third), 5), 5, SOODHIQUNE_ACCEPTED) && holding(table, 2, 0));
-    check("the writer holds", answers(soodhiqune_step(FOUR, 2), SOODHIQUNE_HELD, 0) && holding(table, 2, 1));
-    check("a holder that steps is counted once", answers(soodhiqune_step(FOUR, 2), SOODHIQUNE_HELD, 0) && holding(table, 2, 1));
+    check("the writer holds", answers(stepped(FOUR, 2), SOODHIQUNE_HELD, 0) && holding(table, 2, 1));
+    check("a holder that steps is counted once", answers(stepped(FOUR, 2), SOODHIQUNE_HELD, 0) && holding(table, 2, 1));
     check("a refused call", refuses(soodhiqune_release(FOUR, 3), SOODHIQUNE_NOT_HOLDING) && holding(table, 2, 1));
     check("a reader too many is damage", damages(table, four, 3, 1));
     check("a reader too few is damage", damages(table, four, 1, 1));
@@ -291,6 +359,22 @@ static void check_scripts(void)
           memcmp(printed, refused, strlen(refused)) == 0);
 }
 
+/* a claim waits at another, told so with numbers of ten digits as often as a script has lines: more than 32,768 bytes */
+static void check_longest_waits(void)
+{
+    static char script[SOODHIQUNE_MOST_SCRIPT_BYTES];
+    static uint8_t printed[SOODHIQUNE_PRINTED_BYTES];
+    const char *wait = "\n1000 wait 1 1000000000 4294967295\nlist 1\nhold 0 1000000000 4294967295 2\ncovered 3294967295\n";
+    size_t length;
+    int line;
+    strcpy(script, "2 2 1000 4294967295\nb 0 1000000000 4294967295 2\ns 0\ns 0\nb 1 1000000000 4294967295 2\n");
+    for (line = 5; line <= SOODHIQUNE_MOST_SCRIPT_ROWS; line++) {
+        strcat(script, "s 1\n");
+    }
+    length = (size_t)soodhiqune_play(TEXT(script), printed);
+    check("996 waits", length == 32856 && memcmp(printed + length - strlen(wait), wait, strlen(wait)) == 0);
+}
+
 static void check_null(void)
 {
     static uint32_t numbers[SOODHIQUNE_SCRIPT_NUMBERS];
@@ -299,8 +383,8 @@ static void check_null(void)
     check("no tables to clear", refuses(soodhiqune_clear(NULL, 0, NULL, 0, 1), SOODHIQUNE_DAMAGED));
     check("no tables to clear, and no title", refuses(soodhiqune_clear(NULL, 0, NULL, 0, 0), SOODHIQUNE_DAMAGED));
     check("no tables to begin on", refuses(soodhiqune_begin(NULL, 0, NULL, 0, 0, 1, 2, SOODHIQUNE_READS), SOODHIQUNE_DAMAGED));
-    check("no nodes to step on", refuses(soodhiqune_step(NULL, 0, SEAT_TABLE, 0), SOODHIQUNE_DAMAGED));
-    check("no seats to step", refuses(soodhiqune_step(NODE_TABLE, NULL, 0, 0), SOODHIQUNE_DAMAGED));
+    check("no nodes to step on", refuses(stepped(NULL, 0, SEAT_TABLE, 0), SOODHIQUNE_DAMAGED));
+    check("no seats to step", refuses(stepped(NODE_TABLE, NULL, 0, 0), SOODHIQUNE_DAMAGED));
     check("no tables to release on", refuses(soodhiqune_release(NULL, 0, NULL, 0, 0), SOODHIQUNE_DAMAGED));
     check("no tables to run on", ran(soodhiqune_run(NULL, 0, NULL, 0, NULL, 0, 9), 0, SOODHIQUNE_DAMAGED));
     check("no schedule", ran(soodhiqune_run(TABLES, NULL, 0, 9), 0, SOODHIQUNE_ACCEPTED));
@@ -323,9 +407,11 @@ int main(void)
     check_back();
     check_board();
     check_covered();
+    check_shared();
     check_counts();
     check_title();
     check_scripts();
+    check_longest_waits();
     check_null();
     printf("%d passed, %d failed\n", passed, failed);
     return failed != 0;

@@ -13,7 +13,7 @@ enum { NODES = SOODHIQUNE_MOST_NODES, SEATS = SOODHIQUNE_MOST_SEATS, HOLDERS = S
 
 static unsigned char stack[STACK_BYTES];
 static uint32_t nodes[SOODHIQUNE_NODE_WORDS(NODES)], seats[SOODHIQUNE_SEAT_WORDS(SEATS)], rows[SOODHIQUNE_ROW_WORDS(SEATS)];
-static uint32_t numbers[SOODHIQUNE_SCRIPT_NUMBERS];
+static uint32_t numbers[SOODHIQUNE_SCRIPT_NUMBERS], shared[SOODHIQUNE_SHARED_WORDS];
 static uint8_t printed[SOODHIQUNE_PRINTED_BYTES];
 static uint64_t covered, given;
 static const char script[] = "256 64 1 4294967295\nb 4294967295 4294967295 4294967295 4294967295\n", lines[] = "1 no 2\nlist\ncovered 0\n";
@@ -21,14 +21,16 @@ static int passed, failed;
 
 #define TABLES nodes, SOODHIQUNE_NODE_WORDS(NODES), seats, SOODHIQUNE_SEAT_WORDS(SEATS)
 
-/* document 01's H9, up to the withdrawal of seat 3: its next step fetches, which goes deepest */
-static const uint32_t to_hold_0[] = {0, 0}, to_hold_1[] = {1, 1, 1}, to_withdrawal[] = {3, 3, 2, 2, 3, 2, 2, 3, 3}, fetching[] = {3};
+/* document 01's H9, up to the wait of seat 2, and up to the withdrawal of seat 3: its next step fetches, which goes deepest */
+static const uint32_t to_hold_0[] = {0, 0}, to_hold_1[] = {1, 1, 1}, to_wait[] = {3, 3, 2, 2, 3, 2}, fetching[] = {3};
+static const uint32_t to_withdrawal[] = {3, 3, 2, 2, 3, 2, 2, 3, 3};
 #define STEPS(schedule) schedule, sizeof schedule / sizeof schedule[0], UINT32_MAX
 
 static void nothing(void) { }
 static void clear(void) { given = soodhiqune_clear(TABLES, UINT32_MAX); }
 static void begin(void) { given = soodhiqune_begin(TABLES, 3, 15, 20, SOODHIQUNE_WRITES); }
-static void step(void) { given = soodhiqune_step(TABLES, 3); }
+static void step(void) { given = soodhiqune_step(TABLES, 3, shared); }
+static void step_to_wait(void) { given = soodhiqune_step(TABLES, 2, shared); }
 static void run(void) { given = soodhiqune_run(TABLES, STEPS(fetching)); }
 static void release(void) { given = soodhiqune_release(TABLES, 0); }
 static void board(void) { given = soodhiqune_board(TABLES, rows, SOODHIQUNE_ROW_WORDS(SEATS), &covered); }
@@ -70,6 +72,13 @@ static void set_up(void)
     soodhiqune_begin(TABLES, 2, 5, 20, SOODHIQUNE_READS);
 }
 
+static void set_up_wait(void)
+{
+    set_up();
+    begin();
+    soodhiqune_run(TABLES, STEPS(to_wait));
+}
+
 static void set_up_withdrawal(void)
 {
     set_up();
@@ -104,6 +113,7 @@ int main(void)
     check("clear", set_up, clear, SOODHIQUNE_ACCEPTED, SOODHIQUNE_STACK_BYTES);
     check("begin", set_up, begin, both(SOODHIQUNE_NODE, HOLDERS + 4), SOODHIQUNE_STACK_BYTES);
     check("step", set_up_withdrawal, step, both(SOODHIQUNE_ON, 0), SOODHIQUNE_STACK_BYTES);
+    check("step that waits", set_up_wait, step_to_wait, both(SOODHIQUNE_WAIT, HOLDERS + 4), SOODHIQUNE_STACK_BYTES);
     check("run", set_up_withdrawal, run, both(SOODHIQUNE_ACCEPTED, 1), SOODHIQUNE_STACK_BYTES);
     check("release", set_up_withdrawal, release, both(SOODHIQUNE_OUT, 0), SOODHIQUNE_STACK_BYTES);
     check("board", set_up_withdrawal, board, both(1, HOLDERS + 2), SOODHIQUNE_STACK_BYTES);

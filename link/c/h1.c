@@ -1,6 +1,6 @@
 /* An example for C: H1 of document 01, on a title of 25 frames. Seat 0 claims frames 10 up to 20 and holds them; seat 1 claims 15 up to
- * 25, waits, and holds once seat 0 has released. Prints what `./play < scripts/h01.txt` prints, but for the list; then how much of the
- * title is covered, for a planner, and how many hold, as a display would show it after each message.
+ * 25, waits, since both cover 15 up to 20, and holds once seat 0 has released. Prints what `./play < scripts/h01.txt` prints, but for the
+ * list; then how much of the title is covered, for a planner, and how many hold, as a display would show it after each message.
  *
  *     cc h1.c $(pkg-config --cflags --libs soodhiqune) -o h1      after ./install --prefix DIR, with DIR/lib/pkgconfig in PKG_CONFIG_PATH
  */
@@ -12,6 +12,9 @@ enum { NODES = 4, SEATS = 3, FRAMES = 25 };
 static uint32_t nodes[SOODHIQUNE_NODE_WORDS(NODES)], seats[SOODHIQUNE_SEAT_WORDS(SEATS)];
 #define TABLES nodes, SOODHIQUNE_NODE_WORDS(NODES), seats, SOODHIQUNE_SEAT_WORDS(SEATS)
 
+/* where a step that waits tells which frames it waits for */
+static uint32_t shared[SOODHIQUNE_SHARED_WORDS];
+
 static void say(uint64_t given)
 {
     static const char *const words[] = {"no", "node", "out", "on", "wait", "held", "back"};
@@ -22,6 +25,9 @@ static void say(uint64_t given)
         printf(" %d", (int)soodhiqune_refusal_of(given));
     } else if (answer == SOODHIQUNE_NODE || answer == SOODHIQUNE_WAIT) {
         printf(" %" PRIu32, soodhiqune_node_of(given));
+    }
+    if (answer == SOODHIQUNE_WAIT) {
+        printf(" %" PRIu32 " %" PRIu32, shared[SOODHIQUNE_SHARED_FIRST], shared[SOODHIQUNE_SHARED_END]);
     }
     puts("");
 }
@@ -57,13 +63,13 @@ int main(void)
         return 1;
     }
     say(soodhiqune_begin(TABLES, 0, 10, 20, SOODHIQUNE_WRITES));
-    say(soodhiqune_step(TABLES, 0));
-    say(soodhiqune_step(TABLES, 0));
+    say(soodhiqune_step(TABLES, 0, shared));
+    say(soodhiqune_step(TABLES, 0, shared));
     say(soodhiqune_begin(TABLES, 1, 15, 25, SOODHIQUNE_WRITES));
-    say(soodhiqune_step(TABLES, 1));
+    say(soodhiqune_step(TABLES, 1, shared));
     say(soodhiqune_release(TABLES, 0));
     for (message = 0; message < 4; message++) {
-        say(soodhiqune_step(TABLES, 1));
+        say(soodhiqune_step(TABLES, 1, shared));
     }
     if (show_holders() != 0) {
         return 1;

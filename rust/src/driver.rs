@@ -1,13 +1,13 @@
-//! Calls two machines on copies of the same tables and compares the answer and every word afterwards, also of the board;
-//! `reading.rs` does so with scripts. Both machines are behind the functions that `library.rs` names. Nothing is assumed
-//! of the tables.
+//! Calls two machines on copies of the same tables and compares the answer and every word afterwards, also of the board and
+//! of the shared run; `reading.rs` does so with scripts. Both machines are behind the functions that `library.rs` names.
+//! Nothing is assumed of the tables.
 
 use crate::generate::{self, around};
-use crate::library::{Numbers, Printed};
+use crate::library::{Numbers, Printed, Shared};
 use crate::machine;
 use crate::random::Random;
 use crate::script::{read_script, BEGIN, STEP};
-use crate::tables::{any_words, damaged, many_holders, miscounted, mistitled, sound_words};
+use crate::tables::{any_words, damaged, many_holders, many_waiters, miscounted, mistitled, sound_words};
 use crate::tables::{Tables, DAMAGES, MISCOUNTS, MISTITLES};
 
 /// The functions of one machine.
@@ -16,7 +16,7 @@ use crate::tables::{Tables, DAMAGES, MISCOUNTS, MISTITLES};
 pub struct Library {
     pub clear: fn(&mut [u32], &mut [u32], u32) -> u64,
     pub begin: fn(&mut [u32], &mut [u32], u32, u32, u32, u32) -> u64,
-    pub step: fn(&mut [u32], &mut [u32], u32) -> u64,
+    pub step: fn(&mut [u32], &mut [u32], u32, &mut Shared) -> u64,
     pub release: fn(&mut [u32], &mut [u32], u32) -> u64,
     pub run: fn(&mut [u32], &mut [u32], &[u32], u32) -> u64,
     pub board: fn(&[u32], &[u32], &mut [u32], &mut u64) -> u64,
@@ -52,11 +52,12 @@ pub const MACHINES: &[(&str, Library)] =
 #[cfg(not(feature = "proved"))]
 pub const MACHINES: &[(&str, Library)] = &[("second", library_of!(crate::library))];
 
+/// A call, with what the words hold that it is lent to fill: the board's rows, and those of a step's shared run.
 #[derive(Clone, Debug, PartialEq)]
 pub enum Call {
     Clear { title: u32 },
     Begin { seat: u32, start: u32, end: u32, kind: u32 },
-    Step { seat: u32 },
+    Step { seat: u32, shared: Shared },
     Release { seat: u32 },
     Run { entries: Vec<u32>, budget: u32 },
     Board { rows: Vec<u32> },
@@ -84,6 +85,7 @@ pub struct Outcome {
     pub nodes: Guarded<u32>,
     pub seats: Guarded<u32>,
     pub rows: Guarded<u32>,
+    pub shared: Guarded<u32>,
 }
 
 /// Words or bytes to lend, between ones that are not lent.
@@ -112,7 +114,7 @@ impl<Word: Copy> Guarded<Word> {
     }
 }
 
-/// Makes the call; the board's rows are given apart.
+/// Makes the call; the board's rows and the words of the shared run are given apart.
 pub fn make(
     library: &Library,
     call: &Call,
@@ -120,15 +122,25 @@ pub fn make(
     seats: &mut [u32],
     rows: &mut [u32],
     covered: &mut u64,
+    shared: &mut Shared,
 ) -> u64 {
     match call {
         &Call::Clear { title } => (library.clear)(nodes, seats, title),
         &Call::Begin { seat, start, end, kind } => (library.begin)(nodes, seats, seat, start, end, kind),
-        &Call::Step { seat } => (library.step)(nodes, seats, seat),
+        &Call::Step { seat, .. } => (library.step)(nodes, seats, seat, shared),
         &Call::Release { seat } => (library.release)(nodes, seats, seat),
         Call::Run { entries, budget } => (library.run)(nodes, seats, entries, *budget),
         Call::Board { .. } => (library.board)(nodes, seats, rows, covered),
         Call::FreeCount => (library.free_count)(nodes, seats),
+    }
+}
+
+/// What the words of the shared run hold before the call; only a step is lent them.
+pub fn shared_found(call: &Call) -> Shared {
+    if let &Call::Step { shared, .. } = call {
+        shared
+    } else {
+        [0; 2]
     }
 }
 
@@ -137,8 +149,10 @@ pub fn outcome(library: &Library, case: &Case) -> Outcome {
     let mut nodes = Guarded::new(&case.nodes, GUARD);
     let mut seats = Guarded::new(&case.seats, GUARD);
     let mut rows = Guarded::new(if let Call::Board { rows } = &case.call { rows } else { &[] }, GUARD);
-    let answer = make(library, &case.call, nodes.lend(), seats.lend(), rows.lend(), &mut covered);
-    Outcome { answer, covered, nodes, seats, rows }
+    let mut shared = Guarded::new(&shared_found(&case.call), GUARD);
+    let two_words = shared.lend().try_into().expect("as many as are lent");
+    let answer = make(library, &case.call, nodes.lend(), seats.lend(), rows.lend(), &mut covered, two_words);
+    Outcome { answer, covered, nodes, seats, rows, shared }
 }
 
 /// Two machines, and how many calls they have agreed on.
@@ -195,6 +209,11 @@ impl Driver {
         self.every_call(random, tables)
     }
 
+    pub fn many_waiters(&mut self, random: &mut Random) -> Result<(), Difference> {
+        let tables = many_waiters(random);
+        self.every_call(random, tables)
+    }
+
     pub fn damages(&mut self, random: &mut Random) -> Result<(), Difference> {
         for damage in DAMAGES {
             let tables = damaged(random, damage);
@@ -221,7 +240,7 @@ pub fn some_history(random: &mut Random) -> (Tables, Vec<Call>) {
         (51..=150, _) => some_board(random),
         (151..=250, _) => Call::FreeCount,
         (_, [BEGIN, seat, start, end, kind]) => Call::Begin { seat, start, end, kind },
-        (_, [STEP, seat, ..]) => Call::Step { seat },
+        (_, [STEP, seat, ..]) => Call::Step { seat, shared: some_shared(random) },
         (_, [_, seat, ..]) => Call::Release { seat },
     });
     let calls = calls.collect();
@@ -236,8 +255,8 @@ pub fn every_call(random: &mut Random, (nodes, seats): &Tables) -> [Call; 9] {
         Call::Clear { title: some_title(random, title) },
         some_begin(random, seat_count, title),
         some_begin(random, seat_count, title),
-        Call::Step { seat: some_seat(random, seat_count) },
-        Call::Step { seat: some_seat(random, seat_count) },
+        some_step(random, seat_count),
+        some_step(random, seat_count),
         Call::Release { seat: some_seat(random, seat_count) },
         some_run(random, seat_count),
         some_board(random),
@@ -257,6 +276,19 @@ fn some_seat(random: &mut Random, seat_count: u32) -> u32 {
     } else {
         random.pick(&[seat_count, 64, u32::MAX])
     }
+}
+
+/// Words to find where the shared run is to be told. Neither is 0, so that a store of 0 is seen; half are as small as frames
+/// mostly are, half any.
+fn some_shared(random: &mut Random) -> Shared {
+    [(); 2].map(|()| {
+        let most = random.pick(&[9, u32::MAX]);
+        random.between(1, most)
+    })
+}
+
+fn some_step(random: &mut Random, seat_count: u32) -> Call {
+    Call::Step { seat: some_seat(random, seat_count), shared: some_shared(random) }
 }
 
 fn some_begin(random: &mut Random, seat_count: u32, title: u32) -> Call {

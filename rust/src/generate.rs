@@ -242,6 +242,24 @@ pub fn of_length(random: &mut Random, bytes: usize) -> Vec<u8> {
     script_text(3, 2, title, &rows)
 }
 
+/// A script that prints as much as may be, or little less: a claim holds, another waits at it, and most rows step that one.
+/// Frames have ten digits; some seats begin before the two and never step, so that the node waited at has two.
+pub fn of_waits(random: &mut Random) -> Vec<u8> {
+    let first = random.between(1_000_000_000, u32::MAX - 40);
+    let mut claim = |kind| [first + random.below(20), first + random.between(21, 40), kind];
+    let claims = [claim(1), claim(2)];
+    let before = random.pick(&[0, 9, 20]);
+    let title = random.pick(&[first + 40, u32::MAX]);
+    let begin = |seat, [start, end, kind]: [u32; 3]| [BEGIN, seat, start, end, kind];
+    let step = |seat| [STEP, seat, 0, 0, 0];
+    let mut rows: Vec<[u32; 5]> = (0..before).map(|seat| begin(seat, claims[1])).collect();
+    let (holder, waiter) = (before, before + 1);
+    rows.extend([begin(holder, claims[0]), step(holder), step(holder), begin(waiter, claims[1])]);
+    rows.resize(MOST_ROWS, step(waiter));
+    let texts: Vec<String> = rows.into_iter().map(row_text).collect();
+    script_text(before + 2, before + 2, title, &texts)
+}
+
 /// Some place of the script where the byte before it (LF before the first) and the byte there are as wanted, or any place.
 fn place(random: &mut Random, script: &[u8], wanted: fn(u8, u8) -> bool) -> usize {
     let before = |at: usize| if at == 0 { b'\n' } else { script[at - 1] };
@@ -399,13 +417,14 @@ pub fn any_text(random: &mut Random) -> Vec<u8> {
     text
 }
 
-/// A script by seed and number, and what is wrong with it: of ten, six are good, one is as long as a script may be, three
-/// have a flaw, and the flaws take turns.
+/// A script by seed and number, and what is wrong with it: of ten, six are good, one is as long as a script may be or prints as
+/// much as one may, by turns, three have a flaw, and the flaws take turns.
 pub fn script(seed: u64, number: u64) -> (&'static str, Vec<u8>) {
     let mut random = Random::new(Random::new(seed).bits().wrapping_add(number));
     match number % 10 {
         0..=5 => ("good", good(&mut random)),
-        6 => ("as long as may be", of_length(&mut random, MOST_BYTES)),
+        6 if number / 10 % 2 == 0 => ("as long as may be", of_length(&mut random, MOST_BYTES)),
+        6 => ("printing as much as may be", of_waits(&mut random)),
         turn => {
             let (flaw, put_flaw) = FLAWS[(number / 10 * 3 + turn - 7) as usize % FLAWS.len()];
             let mut script = good(&mut random);

@@ -10,7 +10,10 @@ pub const CONTENTS_WORDS: usize = 4;
 pub type Numbers = [u32; CONTENTS_WORDS + 5 * script::MOST_ROWS];
 
 /// Room for what the program prints.
-pub type Printed = [u8; 32768];
+pub type Printed = [u8; 49152];
+
+/// What `wait` carries beside its node: the first shared frame, and the end of the shared run.
+pub type Shared = [u32; 2];
 
 fn answer_word(answer: Result<Answer, u32>) -> u64 {
     let (kind, number) = match answer {
@@ -18,7 +21,7 @@ fn answer_word(answer: Result<Answer, u32>) -> u64 {
         Ok(Answer::Node(node)) => (1, node),
         Ok(Answer::Out) => (2, 0),
         Ok(Answer::On) => (3, 0),
-        Ok(Answer::Wait(node)) => (4, node),
+        Ok(Answer::Wait { node, .. }) => (4, node),
         Ok(Answer::Held) => (5, 0),
         Ok(Answer::Back) => (6, 0),
     };
@@ -42,8 +45,13 @@ pub fn begin(nodes: &mut [u32], seats: &mut [u32], seat: u32, start: u32, end: u
     answer_word(machine::begin(nodes, seats, seat, start, end, kind))
 }
 
-pub fn step(nodes: &mut [u32], seats: &mut [u32], seat: u32) -> u64 {
-    answer_word(machine::step(nodes, seats, seat))
+/// `shared` is written if the answer is `wait`.
+pub fn step(nodes: &mut [u32], seats: &mut [u32], seat: u32, shared: &mut Shared) -> u64 {
+    let answer = machine::step(nodes, seats, seat);
+    if let Ok(Answer::Wait { first, end, .. }) = answer {
+        *shared = [first, end];
+    }
+    answer_word(answer)
 }
 
 pub fn release(nodes: &mut [u32], seats: &mut [u32], seat: u32) -> u64 {

@@ -4,6 +4,7 @@
 
 use crate::nodeset::NodeSet;
 pub use crate::nodeset::MOST_NODES;
+use std::ops::Range;
 
 /// "Nodes: one head word, then N nodes of five words: start, end, kind, next, mark." 02: "Keep the two counts, readers
 /// first, in two words after the head word"; the title's frame count has "a word of its own". 01: "A word added to the
@@ -53,13 +54,14 @@ struct Claim {
     kind: u32,
 }
 
-/// "What a call gives back": the answers of begin, step and release where the call is not refused.
+/// "What a call gives back": the answers of begin, step and release where the call is not refused. 02: "`wait` carries both",
+/// "the first shared frame and the end of the shared run".
 #[derive(Clone, Copy, Debug, PartialEq, Eq)]
 pub enum Answer {
     Node(u32),
     Out,
     On,
-    Wait(u32),
+    Wait { node: u32, first: u32, end: u32 },
     Held,
     Back,
 }
@@ -321,6 +323,17 @@ fn compare(c: Claim, o: Claim) -> i32 {
     }
 }
 
+/// 02: "The pair is the whole of what both claims cover", whatever their kinds; "where, in any sound table, the claim waited at
+/// shares no frame, both are 0".
+fn shared_run(c: Claim, o: Claim) -> Range<u32> {
+    let shared = c.start.max(o.start)..c.end.min(o.end);
+    if shared.is_empty() {
+        0..0
+    } else {
+        shared
+    }
+}
+
 /// "+1: prev becomes cur, cur its next."
 fn pass(nodes: &[u32], seat: &mut Seat) {
     seat[PREV] = seat[CUR];
@@ -470,12 +483,16 @@ pub fn begin(nodes: &mut [u32], seats: &mut [u32], seat: u32, start: u32, end: u
     Ok(Answer::Node(words[OWN]))
 }
 
-/// "Step, from the seat's new phase: 2 or 4 `wait n` with n = cur; 5 `held`; 6 `back`; else `on`."
+/// "Step, from the seat's new phase: 2 or 4 `wait n` with n = cur; 5 `held`; 6 `back`; else `on`." 02: a worker told `wait`
+/// "wants to know what it is waiting for", so each `wait` carries the run, whether it begins to wait or waits on.
 pub fn step(nodes: &mut [u32], seats: &mut [u32], seat: u32) -> Result<Answer, u32> {
     refuse(1, !sound(nodes, seats))?;
     let (_, after) = step_sound(nodes, seats, seat)?;
     Ok(match after[PHASE] {
-        WAITING_TO_ENTER | READER_WAITING => Answer::Wait(after[CUR]),
+        WAITING_TO_ENTER | READER_WAITING => {
+            let shared = shared_run(claim_of(nodes, after[CUR]), claim_of(nodes, after[OWN]));
+            Answer::Wait { node: after[CUR], first: shared.start, end: shared.end }
+        }
         HOLDING => Answer::Held,
         WITHDRAWN => Answer::Back,
         _ => Answer::On,

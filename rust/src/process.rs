@@ -10,7 +10,7 @@ use std::sync::mpsc::{channel, Receiver};
 use std::thread;
 use std::time::{Duration, Instant};
 
-/// Far more than a script can make a machine print, 26,986 bytes.
+/// Far more than a script can make a machine print, 48,986 bytes.
 pub const MOST_PRINTED: usize = 1 << 20;
 
 /// How often a request to end is looked for, and how long what was killed may take to go.

@@ -1,7 +1,7 @@
 //! The proved library behind the same functions as `library.rs`: its archive is linked, and this file says how it is called.
 //! Compiled only with the feature `proved`. A slice crosses as its address and its count of words, an array as its address.
 
-use crate::library::{Numbers, Printed};
+use crate::library::{Numbers, Printed, Shared};
 
 mod archive {
     extern "C" {
@@ -28,6 +28,7 @@ mod archive {
             seats: *mut u32,
             seat_words: usize,
             seat: u32,
+            shared: *mut u32,
         ) -> u64;
         pub fn soodhiqune_release(
             nodes: *mut u32,
@@ -82,8 +83,17 @@ pub fn begin(nodes: &mut [u32], seats: &mut [u32], seat: u32, start: u32, end: u
     }
 }
 
-pub fn step(nodes: &mut [u32], seats: &mut [u32], seat: u32) -> u64 {
-    unsafe { archive::soodhiqune_step(nodes.as_mut_ptr(), nodes.len(), seats.as_mut_ptr(), seats.len(), seat) }
+pub fn step(nodes: &mut [u32], seats: &mut [u32], seat: u32, shared: &mut Shared) -> u64 {
+    unsafe {
+        archive::soodhiqune_step(
+            nodes.as_mut_ptr(),
+            nodes.len(),
+            seats.as_mut_ptr(),
+            seats.len(),
+            seat,
+            shared.as_mut_ptr(),
+        )
+    }
 }
 
 pub fn release(nodes: &mut [u32], seats: &mut [u32], seat: u32) -> u64 {

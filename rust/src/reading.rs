@@ -2,7 +2,7 @@
 //! and what lies around the lent lists. A script is any bytes; it lies between line ends, which no machine may look at.
 
 use crate::driver::{Difference, Driver, Guarded, Library, GUARD};
-use crate::generate::{any_text, good, of_length, put_change, FLAWS};
+use crate::generate::{any_text, good, of_length, of_waits, put_change, FLAWS};
 use crate::library::{Numbers, Printed};
 use crate::random::Random;
 use crate::script::MOST_BYTES;
@@ -48,9 +48,11 @@ impl Driver {
         Ok(())
     }
 
-    /// A script as long as may be; a good one, the same with each flaw and with a byte changed; others of any text.
+    /// A script as long as may be, and one that prints as much as may be; a good one, the same with each flaw and with a byte
+    /// changed; others of any text.
     pub fn scripts(&mut self, random: &mut Random) -> Result<(), Difference> {
         self.compare_script(of_length(random, MOST_BYTES))?;
+        self.compare_script(of_waits(random))?;
         let script = good(random);
         for (_, put_flaw) in FLAWS {
             let mut flawed = script.clone();

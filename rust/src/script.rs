@@ -103,13 +103,13 @@ pub fn call(nodes: &mut [u32], seats: &mut [u32], row: [u32; 5]) -> Result<Answe
     }
 }
 
-/// An answer as it is printed: "`no k` if refused".
+/// An answer as it is printed: "`no k` if refused". 02: "in the printed line (`wait 4 15 20`)".
 fn answer_text(answer: Result<Answer, u32>) -> String {
     match answer {
         Ok(Answer::Node(node)) => format!("node {node}"),
         Ok(Answer::Out) => "out".to_string(),
         Ok(Answer::On) => "on".to_string(),
-        Ok(Answer::Wait(node)) => format!("wait {node}"),
+        Ok(Answer::Wait { node, first, end }) => format!("wait {node} {first} {end}"),
         Ok(Answer::Held) => "held".to_string(),
         Ok(Answer::Back) => "back".to_string(),
         Err(refusal) => format!("no {refusal}"),

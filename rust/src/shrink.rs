@@ -39,7 +39,7 @@ fn without_seat(case: &Case, index: usize) -> Case {
         smaller.nodes[at] = smaller.nodes[at].saturating_sub(1);
     }
     match &mut smaller.call {
-        Call::Begin { seat, .. } | Call::Step { seat } | Call::Release { seat } => renumber(seat),
+        Call::Begin { seat, .. } | Call::Step { seat, .. } | Call::Release { seat } => renumber(seat),
         Call::Run { entries, .. } => entries.iter_mut().for_each(renumber),
         Call::Clear { .. } | Call::Board { .. } | Call::FreeCount => {}
     }
@@ -61,7 +61,8 @@ fn words(case: &mut Case) -> Vec<&mut u32> {
     let mut words: Vec<&mut u32> = case.nodes.iter_mut().chain(&mut case.seats).collect();
     match &mut case.call {
         Call::Begin { seat, start, end, kind } => words.extend([seat, start, end, kind]),
-        Call::Step { seat } | Call::Release { seat } => words.push(seat),
+        Call::Step { seat, shared } => words.extend([seat].into_iter().chain(shared)),
+        Call::Release { seat } => words.push(seat),
         Call::Run { entries, budget } => words.extend(entries.iter_mut().chain([budget])),
         Call::Board { rows } => words.extend(rows),
         Call::Clear { title } => words.push(title),
@@ -228,9 +229,13 @@ fn outcomes_text(case: &Case, ours: &Library, theirs: &Library) -> String {
         text += &format!("{name}: answer {} {}\n", after.answer >> 32, after.answer as u32);
         text += &format!("  nodes {}\n", table_text(nodes, BEFORE_NODES, NODE_WORDS));
         text += &format!("  seats {}\n", table_text(seats, 0, SEAT_WORDS));
-        if let Call::Board { .. } = case.call {
-            text += &format!("  rows  {}\n  covered {}\n", table_text(after.rows.words(), 0, ROW_WORDS), after.covered);
-        }
+        text += &match case.call {
+            Call::Board { .. } => {
+                format!("  rows  {}\n  covered {}\n", table_text(after.rows.words(), 0, ROW_WORDS), after.covered)
+            }
+            Call::Step { .. } => format!("  shared {}\n", table_text(after.shared.words(), 0, 2)),
+            _ => String::new(),
+        };
     }
     text
 }

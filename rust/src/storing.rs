@@ -1,7 +1,7 @@
 //! Which stores to the two tables a call may make, by documents 01 and 02, worked out from the tables before and after it;
 //! and whether those that a watcher sees are such. 02: "The coordinator's memory page is mirrored to a standby on every store."
 
-use crate::driver::{make, outcome, Call, Case, Library};
+use crate::driver::{make, outcome, shared_found, Call, Case, Library};
 use crate::library_of;
 use crate::machine::*;
 use crate::stores::{Store, Table, Watcher};
@@ -18,8 +18,10 @@ pub struct Watched {
 pub fn watched(watcher: &mut Watcher, library: &Library, case: &Case) -> Watched {
     let mut tables = (case.nodes.clone(), case.seats.clone());
     let mut rows = if let Call::Board { rows } = &case.call { rows.clone() } else { vec![] };
-    let (answer, stores) = watcher
-        .watch(&mut tables.0, &mut tables.1, |nodes, seats| make(library, &case.call, nodes, seats, &mut rows, &mut 0));
+    let mut shared = shared_found(&case.call);
+    let (answer, stores) = watcher.watch(&mut tables.0, &mut tables.1, |nodes, seats| {
+        make(library, &case.call, nodes, seats, &mut rows, &mut 0, &mut shared)
+    });
     Watched { answer, tables, stores }
 }
 
@@ -153,7 +155,7 @@ fn allowed(case: &Case, watched: &Watched) -> Allowed {
             Allowed { nodes: whole(&case.nodes), seats: whole(&case.seats), ..Allowed::default() }
         }
         &Call::Begin { seat, .. } => fetch(case, seat, watched.answer as u32),
-        &Call::Step { seat } => step(case, seat, seats_after),
+        &Call::Step { seat, .. } => step(case, seat, seats_after),
         &Call::Release { seat } => release(case, seat),
         Call::Run { entries, .. } => run(case, entries, seats_after),
         Call::Board { .. } | Call::FreeCount => Allowed::default(),
@@ -249,7 +251,7 @@ fn call_kind(case: &Case, refusal: Option<u32>, takes_out: bool) -> &'static str
         (Call::Begin { .. }, Some(8)) => "begin, refused 8, no listed node is marked",
         (Call::Begin { .. }, _) => "begin, refused otherwise",
         (Call::Step { .. }, None) if takes_out => "step in phase 6, marked nodes are taken out",
-        (&Call::Step { seat }, None) => match case.seats[words_of_seat(seat)][PHASE] {
+        (&Call::Step { seat, .. }, None) => match case.seats[words_of_seat(seat)][PHASE] {
             WALKING => "step in phase 1",
             WAITING_TO_ENTER => "step in phase 2",
             VALIDATING => "step in phase 3",

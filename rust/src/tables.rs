@@ -104,21 +104,30 @@ pub fn any_words(random: &mut Random) -> Tables {
     (nodes, seats)
 }
 
-/// Where claims lie: most start below a bound, the others at an edge, and none is longer than this.
+/// Where claims lie: most start at one of so many frames from a first one on, the others at an edge, and none is longer
+/// than this.
 #[derive(Clone, Copy)]
 struct Frames {
+    first: u32,
     bound: u32,
     longest: u32,
 }
 
 /// Few frames, so that claims meet, and some claims reach over all the others.
-const CLOSE: Frames = Frames { bound: 9, longest: u32::MAX };
+const CLOSE: Frames = Frames { first: 0, bound: 9, longest: u32::MAX };
 
 /// More frames and no long claim, so that there are gaps between claims.
-const APART: Frames = Frames { bound: 60, longest: 8 };
+const APART: Frames = Frames { first: 0, bound: 60, longest: 8 };
+
+/// Claims of several frames, so that many share a part of them.
+const MEETING: Frames = Frames { first: 0, bound: 9, longest: 12 };
+
+/// The same among the last frames there are: beyond 31 bits, and up to the longest title.
+const LAST: Frames = Frames { first: u32::MAX - 12, ..MEETING };
 
 fn put_claim(random: &mut Random, frames: Frames, node: &mut [u32], named: &[u32]) {
-    let start = if random.percent(10) { random.edge().min(u32::MAX - 1) } else { random.below(frames.bound) };
+    let start =
+        if random.percent(10) { random.edge().min(u32::MAX - 1) } else { frames.first + random.below(frames.bound) };
     let longest = random.pick(&[1, 4, frames.longest]).min(u32::MAX - start);
     node[START] = start;
     node[END] = start + random.between(1, longest);
@@ -199,6 +208,19 @@ pub fn many_holders(random: &mut Random) -> Tables {
     let phases: Vec<u32> =
         (0..seat_count).map(|_| if random.percent(80) { HOLDING } else { random.below(7) }).collect();
     let frames = random.pick(&[CLOSE, APART]);
+    sound_with(random, frames, node_count, &named, list_length, &phases)
+}
+
+/// Sound words at random in which most seats wait, in phase 2 or 4, at any claim: one that shares some of its frames or all,
+/// one that shares none, of a reader where they read themselves, or their own.
+pub fn many_waiters(random: &mut Random) -> Tables {
+    let (node_count, seat_count) = (random.between(3, 12), random.between(1, 8));
+    let named: Vec<u32> = (1..=node_count).collect();
+    let list_length = random.between(0, node_count) as usize;
+    let waiting = [WAITING_TO_ENTER, READER_WAITING];
+    let phases: Vec<u32> =
+        (0..seat_count).map(|_| if random.percent(80) { random.pick(&waiting) } else { random.below(7) }).collect();
+    let frames = random.pick(&[CLOSE, MEETING, LAST]);
     sound_with(random, frames, node_count, &named, list_length, &phases)
 }
 

@@ -2,13 +2,13 @@
 //! What happened in a call is told from the tables before and after it, as the second machine leaves them.
 
 use crate::driver::{every_call, Call};
-use crate::machine::{self, Answer, CUR, HOLDING, IDLE, KIND, MOST_SEATS, OWN, PHASE, PREV, ROW_WORDS, SEAT_WORDS};
-use crate::machine::{READERS, READER_WAITING, READS, TITLE, VALIDATING, WAITING_TO_ENTER, WALKING};
+use crate::machine::{self, Answer, CUR, END, HOLDING, IDLE, KIND, MOST_SEATS, OWN, PHASE, PREV, READERS, ROW_WORDS};
+use crate::machine::{READER_WAITING, READS, SEAT_WORDS, START, TITLE, VALIDATING, WAITING_TO_ENTER, WALKING};
 use crate::machine::{WITHDRAWN, WRITERS, WRITES};
 use crate::random::Random;
 use crate::script::{call, read_script, BEGIN};
-use crate::tables::{any_words, damaged, largest_end, many_holders, miscounted, mistitled, put_counts, sound_words};
-use crate::tables::{Tables, DAMAGES, MISCOUNTS, MISTITLES};
+use crate::tables::{any_words, damaged, largest_end, many_holders, many_waiters, miscounted, mistitled, put_counts};
+use crate::tables::{sound_words, Tables, DAMAGES, MISCOUNTS, MISTITLES};
 use std::collections::{BTreeMap, BTreeSet};
 use std::ops::Range;
 
@@ -113,6 +113,72 @@ fn gap_count(runs: &[Run]) -> usize {
     runs.iter().map(|run| run.end).filter(opens).collect::<BTreeSet<u32>>().len()
 }
 
+/// A claim that waits, as it is told so.
+struct Wait {
+    phase: u32,
+    own: Run,
+    /// the claim that it waits at
+    at: Run,
+    /// the run that it is told of
+    shared: Run,
+    both_read: bool,
+    /// it waits at its own node
+    at_own: bool,
+}
+
+impl Wait {
+    fn new(nodes: &[u32], seat: &[u32], shared: Run) -> Wait {
+        let word = |node: u32, field: usize| nodes[machine::place(node, field)];
+        let run = |node: u32| word(node, START)..word(node, END);
+        let [own, at] = [seat[OWN], seat[CUR]];
+        let both_read = [own, at].iter().all(|&node| word(node, KIND) == READS);
+        Wait { phase: seat[PHASE], own: run(own), at: run(at), shared, both_read, at_own: own == at }
+    }
+
+    fn shares(&self) -> bool {
+        !self.shared.is_empty()
+    }
+
+    fn touches(&self) -> bool {
+        self.own.end == self.at.start || self.at.end == self.own.start
+    }
+}
+
+type Waiting = (&'static str, fn(&Wait) -> bool);
+
+/// How a claim can wait, and how what it shares can lie in it and in the claim that it waits at: what a shared run can get
+/// wrong.
+const WAITS: [Waiting; 23] = [
+    ("wait: in phase 2", |wait| wait.phase == WAITING_TO_ENTER),
+    ("wait: in phase 4", |wait| wait.phase == READER_WAITING),
+    ("wait: the shared run starts with the waiting claim", |wait| wait.at.start < wait.own.start && wait.shares()),
+    ("wait: the shared run starts with the claim waited at", |wait| wait.own.start < wait.at.start && wait.shares()),
+    ("wait: the shared run starts with both", |wait| wait.own.start == wait.at.start),
+    ("wait: the shared run ends with the waiting claim", |wait| wait.own.end < wait.at.end && wait.shares()),
+    ("wait: the shared run ends with the claim waited at", |wait| wait.at.end < wait.own.end && wait.shares()),
+    ("wait: the shared run ends with both", |wait| wait.own.end == wait.at.end),
+    ("wait: a part of each claim is shared", |wait| wait.shares() && wait.shared != wait.own && wait.shared != wait.at),
+    ("wait: all of the waiting claim is shared, not of the other", |wait| {
+        wait.shared == wait.own && wait.own != wait.at
+    }),
+    ("wait: all of the claim waited at is shared, not of the other", |wait| {
+        wait.shared == wait.at && wait.own != wait.at
+    }),
+    ("wait: all of both claims is shared", |wait| wait.own == wait.at),
+    ("wait: one frame is shared", |wait| wait.shared.len() == 1),
+    ("wait: the shared run starts above 2147483648", |wait| wait.shared.start > 1 << 31),
+    ("wait: the shared run ends at 4294967295", |wait| wait.shared.end == u32::MAX),
+    // only in tables that were never reached
+    ("wait: no frame is shared, in phase 2", |wait| !wait.shares() && wait.phase == WAITING_TO_ENTER),
+    ("wait: no frame is shared, in phase 4", |wait| !wait.shares() && wait.phase == READER_WAITING),
+    ("wait: no frame is shared, and the ends touch", |wait| !wait.shares() && wait.touches()),
+    ("wait: no frame is shared, and the ends lie apart", |wait| !wait.shares() && !wait.touches()),
+    ("wait: of a reader at a reader, in phase 2", |wait| wait.both_read && wait.phase == WAITING_TO_ENTER),
+    ("wait: of a reader at a reader, in phase 4", |wait| wait.both_read && wait.phase == READER_WAITING),
+    ("wait: at its own node, in phase 2", |wait| wait.at_own && wait.phase == WAITING_TO_ENTER),
+    ("wait: at its own node, in phase 4", |wait| wait.at_own && wait.phase == READER_WAITING),
+];
+
 impl Tally {
     fn count(&mut self, name: impl Into<String>) {
         *self.counts.entry(name.into()).or_insert(0) += 1;
@@ -137,6 +203,14 @@ impl Tally {
         }
     }
 
+    /// Counts how a claim waits that a step left waiting.
+    fn count_wait(&mut self, nodes: &[u32], seat: &[u32], shared: Run) {
+        let wait = Wait::new(nodes, seat, shared);
+        for (name, _) in WAITS.iter().filter(|(_, waits)| waits(&wait)) {
+            self.count(*name);
+        }
+    }
+
     fn count_call(&mut self, nodes: &mut [u32], seats: &mut [u32], row: [u32; 5]) {
         let (nodes_before, seats_before) = (nodes.to_vec(), seats.to_vec());
         if let [BEGIN, seat, start, end, kind] = row {
@@ -155,6 +229,9 @@ impl Tally {
             Ok(Answer::Out) => "release of a writer",
             _ => step_name(&nodes_before, before, after),
         });
+        if let Ok(Answer::Wait { first, end, .. }) = answer {
+            self.count_wait(nodes, after, first..end);
+        }
         let fetched = row[0] == BEGIN || before[PHASE] == WITHDRAWN;
         if fetched && machine::listed(&nodes_before).ne(machine::listed(nodes)) {
             self.count("fetch that takes marked nodes out");
@@ -231,7 +308,7 @@ impl Tally {
         }
     }
 
-    /// Counts what the calls that are compared on such tables meet of the title.
+    /// Counts what the calls that are compared on such tables meet of the title, and how they leave a seat waiting.
     fn count_calls(&mut self, random: &mut Random, tables: &Tables) {
         let (nodes, seats) = tables;
         for call in every_call(random, tables) {
@@ -239,6 +316,12 @@ impl Tally {
                 Call::Clear { title } => self.count(clear_name(tables, title)),
                 Call::Begin { seat, start, end, kind } if machine::free_count(nodes, seats).is_ok() => {
                     self.count_begin(nodes, seats, seat, [start, end, kind]);
+                }
+                Call::Step { seat, .. } => {
+                    let (mut nodes, mut seats) = tables.clone();
+                    if let Ok(Answer::Wait { first, end, .. }) = machine::step(&mut nodes, &mut seats, seat) {
+                        self.count_wait(&nodes, &seats[SEAT_WORDS * seat as usize..], first..end);
+                    }
                 }
                 _ => {}
             }
@@ -253,8 +336,9 @@ impl Tally {
             self.count_calls(random, &tables);
         };
         for _ in 0..10 {
-            let families = [any_words(random), sound_words(random), many_holders(random)];
-            for (name, tables) in ["any words", "sound words", "many holders"].into_iter().zip(families) {
+            let families = [any_words(random), sound_words(random), many_holders(random), many_waiters(random)];
+            let names = ["any words", "sound words", "many holders", "many waiters"];
+            for (name, tables) in names.into_iter().zip(families) {
                 count(random, name, tables);
             }
         }

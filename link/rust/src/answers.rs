@@ -3,6 +3,7 @@
 
 use std::error::Error;
 use std::fmt::{self, Display, Formatter};
+use std::ops::Range;
 
 /// What a claim does with its frames.
 #[derive(Clone, Copy, Debug, PartialEq, Eq, Hash)]
@@ -49,12 +50,24 @@ pub enum Answer {
     Out,
     /// Step: the claim moved on. Step it again.
     On,
-    /// Step: the claim waits at this node, whose claim shares a frame with it. Step it again once that is released or withdrawn.
-    Wait(u32),
+    /// Step: the claim waits at this node, whose claim shares with it all frames from first up to but not including end, and no others.
+    /// Step it again once that is released or withdrawn. In tables that these calls have not made, a claim may wait and share no frame:
+    /// both are 0.
+    Wait { node: u32, first: u32, end: u32 },
     /// Step: the claim holds its frames. The worker may write.
     Held,
     /// Step: the claim was withdrawn, since a reader was there first. Step it again, and it takes a node anew.
     Back,
+}
+
+impl Answer {
+    /// The frames that a claim waits for, if it waits: those that it shares with the claim waited at.
+    pub fn shared(self) -> Option<Range<u32>> {
+        match self {
+            Answer::Wait { first, end, .. } => Some(first..end),
+            _ => None,
+        }
+    }
 }
 
 impl Display for Answer {
@@ -63,7 +76,7 @@ impl Display for Answer {
             Answer::Node(node) => write!(out, "node {node}"),
             Answer::Out => out.write_str("out"),
             Answer::On => out.write_str("on"),
-            Answer::Wait(node) => write!(out, "wait {node}"),
+            Answer::Wait { node, first, end } => write!(out, "wait {node} {first} {end}"),
             Answer::Held => out.write_str("held"),
             Answer::Back => out.write_str("back"),
         }
@@ -228,10 +241,17 @@ pub(crate) fn answer(given: u64) -> Result<Answer, Refused> {
         1 => Ok(Answer::Node(number)),
         2 => Ok(Answer::Out),
         3 => Ok(Answer::On),
-        4 => Ok(Answer::Wait(number)),
         5 => Ok(Answer::Held),
         6 => Ok(Answer::Back),
         code => panic!("the archive that is linked gave answer {code}, which this package does not know"),
+    }
+}
+
+/// Of step, which alone answers wait, with what stands in its two words then.
+pub(crate) fn stepped(given: u64, [first, end]: [u32; 2]) -> Result<Answer, Refused> {
+    match upper(given) {
+        4 => Ok(Answer::Wait { node: lower(given), first, end }),
+        _ => answer(given),
     }
 }
 
@@ -271,6 +291,18 @@ mod tests {
             assert!(Refused::ALL[..place].iter().all(|other| other.to_string() != refused.to_string()));
         }
         assert_eq!([cleared(0), cleared(1)], [Ok(()), Err(Refused::Damaged)]);
+    }
+
+    #[test]
+    fn wait_takes_its_frames_from_the_two_words_and_no_other_answer_does() {
+        assert_eq!(stepped(4 << 32 | 4, [15, 20]), Ok(Answer::Wait { node: 4, first: 15, end: 20 }));
+        assert_eq!([3 << 32, 6].map(|given| stepped(given, [15, 20])), [Ok(Answer::On), Err(Refused::SeatIdle)]);
+    }
+
+    #[test]
+    #[should_panic(expected = "answer 4")]
+    fn wait_is_no_answer_of_begin_or_release() {
+        let _ = answer(4 << 32);
     }
 
     #[test]

@@ -13,7 +13,14 @@ extern "C" {
         end: u32,
         kind: u32,
     ) -> u64;
-    pub fn soodhiqune_step(nodes: *mut u32, node_words: usize, seats: *mut u32, seat_words: usize, seat: u32) -> u64;
+    pub fn soodhiqune_step(
+        nodes: *mut u32,
+        node_words: usize,
+        seats: *mut u32,
+        seat_words: usize,
+        seat: u32,
+        shared: *mut u32,
+    ) -> u64;
     pub fn soodhiqune_release(nodes: *mut u32, node_words: usize, seats: *mut u32, seat_words: usize, seat: u32)
         -> u64;
     pub fn soodhiqune_run(

@@ -2,7 +2,7 @@
 //! refused call changes nothing. For who mirrors the tables on every store: a refused call, the board and the free count store nothing in
 //! them, not even what stands there already, and where nodes are taken off the list only the links that differ are stored. The two slices of a call must be those of one pair; [`Tables`](crate::Tables) keeps them together.
 
-use crate::answers::{answer, cleared, count, ran, well_formed, Answer, BadScript, Ran, Refused, Row, Shown};
+use crate::answers::{answer, cleared, count, ran, stepped, well_formed, Answer, BadScript, Ran, Refused, Row, Shown};
 use crate::archive;
 use std::ops::Range;
 
@@ -33,8 +33,8 @@ const MOST_LINES: usize = 1000;
 
 /// How many numbers a script is read into.
 pub const SCRIPT_NUMBERS: usize = CONTENTS_NUMBERS + LINE_NUMBERS * MOST_LINES;
-/// Room for what the program prints: at most 26,986 bytes.
-pub const PRINTED_BYTES: usize = 32768;
+/// Room for what the program prints: at most 48,986 bytes.
+pub const PRINTED_BYTES: usize = 49152;
 
 /// How many words a table of so many nodes has.
 pub const fn node_words(nodes: usize) -> usize {
@@ -81,7 +81,18 @@ pub fn begin(
 
 /// One step of a seat that has a claim.
 pub fn step(nodes: &mut [u32], seats: &mut [u32], seat: u32) -> Result<Answer, Refused> {
-    answer(unsafe { archive::soodhiqune_step(nodes.as_mut_ptr(), nodes.len(), seats.as_mut_ptr(), seats.len(), seat) })
+    let mut shared = [0; 2];
+    let given = unsafe {
+        archive::soodhiqune_step(
+            nodes.as_mut_ptr(),
+            nodes.len(),
+            seats.as_mut_ptr(),
+            seats.len(),
+            seat,
+            shared.as_mut_ptr(),
+        )
+    };
+    stepped(given, shared)
 }
 
 /// Ends the claim of a seat that holds.

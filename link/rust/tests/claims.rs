@@ -1,7 +1,9 @@
-//! H1 of document 01 through tables that are owned and through lent ones, how many hold, and the edges of run and board.
+//! H1 of document 01 through tables that are owned and through lent ones, how many hold, which frames clash, and the edges of run and
+//! board.
 
 use soodhiqune::lent::{self, node_words, seat_words, HOLDING_READERS, HOLDING_WRITERS};
 use soodhiqune::{Answer, Board, Kind, Ran, Refused, Row, Shown, Tables};
+use std::ops::Range;
 
 const SEAT_1_HOLDS: Row = Row { seat: 1, start: 15, end: 25, kind: 2 };
 
@@ -12,7 +14,7 @@ fn h1() -> Tables {
     assert_eq!(tables.step(0), Ok(Answer::On));
     assert_eq!(tables.step(0), Ok(Answer::Held));
     assert_eq!(tables.begin(1, 15..25, Kind::Writes), Ok(Answer::Node(2)));
-    assert_eq!(tables.step(1), Ok(Answer::Wait(1)));
+    assert_eq!(tables.step(1), Ok(Answer::Wait { node: 1, first: 15, end: 20 }));
     assert_eq!(tables.free_count(), Ok(2));
     assert_eq!(tables.release(0), Ok(Answer::Out));
     assert_eq!([(); 4].map(|()| tables.step(1).unwrap()), [Answer::On, Answer::On, Answer::On, Answer::Held]);
@@ -32,7 +34,7 @@ fn h1_on_lent_tables_ends_in_the_same_words() {
     assert_eq!(lent::begin(&mut nodes, &mut seats, 0, 10..20, Kind::Writes), Ok(Answer::Node(1)));
     assert_eq!(lent::run(&mut nodes, &mut seats, &[0, 0], 9), Ran { steps: 2, refused: None });
     assert_eq!(lent::begin(&mut nodes, &mut seats, 1, 15..25, 2_u32), Ok(Answer::Node(2)));
-    assert_eq!(lent::step(&mut nodes, &mut seats, 1), Ok(Answer::Wait(1)));
+    assert_eq!(lent::step(&mut nodes, &mut seats, 1), Ok(Answer::Wait { node: 1, first: 15, end: 20 }));
     assert_eq!(lent::free_count(&nodes, &seats), Ok(2));
     assert_eq!(lent::release(&mut nodes, &mut seats, 0), Ok(Answer::Out));
     assert_eq!(lent::run(&mut nodes, &mut seats, &[1; 9], 4), Ran { steps: 4, refused: None });
@@ -102,6 +104,54 @@ fn run_stops_at_its_end_its_budget_and_a_refused_entry() {
     assert_eq!(tables, before, "a holder's steps change nothing");
 }
 
+/// What seat 1 is told that claims frames 15 up to 25, while seat 0 holds these.
+fn waits_at(frames: Range<u32>) -> Answer {
+    let mut tables = Tables::new(2, 2, u32::MAX).unwrap();
+    tables.begin(0, frames, Kind::Reads).unwrap();
+    assert_eq!(tables.run(&[0; 2], 9), Ran { steps: 2, refused: None });
+    tables.begin(1, 15..25, Kind::Writes).unwrap();
+    let answer = tables.step(1).unwrap();
+    assert_eq!(tables.step(1), Ok(answer), "it waits on");
+    answer
+}
+
+#[test]
+fn wait_names_the_frames_that_both_claims_cover() {
+    for (at, first, end) in [
+        (10..20, 15, 20),
+        (20..30, 20, 25),
+        (0..u32::MAX, 15, 25),
+        (17..19, 17, 19),
+        (15..25, 15, 25),
+        (0..16, 15, 16),
+        (24..u32::MAX, 24, 25),
+    ] {
+        assert_eq!(waits_at(at.clone()), Answer::Wait { node: 1, first, end }, "{at:?}");
+        assert_eq!(waits_at(at).shared(), Some(first..end));
+    }
+    assert_eq!(
+        [Answer::Node(1), Answer::Out, Answer::On, Answer::Held, Answer::Back].map(Answer::shared),
+        [(); 5].map(|()| None)
+    );
+}
+
+/// Seat 1 is made to wait at a claim that ends where its own starts, and then at its own: no call leaves tables so.
+#[test]
+fn a_claim_that_shares_no_frame_is_told_0_and_0() {
+    let mut tables = Tables::new(2, 2, 25).unwrap();
+    tables.begin(0, 10..20, Kind::Writes).unwrap();
+    tables.run(&[0; 2], 9);
+    tables.begin(1, 15..25, Kind::Writes).unwrap();
+    tables.step(1).unwrap();
+    let (mut nodes, mut seats) = (tables.words().0.to_vec(), tables.words().1.to_vec());
+    let (end_of_node_1, cur_of_seat_1) = (node_words(0) + 1, seat_words(1) + 3);
+    nodes[end_of_node_1] = 15;
+    assert_eq!(lent::step(&mut nodes, &mut seats, 1), Ok(Answer::Wait { node: 1, first: 0, end: 0 }));
+    seats[cur_of_seat_1] = 2;
+    assert_eq!(lent::step(&mut nodes, &mut seats, 1), Ok(Answer::Wait { node: 2, first: 15, end: 25 }));
+}
+
+/// H9: seat 2 reads, and looks ahead to the writer that came in behind it.
 #[test]
 fn a_writer_that_meets_a_reader_goes_back() {
     let mut tables = Tables::new(8, 4, 20).unwrap();
@@ -111,8 +161,13 @@ fn a_writer_that_meets_a_reader_goes_back() {
     tables.run(&[1; 3], 9);
     tables.begin(2, 5..20, Kind::Reads).unwrap();
     tables.begin(3, 15..20, Kind::Writes).unwrap();
-    tables.run(&[3, 3, 2, 2, 3, 2, 2, 3], 9);
+    tables.run(&[3, 3, 2, 2, 3, 2], 9);
+    for _ in 0..2 {
+        assert_eq!(tables.step(2), Ok(Answer::Wait { node: 4, first: 15, end: 20 }));
+    }
+    assert_eq!(tables.step(3), Ok(Answer::On));
     assert_eq!((tables.step(3), holding(&tables)), (Ok(Answer::Back), [2, 0]));
+    assert_eq!(tables.step(2), Ok(Answer::On), "the reader's wait is over");
     assert_eq!(tables.step(3), Ok(Answer::On), "it takes a node anew, though its claim ends at the title");
 }
 
@@ -134,9 +189,10 @@ fn tables_of_their_own_are_used_at_once() {
 
 #[test]
 fn answers_and_kinds_have_words() {
-    let answers = [Answer::Node(1), Answer::Out, Answer::On, Answer::Wait(4), Answer::Held, Answer::Back];
+    let wait = Answer::Wait { node: 4, first: 15, end: 20 };
+    let answers = [Answer::Node(1), Answer::Out, Answer::On, wait, Answer::Held, Answer::Back];
     let words = answers.map(|answer| answer.to_string());
-    assert_eq!(words, ["node 1", "out", "on", "wait 4", "held", "back"]);
+    assert_eq!(words, ["node 1", "out", "on", "wait 4 15 20", "held", "back"]);
     assert_eq!([Kind::Reads, Kind::Writes].map(|kind| kind.to_string()), ["reads", "writes"]);
     assert_eq!([1, 2, 3].map(Kind::try_from), [Ok(Kind::Reads), Ok(Kind::Writes), Err(Refused::NoSuchKind)]);
 }

@@ -50,9 +50,24 @@ fn a_script_is_played() {
     assert_eq!(play(GOOD), "1 node 1\n2 on\n3 no 2\nlist 1\ncovered 0\n");
     assert_eq!(play(b"4 3 1 20\ns 00\n"), "bad 2\n");
     assert_eq!(play(b"4 3 2 20\nb 0 10 21 2\nb 0 10 20 2\n"), "1 no 11\n2 node 1\nlist\ncovered 0\n");
+    assert_eq!(
+        play(b"2 2 4 9\nb 0 0 5 2\ns 0\nb 1 3 9 2\ns 1\n"),
+        "1 node 1\n2 on\n3 node 2\n4 wait 1 3 5\nlist 1\ncovered 0\n"
+    );
     let mut printed = [9; PRINTED_BYTES];
     assert_eq!(lent::play(b"", &mut printed), 6);
     let (found, rest) = printed.split_at(6);
     assert_eq!(found, b"bad 1\n");
     assert!(rest.iter().all(|&byte| byte == 9));
+}
+
+/// A claim waits at another, told so with numbers of ten digits as often as a script has lines: more than 32,768 bytes.
+#[test]
+fn all_of_a_long_output_is_there() {
+    let claim = "1000000000 4294967295 2";
+    let script = format!("2 2 1000 4294967295\nb 0 {claim}\ns 0\ns 0\nb 1 {claim}\n{}", "s 1\n".repeat(996));
+    let printed = play(script.as_bytes());
+    assert_eq!(printed.len(), 32_856);
+    assert_eq!(printed.matches(" wait 1 1000000000 4294967295\n").count(), 996);
+    assert!(printed.ends_with("\nlist 1\nhold 0 1000000000 4294967295 2\ncovered 3294967295\n"));
 }

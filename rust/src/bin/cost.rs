@@ -157,7 +157,7 @@ impl Bench {
 
     fn steps(self) -> Case {
         let seat = self.last;
-        self.call(Call::Step { seat })
+        self.call(steps(seat))
     }
 
     fn board(self, rows: u32) -> Case {
@@ -168,6 +168,10 @@ impl Bench {
         let seat = self.last;
         self.call(Call::Begin { seat, start: 0, end: 5, kind: WRITES })
     }
+}
+
+fn steps(seat: u32) -> Call {
+    Call::Step { seat, shared: [0; 2] }
 }
 
 /// A writer behind all readers, which has made all its steps but the one that links, and a reader over all that has linked.
@@ -233,7 +237,7 @@ const OPERATIONS: &[Operation] = &[
         bench.step(seats - 1);
         bench.steps()
     }),
-    ("step 5", |nodes, seats| holders(nodes, seats, WRITES).call(Call::Step { seat: 0 })),
+    ("step 5", |nodes, seats| holders(nodes, seats, WRITES).call(steps(0))),
     ("step 6, fetch", |nodes, seats| {
         let mut bench = race(nodes, seats);
         bench.step(seats - 1);
@@ -290,12 +294,15 @@ fn main() {
     let mut rows = if let Call::Board { rows } = &case.call { rows.clone() } else { vec![] };
     let mut answer = 0;
     let mut covered = 0;
+    let mut shared = [0; 2];
     for _ in 0..number(&arguments[4]) {
         nodes.copy_from_slice(&case.nodes);
         seats.copy_from_slice(&case.seats);
         if operation.is_some() {
-            answer = make(&library, &case.call, &mut nodes, &mut seats, &mut rows, &mut covered);
+            answer = make(&library, &case.call, &mut nodes, &mut seats, &mut rows, &mut covered, &mut shared);
         }
     }
-    println!("{}: answer {} {}, head {}, covered {covered}", arguments[1], answer >> 32, answer as u32, nodes[HEAD]);
+    let (kind, number) = (answer >> 32, answer as u32);
+    let [first, end] = shared;
+    println!("{}: answer {kind} {number}, head {}, covered {covered}, shared {first} {end}", arguments[1], nodes[HEAD]);
 }

@@ -178,7 +178,7 @@ fn some_fetches(random: &mut Random, (nodes, seats): &Tables) -> Vec<Call> {
         });
     }
     for (seat, _) in in_phase(WITHDRAWN).take(2) {
-        calls.extend([Call::Step { seat }, Call::Run { entries: vec![seat], budget: 1 }]);
+        calls.extend([Call::Step { seat, shared: [0; 2] }, Call::Run { entries: vec![seat], budget: 1 }]);
     }
     calls
 }

@@ -41,7 +41,7 @@ fn played((nodes, seats, bodies): History) -> String {
 #[test]
 fn h1_the_script_of_the_document() {
     let script = b"4 3 10 4294967295\nb 0 10 20 2\ns 0\ns 0\nb 1 15 25 2\ns 1\nr 0\ns 1\ns 1\ns 1\ns 1\n";
-    let printed = "1 node 1\n2 on\n3 held\n4 node 2\n5 wait 1\n6 out\n7 on\n8 on\n9 on\n10 held\n\
+    let printed = "1 node 1\n2 on\n3 held\n4 node 2\n5 wait 1 15 20\n6 out\n7 on\n8 on\n9 on\n10 held\n\
                    list 2\nhold 1 15 25 2\ncovered 10\n";
     assert_eq!(script_of(H1.0, H1.1, H1.2).as_bytes(), script);
     assert_eq!(play(script), printed);
@@ -57,14 +57,14 @@ fn h2_writers_that_touch_both_hold() {
 
 #[test]
 fn h3_a_writer_that_shares_a_frame_waits() {
-    assert_eq!(played(H3), "node 1; on; held; node 2; wait 1; wait 1; list 1; hold 0 10 20 2; covered 10");
+    assert_eq!(played(H3), "node 1; on; held; node 2; wait 1 19 20; wait 1 19 20; list 1; hold 0 10 20 2; covered 10");
 }
 
 #[test]
 fn h4_readers_share_and_a_writer_waits_at_the_first() {
     assert_eq!(
         played(H4),
-        "node 1; on; held; node 2; on; on; held; node 3; wait 1; \
+        "node 1; on; held; node 2; on; on; held; node 3; wait 1 70 80; \
          list 1 2; hold 0 0 100 1; hold 1 50 60 1; covered 100"
     );
 }
@@ -86,11 +86,11 @@ fn h7_no_node_while_the_only_one_is_held() {
 
 #[test]
 fn h8_no_node_while_a_waiter_can_reach_it_and_the_list_stays() {
-    assert_eq!(played(H8), "node 1; on; held; node 2; wait 1; out; no 8; list 1; covered 0");
+    assert_eq!(played(H8), "node 1; on; held; node 2; wait 1 0 10; out; no 8; list 1; covered 0");
 }
 
 const H9_ANSWERS: &str = "node 1; on; held; node 2; on; on; held; node 3; node 4; \
-                          on; on; on; on; on; on; wait 4; on; back; on; on; held";
+                          on; on; on; on; on; on; wait 4 15 20; on; back; on; on; held";
 
 #[test]
 fn h9_a_reader_looks_ahead_and_the_writer_goes_back() {
@@ -103,7 +103,7 @@ fn h10_the_writer_fetches_its_old_node_and_waits_at_the_reader() {
     let closing = "list 1 3 2; hold 0 1 10 1; hold 1 12 14 1; hold 2 5 20 1; covered 19";
     assert_eq!(
         played((H9.0, H9.1, &format!("{}; {THEN_H10}", H9.2))),
-        format!("{H9_ANSWERS}; on; on; wait 3; {closing}")
+        format!("{H9_ANSWERS}; on; on; wait 3 15 20; {closing}")
     );
 }
 
@@ -119,7 +119,7 @@ fn a_node_that_a_walker_can_still_reach_through_another_is_not_free() {
     let both_leave_the_list = "r 0; r 1; b 3 50 60 2; s 3; s 3; s 3; s 3";
     assert_eq!(
         played((4, 4, &format!("{both_hold}; {waits_at_the_first}; {both_leave_the_list}; b 0 0 1 2"))),
-        "node 1; on; held; node 2; on; on; on; held; node 3; wait 1; out; out; node 4; on; on; on; held; no 8; \
+        "node 1; on; held; node 2; on; on; on; held; node 3; wait 1 0 10; out; out; node 4; on; on; on; held; no 8; \
          list 4; hold 3 50 60 2; covered 10"
     );
 }

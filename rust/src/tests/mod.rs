@@ -1,6 +1,6 @@
 //! Unit tests of the second machine, and of the generators and tables that machines are compared on.
 
-use crate::driver::{outcome, Call, Case};
+use crate::driver::{outcome, shared_found, Call, Case};
 use crate::library_of;
 
 mod calls;
@@ -9,6 +9,7 @@ mod covered;
 mod histories;
 mod layout;
 mod scripts;
+mod shared;
 mod stores;
 mod storing;
 mod tables;
@@ -34,7 +35,7 @@ fn refused_by_every_call(name: &str, nodes: &[u32], seats: &[u32]) {
     let damaged = 1;
     let calls = [
         (Call::Begin { seat: 0, start: 0, end: 1, kind: 1 }, damaged),
-        (Call::Step { seat: 0 }, damaged),
+        (Call::Step { seat: 0, shared: [7; 2] }, damaged),
         (Call::Release { seat: 0 }, damaged),
         (Call::Run { entries: vec![0], budget: 9 }, damaged << 32),
         (Call::Board { rows: vec![7; 256] }, damaged),
@@ -42,9 +43,11 @@ fn refused_by_every_call(name: &str, nodes: &[u32], seats: &[u32]) {
     ];
     for (call, answer) in calls {
         let text = format!("{name}: {call:?}");
+        let shared = shared_found(&call);
         let after = outcome(&library, &Case { nodes: nodes.to_vec(), seats: seats.to_vec(), call });
         assert_eq!((after.answer, after.nodes.words(), after.seats.words()), (answer, nodes, seats), "{text}");
         assert!(after.rows.words().iter().all(|&word| word == 7), "{text}");
+        assert_eq!(after.shared.words(), shared, "{text}");
     }
 }
 
@@ -74,4 +77,35 @@ const BOARDS: [&str; 8] = [
     "board: ends that touch",
     "board: a gap between holders",
     "board: gaps between holders, two or more",
+];
+
+/// How claims must wait in the generated scripts, and on the tables of a seed.
+const WAITS: [&str; 15] = [
+    "wait: in phase 2",
+    "wait: in phase 4",
+    "wait: the shared run starts with the waiting claim",
+    "wait: the shared run starts with the claim waited at",
+    "wait: the shared run starts with both",
+    "wait: the shared run ends with the waiting claim",
+    "wait: the shared run ends with the claim waited at",
+    "wait: the shared run ends with both",
+    "wait: a part of each claim is shared",
+    "wait: all of the waiting claim is shared, not of the other",
+    "wait: all of the claim waited at is shared, not of the other",
+    "wait: all of both claims is shared",
+    "wait: one frame is shared",
+    "wait: the shared run starts above 2147483648",
+    "wait: the shared run ends at 4294967295",
+];
+
+/// How they must wait on the tables of a seed, and never do in a script: there each wait has its cause.
+const WAITS_NEVER_REACHED: [&str; 8] = [
+    "wait: no frame is shared, in phase 2",
+    "wait: no frame is shared, in phase 4",
+    "wait: no frame is shared, and the ends touch",
+    "wait: no frame is shared, and the ends lie apart",
+    "wait: of a reader at a reader, in phase 2",
+    "wait: of a reader at a reader, in phase 4",
+    "wait: at its own node, in phase 2",
+    "wait: at its own node, in phase 4",
 ];

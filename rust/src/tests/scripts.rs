@@ -4,7 +4,7 @@ use crate::generate::{any_text, good, put_change, script, FLAWS};
 use crate::random::Random;
 use crate::script::read_script;
 use crate::tally::Tally;
-use crate::tests::{BEGINS, BOARDS, TITLES};
+use crate::tests::{BEGINS, BOARDS, TITLES, WAITS, WAITS_NEVER_REACHED};
 
 #[test]
 fn bad_scripts_name_the_first_wrong_line() {
@@ -84,7 +84,7 @@ fn the_generated_scripts_reach_every_rule() {
     ];
     let refusals =
         ["2 of begin", "3 of begin", "11 of begin", "4 of begin", "5 of begin", "8 of begin", "2 of step", "6 of step"];
-    for name in steps.iter().chain(&BOARDS).chain(&BEGINS) {
+    for name in steps.iter().chain(&BOARDS).chain(&BEGINS).chain(&WAITS) {
         assert!(tally.of(name) >= 10, "{name}");
     }
     for name in TITLES {
@@ -99,7 +99,9 @@ fn the_generated_scripts_reach_every_rule() {
     for (flaw, _) in FLAWS {
         assert!(tally.of(&format!("script: {flaw}")) >= 2, "{flaw}");
     }
-    assert_eq!(tally.of("refusal 11 of step"), 0);
+    for name in WAITS_NEVER_REACHED.iter().chain(&["refusal 11 of step"]) {
+        assert_eq!(tally.of(name), 0, "{name}");
+    }
     for line in ["bad 0", "bad 1", "bad 2", "bad, a later line"] {
         assert!(tally.of(line) >= 3, "{line}");
     }

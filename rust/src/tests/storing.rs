@@ -93,7 +93,7 @@ fn a_refused_call_and_a_look_store_nothing() {
     let calls = [
         Call::Clear { title: 0 },
         Call::Begin { seat: 1, start: 7, end: 8, kind: 1 },
-        Call::Step { seat: 1 },
+        Call::Step { seat: 1, shared: [0; 2] },
         Call::Release { seat: 1 },
         Call::Run { entries: vec![1], budget: 9 },
         Call::Run { entries: vec![1], budget: 0 },
@@ -127,7 +127,8 @@ fn a_step_stores_no_word_but_those_of_its_rule() {
     for ([phase, prev, cur], may) in steps {
         seats[..SEAT_WORDS].copy_from_slice(&[phase, 4, prev, cur]);
         nodes[WRITERS] = u32::from(phase == 5);
-        let allowed = |&word: &usize| wrong(&nodes, &seats, Call::Step { seat: 0 }, &[store(word, 0, false)]).is_none();
+        let steps = Call::Step { seat: 0, shared: [0; 2] };
+        let allowed = |&word: &usize| wrong(&nodes, &seats, steps.clone(), &[store(word, 0, false)]).is_none();
         let mut expected = may.to_vec();
         expected.sort_unstable();
         assert_eq!((0..nodes.len()).filter(allowed).collect::<Vec<usize>>(), expected, "{phase} {prev} {cur}");

@@ -3,12 +3,12 @@
 
 use crate::machine::{begin, free_count, listed, run, step, Answer};
 use crate::random::Random;
-use crate::tables::{any_words, damaged, full_lists, many_holders, miscounted, mistitled, put_counts, sound_words};
-use crate::tables::{DAMAGES, MISCOUNTS, MISTITLES};
+use crate::tables::{any_words, damaged, full_lists, many_holders, many_waiters, miscounted, mistitled, put_counts};
+use crate::tables::{sound_words, DAMAGES, MISCOUNTS, MISTITLES};
 use crate::tally::Tally;
 use crate::tests::layout::{counts_kept, counts_over_seats, place, word, CUR, END, HEAD, KIND, MARK, NEXT, NODE_WORDS};
 use crate::tests::layout::{title_is_damage, OWN, PHASE, PREV, SEAT_WORDS, START, TITLE, WORDS_BEFORE_NODES};
-use crate::tests::{refused_by_every_call, BEGINS, BOARDS, LONGEST_TITLE, TITLES};
+use crate::tests::{refused_by_every_call, BEGINS, BOARDS, LONGEST_TITLE, TITLES, WAITS, WAITS_NEVER_REACHED};
 
 fn node_count(nodes: &[u32]) -> usize {
     nodes.len().saturating_sub(WORDS_BEFORE_NODES) / NODE_WORDS
@@ -124,7 +124,8 @@ fn sound_shape_is_what_its_clauses_say() {
     }
     assert!(sound_ones > 400, "{sound_ones}");
     for _ in 0..2_000 {
-        for (nodes, seats) in [sound_words(&mut random), many_holders(&mut random), full_lists(&mut random)] {
+        let families = [sound_words, many_holders, many_waiters, full_lists];
+        for (nodes, seats) in families.map(|family| family(&mut random)) {
             assert!(is_sound(&nodes, &seats) && free_count(&nodes, &seats).is_ok(), "{nodes:?} {seats:?}");
         }
     }
@@ -178,21 +179,24 @@ fn each_wrong_title_alone_is_refused_and_nothing_changes() {
 
 #[test]
 fn the_tables_of_a_seed_are_what_their_names_say() {
+    let rounds = 100;
     let mut random = Random::new(1);
     let mut tally = Tally::default();
-    for _ in 0..50 {
+    for _ in 0..rounds {
         tally.count_round(&mut random);
     }
     for (name, _) in DAMAGES {
-        assert_eq!(tally.of(&format!("damage, {name}: damaged otherwise")), 50, "{name}");
+        assert_eq!(tally.of(&format!("damage, {name}: damaged otherwise")), rounds, "{name}");
     }
     for (name, _) in MISCOUNTS {
-        assert_eq!(tally.of(&format!("count, {name}: damaged by a count alone")), 50, "{name}");
+        assert_eq!(tally.of(&format!("count, {name}: damaged by a count alone")), rounds, "{name}");
     }
     for (name, _) in MISTITLES {
-        assert_eq!(tally.of(&format!("title, {name}: damaged by its title alone")), 50, "{name}");
+        assert_eq!(tally.of(&format!("title, {name}: damaged by its title alone")), rounds, "{name}");
     }
-    assert_eq!([tally.of("sound words: sound"), tally.of("many holders: sound")], [500, 500]);
+    for name in ["sound words", "many holders", "many waiters"] {
+        assert_eq!(tally.of(&format!("{name}: sound")), 10 * rounds, "{name}");
+    }
     for name in ["the most readers holding at once", "the most writers holding at once"] {
         assert!(tally.most(name) >= 20, "{name}");
     }
@@ -207,7 +211,7 @@ fn the_tables_of_a_seed_are_what_their_names_say() {
         "clear: another title on tables without claims",
         "title that is the end of a node",
     ];
-    for name in clears.iter().chain(&BEGINS).chain(&TITLES) {
+    for name in clears.iter().chain(&BEGINS).chain(&TITLES).chain(&WAITS).chain(&WAITS_NEVER_REACHED) {
         assert!(tally.of(name) >= 10, "{name}");
     }
 }

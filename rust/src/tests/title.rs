@@ -35,7 +35,7 @@ fn full_tables() -> Tables {
     assert_eq!(begin(&mut nodes, &mut seats, 0, 0, 20, 2), Ok(Answer::Node(1)));
     assert_eq!([0, 0].map(|seat| step(&mut nodes, &mut seats, seat)), [Ok(Answer::On), Ok(Answer::Held)]);
     assert_eq!(begin(&mut nodes, &mut seats, 1, 10, 20, 2), Ok(Answer::Node(2)));
-    assert_eq!(step(&mut nodes, &mut seats, 1), Ok(Answer::Wait(1)));
+    assert_eq!(step(&mut nodes, &mut seats, 1), Ok(Answer::Wait { node: 1, first: 10, end: 20 }));
     (nodes, seats)
 }
 
@@ -227,7 +227,7 @@ fn covered_is_at_most_the_title() {
 #[test]
 fn a_title_of_one_frame_is_held_by_one_writer() {
     let script = script_on(2, 2, 1, "b 0 0 2 2; b 0 1 1 2; b 0 0 1 2; s 0; s 0; b 1 0 1 1; s 1");
-    let printed = "1 no 11\n2 no 3\n3 node 1\n4 on\n5 held\n6 node 2\n7 wait 1\nlist 1\nhold 0 0 1 2\ncovered 1\n";
+    let printed = "1 no 11\n2 no 3\n3 node 1\n4 on\n5 held\n6 node 2\n7 wait 1 0 1\nlist 1\nhold 0 0 1 2\ncovered 1\n";
     assert_eq!(play(script.as_bytes()), printed);
 }
 
