@@ -57,6 +57,11 @@ pub wait-names-the-whole : (t : Tables) (s n first end : ℕ) → step t s .answ
     → WholeShared (claimOf (step t s .after) n) (claimOfSeat (step t s .after) s) first end
 wait-names-the-whole t s n first end = tells.told-whole n first end t s
 
+-- they stood there before the step too, at the same node: a step that answers `wait` changes no claim and leaves its seat where it was
+pub so-it-was-before : (t : Tables) (s n first end : ℕ) → step t s .answer ≡ wait n first end
+    → (cur t s ≡ n) × WholeShared (claimOf t n) (claimOfSeat t s) first end
+so-it-was-before t s n first end e = (tells.at-node-before n first end t s e, tells.told-whole-before n first end t s e)
+
 -- "where, in any sound table, the claim waited at shares no frame, both are 0"
 pub wait-for-no-frame : (t : Tables) (s n first end : ℕ) → step t s .answer ≡ wait n first end
     → NoneShared (claimOf (step t s .after) n) (claimOfSeat (step t s .after) s) → (first ≡ 0) × (end ≡ 0)

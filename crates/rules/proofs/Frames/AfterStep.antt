@@ -1,12 +1,12 @@
--- Where a step leaves its seat: with a claim, if it had one, waiting only at a node that is not marked, and holding only as it was or by the
--- rule of hold. Of any tables that have room for the seat.
+-- Where a step leaves its seat: with a claim, if it had one, waiting only where it stood and at a node that is not marked, and holding only as it was or
+-- by the rule of hold. Of any tables that have room for the seat.
 use Prim.Native.Nat.{ℕ}
 use mathlib.Core.Path.{_≡_, refl, sym, _∙_}
 use mathlib.Core.List.{List}
 use mathlib.Core.Logic.{_≢_, _⊎_, inl, inr}
 use native.Mathlib.Omega.{arith}
 use Rattle.rules.specs.Notation.{_is_}
-use Rattle.rules.specs.Tables.{Tables, phaseAt, curAt, mark, link, next, head, phase, own, prev, cur, setPhase}
+use Rattle.rules.specs.Tables.{Tables, phaseAt, ownAt, curAt, mark, link, next, head, phase, own, prev, cur, setPhase}
 use Rattle.rules.specs.Comparison.{Claim}
 use Rattle.rules.specs.Fetch.{Fetched, writeClaim, takeNode, takenOut}
 use Rattle.rules.specs.Answers.{Answer, Done}
@@ -20,14 +20,25 @@ use Rattle.rules.proofs.Rules.Accepting.{Stepped, step-refused, step-ac
 use Rattle.rules.proofs.Frames.SeatFrames.{sound-room}
 use Rattle.rules.proofs.Laws.NodesAlone.{taken-out-seats}
 
+-- u has the nodes of t, and seat s its claim and its place
+pub record Stayed (t u : Tables) (s : ℕ) : Type 0 where
+  pub same-nodes : u .nodes ≡ t .nodes
+  pub same-own : own u s ≡ own t s
+  pub same-cur : cur u s ≡ cur t s
+
 -- from t to u by a step of seat s
 pub record Left (t u : Tables) (s : ℕ) : Type 0 where
   pub busy : phase u s ≢ 0
   pub unmarked : (phase u s ≡ 2) ⊎ (phase u s ≡ 4) → mark u (cur u s) ≢ 1
+  pub stayed : (phase u s ≡ 2) ⊎ (phase u s ≡ 4) → Stayed t u s
   pub holding : phase u s ≡ 5 → (u ≡ t) ⊎ (u ≡ hold t s)
 
 not-waiting : {t u : Tables} {s : ℕ} → phase u s ≢ 0 → phase u s ≢ 2 → phase u s ≢ 4 → (phase u s ≡ 5 → (u ≡ t) ⊎ (u ≡ hold t s)) → Left t u s
-not-waiting b d₂ d₄ h = record { busy = b; unmarked = λ p. absurd (elim p [ inl e ↦ d₂ e | inr e ↦ d₄ e ]); holding = h }
+not-waiting {t} {u} {s} b d₂ d₄ h = record { busy = b; unmarked = λ p. absurd (neither p); stayed = λ p. absurd (neither p); holding = h }
+  where
+    neither : (phase u s ≡ 2) ⊎ (phase u s ≡ 4) → ⊥
+    neither (inl e) = d₂ e
+    neither (inr e) = d₄ e
 
 moved : {before : List ℕ} {t u : Tables} {s : ℕ} {words : ℕ → ℕ} → Seated before (u .seats) s words
     → words phaseAt ≢ 0 → words phaseAt ≢ 2 → words phaseAt ≢ 4 → words phaseAt ≢ 5 → Left t u s
@@ -38,7 +49,12 @@ module _ (t : Tables) (s : ℕ) (r : Room t s) where
   turned P z d₅ m =
       let w = phase-stored t s r P in
       let e = w .at-s phaseAt (omega arith) in
-      record { busy = rw e z; unmarked = λ p. rw (w .at-s curAt (omega arith)) m; holding = λ p. absurd (d₅ (sym e ∙ p)) }
+      record {
+        busy = rw e z;
+        unmarked = λ p. rw (w .at-s curAt (omega arith)) m;
+        stayed = λ p. record { same-nodes = refl; same-own = w .at-s ownAt (omega arith); same-cur = w .at-s curAt (omega arith) };
+        holding = λ p. absurd (d₅ (sym e ∙ p));
+      }
 
   -- in phase 1 or 3 the seat moves on without another phase
   module _ (p : (phase t s ≡ 1) ⊎ (phase t s ≡ 3)) where
@@ -61,7 +77,8 @@ module _ (t : Tables) (s : ℕ) (r : Room t s) where
 
   waking-leaves : {P : ℕ} {u : Tables} → phase t s ≢ 0 → P ≢ 0 → P ≢ 2 → P ≢ 4 → P ≢ 5 → Waking t s P u → Left t u s
   waking-leaves {P} b z d₂ d₄ d₅ (wakes m) = moved (phase-stored t s r P) z d₂ d₄ d₅
-  waking-leaves b z d₂ d₄ d₅ (stays m) = record { busy = b; unmarked = λ p. m; holding = λ p. inl refl }
+  waking-leaves b z d₂ d₄ d₅ (stays m) =
+      record { busy = b; unmarked = λ p. m; stayed = λ p. record { same-nodes = refl; same-own = refl; same-cur = refl }; holding = λ p. inl refl }
 
   holding-leaves : Left t (hold t s) s
   holding-leaves =

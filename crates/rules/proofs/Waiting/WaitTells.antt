@@ -1,7 +1,7 @@
 -- What a step that answers `wait` tells, of any tables: it is said from the seat's new phase, of the claim at its cur and its own, so the frames are
 -- the whole of what the two share; and of sound ones, that a comparison which gives 0 is told so.
 use Prim.Native.Nat.{ℕ, _<_}
-use mathlib.Core.Path.{_≡_, ap, _∙_}
+use mathlib.Core.Path.{_≡_, sym, ap, _∙_}
 use mathlib.Core.Bool.{true}
 use mathlib.Core.Logic.{_≢_, inl}
 use native.Mathlib.Omega.{arith}
@@ -25,6 +25,7 @@ use Rattle.rules.proofs.Rules.RuleEffects.{phase-stored}
 use Rattle.rules.proofs.Rules.Reasons.{Stepping, in-1, in-2, in-3, in-4, in-6, at-rest, by-phase-1}
 use Rattle.rules.proofs.Rules.Accepting.{Stepped, step-refused, step-accepted, stepped, step-is}
 use Rattle.rules.proofs.Frames.SeatFrames.{sound-room}
+use Rattle.rules.proofs.Frames.AfterStep.{Stayed, stepping-leaves}
 
 -- ---- an accepted step that answers `wait` answers so from the seat's new phase
 module _ (n first end : ℕ) where
@@ -43,9 +44,12 @@ module _ (n first end : ℕ) where
   from-phase {t} {s} (in-6 {f = f} e w) q = refetched-from-phase t s f q
   from-phase (at-rest a b c d e) q = q
 
-  stepped-waits : {t : Tables} {s : ℕ} {d : Done Answer} → Stepped t s d → d .answer ≡ wait n first end → waiting (d .after) s ≡ wait n first end
+  stepped-waits : {t : Tables} {s : ℕ} {d : Done Answer} → Stepped t s d → d .answer ≡ wait n first end
+      → (waiting (d .after) s ≡ wait n first end) × Stayed t (d .after) s
   stepped-waits (step-refused k r) q = let z : _≡_ {A = ℕ} 0 1 = cc in absurd (omega arith)
-  stepped-waits {s = s} {d = d} (step-accepted e h busy w) q = waits-in (d .after) s n first end (from-phase w q) .1
+  stepped-waits {t} {s} {d} (step-accepted e h busy w) q =
+      let p = waits-in (d .after) s n first end (from-phase w q) in
+      (p .1, stepping-leaves t s (sound-room t s e h) busy w .stayed (p .0))
 
   -- what the answer tells
   module _ (t : Tables) (s : ℕ) (answers : step t s .answer ≡ wait n first end) where
@@ -53,7 +57,7 @@ module _ (n first end : ℕ) where
     u = step t s .after
 
     told : waiting u s ≡ wait n first end
-    told = stepped-waits (stepped t s) answers
+    told = stepped-waits (stepped t s) answers .0
 
     pub at-node : cur u s ≡ n
     at-node = let w = told in cc
@@ -72,6 +76,16 @@ module _ (n first end : ℕ) where
     told-none z =
         let e = at-run ∙ shared-none (claimOf u n) (claimOfSeat u s) z in
         (ap (λ (r : SharedRun). r .first) e, ap (λ (r : SharedRun). r .end) e)
+
+    -- and so it was before the step
+    pub stayed : Stayed t u s
+    stayed = stepped-waits (stepped t s) answers .1
+
+    pub at-node-before : cur t s ≡ n
+    at-node-before = sym (stayed .same-cur) ∙ at-node
+
+    pub told-whole-before : WholeShared (claimOf t n) (claimOfSeat t s) first end
+    told-whole-before = let w = stayed in rw (w .same-nodes, w .same-own) at told-whole
 
 -- ---- a walker that finds an unmarked claim where the comparison gives 0
 module _ (t : Tables) (s : ℕ) (is-sound : sound t ≡ true) (is-seat : s < seatCount t) (p : phase t s ≡ 1) where
