@@ -15,11 +15,15 @@ use Rattle.rules.specs.Comparison.{claim}
 use Rattle.rules.specs.Shape.{lengthsFit, sound, isKind}
 use Rattle.rules.specs.Reach.{countFree}
 use Rattle.rules.specs.Fetch.{fetched, fetch}
-use Rattle.rules.specs.Answers.{Answer, node, out, refused, done}
+use Rattle.rules.specs.Answers.{Answer, node, out, refused, Done, done, answerOf}
 use Rattle.rules.specs.Steps.{leave}
 use Rattle.rules.specs.Calls.{clear, begun, begin, step, release}
+use Rattle.rules.specs.Run.{refusalOf}
 use Rattle.rules.specs.FreeCount.{Counted, freeCount}
+use Rattle.rules.proofs.Laws.Answers.{refused-as}
 use Rattle.rules.proofs.Laws.Shape.{lengths-fit}
+use Rattle.rules.proofs.Rules.Accepting.{answers-from-phase}
+use Rattle.phases.specs.Parts.{unanswered}
 use Rattle.fetch.proofs.Ways.{none-kept}
 use Rattle.claims.specs.Parts.{beginFetching, beginClaim, releaseSeat}
 
@@ -140,3 +144,21 @@ module _ (n t : List ℕ) (s : ℕ) where
     pub count-sound : (k : ℕ) → k ≡ countFree (tables n t) → b ≡ true → Counted.counted k ≡ freeCount (tables n t)
     unfolding freeCount
     count-sound k p e = rw (sym isSound ∙ e, p)
+
+-- ---- step, its tables sound: by the refusal, or 0, that the step itself gives
+module _ (n t n′ t′ : List ℕ) (s r : ℕ) (stepped : done r (tables n′ t′) ≡ unanswered (step (tables n t) s)) where
+  refusal : r ≡ refusalOf (step (tables n t) s .answer)
+  refusal = ap (λ (d : Done ℕ). d .answer) stepped
+
+  after : tables n′ t′ ≡ step (tables n t) s .after
+  after = ap (λ (d : Done ℕ). d .after) stepped
+
+  pub step-answered : (a : Answer) → a ≡ answerOf (tables n′ t′) s → r ≡ 0 → done a (tables n′ t′) ≡ step (tables n t) s
+  step-answered a e z =
+      let said : step (tables n t) s .answer ≡ answerOf (step (tables n t) s .after) s = answers-from-phase (tables n t) s (sym refusal ∙ z) in
+      rw (e, after) (ap (λ (x : Answer). done x (step (tables n t) s .after)) (sym said))
+
+  pub step-turned-away : r ≢ 0 → done (refused r) (tables n′ t′) ≡ step (tables n t) s
+  step-turned-away d =
+      let said : step (tables n t) s .answer ≡ refused (refusalOf (step (tables n t) s .answer)) = refused-as (step (tables n t) s .answer) (λ e. d (refusal ∙ e)) in
+      rw (refusal, after) (ap (λ (x : Answer). done x (step (tables n t) s .after)) (sym said))

@@ -111,11 +111,23 @@ pub fn begin(nodes: &mut [u32], seats: &mut [u32], s: u32, start: u32, end: u32,
 
 // ---- step
 
+// the step, and the answer from the seat's new phase
+fn step_and_answer(nodes: &mut [u32], seats: &mut [u32], s: u32) -> Reply
+    requires { ⌜ sound (tables (now nodes) (now seats)) ≡ true ⌝ }
+    ensures { λ r. ⌜ done (means r) (tables (now (nodes .exit)) (now (seats .exit))) ≡ call.step (tables (now (nodes .entry)) (now (seats .entry))) s ⌝ }
+{
+    let refusal = phases::step_known(nodes, seats, s);
+    if refusal == 0 {
+        return steps::answer(nodes, seats, s);
+    }
+    Reply::Refused(refusal)
+}
+
 pub fn step(nodes: &mut [u32], seats: &mut [u32], s: u32) -> Reply
     ensures { λ r. ⌜ done (means r) (tables (now (nodes .exit)) (now (seats .exit))) ≡ call.step (tables (now (nodes .entry)) (now (seats .entry))) s ⌝ }
 {
     if shape::is_sound(nodes, seats) {
-        return phases::step_known(nodes, seats, s);
+        return step_and_answer(nodes, seats, s);
     }
     Reply::Refused(1)
 }

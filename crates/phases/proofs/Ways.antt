@@ -6,17 +6,21 @@ use mathlib.Core.List.{List, []}
 use mathlib.Core.Logic.{_≢_}
 use native.Mathlib.Omega.{arith}
 use borrow.Author.Tests.{ne-eqb, le-leb, lt-leb}
-use Rattle.rules.specs.Tables.{tables, nodeWord, seatWord, seatCountOf, phaseAt, ownAt, startAt, endAt, kindAt}
+use Rattle.rules.specs.Tables.{Tables, tables, nodeWord, seatWord, seatCountOf, phaseAt, ownAt, startAt, endAt, kindAt}
 use Rattle.rules.specs.Comparison.{claim, claimOf}
 use Rattle.rules.specs.Shape.{sound}
 use Rattle.rules.specs.Fetch.{fetched, fetch}
-use Rattle.rules.specs.Answers.{Answer, held, refused, done, answerOf, answered}
+use Rattle.rules.specs.Answers.{done, answered}
 use Rattle.rules.specs.Steps.{walking, waitingToEnter, validating, readerWaiting, refetched, withdrawn, stepByPhase}
 use Rattle.rules.specs.Calls.{step}
+use Rattle.rules.proofs.Laws.Answers.{answer-accepts}
 use Rattle.rules.proofs.Laws.Shape.{is-sound}
-use Rattle.steps.proofs.Arms.{answered-is}
 use Rattle.fetch.proofs.Ways.{none-kept}
-use Rattle.phases.specs.Parts.{stepBusy}
+use Rattle.phases.specs.Parts.{unanswered, stepBusy}
+
+-- what is answered from a seat's phase is no refusal
+accepted : (u : Tables) (s : ℕ) → done 0 u ≡ unanswered (answered u s)
+accepted u s = rw (answer-accepts u s)
 
 -- ---- phase 6
 module _ (n t n′ t′ : List ℕ) (s x y k a : ℕ) (isFetched : fetched a (tables n′ t′) ≡ fetch (tables n t) s (claim x y k))
@@ -24,13 +28,13 @@ module _ (n t n′ t′ : List ℕ) (s x y k a : ℕ) (isFetched : fetched a (ta
   same-claim : claim x y k ≡ claimOf (tables n t) (seatWord t s ownAt)
   same-claim = rw (isStart, isEnd, isKind′, isOwn)
 
-  pub refetch-none : a ≡ 0 → done (refused 8) (tables n′ t′) ≡ withdrawn (tables n t) s
+  pub refetch-none : a ≡ 0 → done 8 (tables n′ t′) ≡ unanswered (withdrawn (tables n t) s)
   unfolding withdrawn refetched
   refetch-none e = rw (none-kept n t n′ t′ s a (claim x y k) isFetched e, ← same-claim, ← isFetched, e)
 
-  pub refetch-node : (r : Answer) → r ≡ answerOf (tables n′ t′) s → a ≢ 0 → done r (tables n′ t′) ≡ withdrawn (tables n t) s
+  pub refetch-node : a ≢ 0 → done 0 (tables n′ t′) ≡ unanswered (withdrawn (tables n t) s)
   unfolding withdrawn refetched
-  refetch-node r p d = rw (← same-claim, ← isFetched, ne-eqb a 0 d) (answered-is n′ t′ (tables n′ t′) s r p refl)
+  refetch-node d = rw (← same-claim, ← isFetched, ne-eqb a 0 d) (accepted (tables n′ t′) s)
 
 -- ---- by the phase
 no-more : (p : ℕ) → p ≤ 6 → p ≢ 0 → p ≢ 1 → p ≢ 2 → p ≢ 3 → p ≢ 4 → p ≢ 5 → p ≢ 6 → ⊥
@@ -44,45 +48,45 @@ no-more (suc (suc (suc (suc (suc (suc zero)))))) h d0 d1 d2 d3 d4 d5 d6 = d6 ref
 no-more (suc (suc (suc (suc (suc (suc (suc k))))))) h _ _ _ _ _ _ _ = omega arith
 
 module _ (n t : List ℕ) (s p : ℕ) (isPhase : p ≡ seatWord t s phaseAt) where
-  pub step-idle : p ≡ 0 → done (refused 6) (tables n t) ≡ stepBusy (tables n t) s
+  pub step-idle : p ≡ 0 → done 6 (tables n t) ≡ unanswered (stepBusy (tables n t) s)
   step-idle e = rw (sym isPhase ∙ e)
 
-  pub step-five : p ≡ 5 → done held (tables n t) ≡ stepBusy (tables n t) s
-  unfolding stepByPhase answerOf
-  step-five e = rw (sym isPhase ∙ e)
+  pub step-five : p ≡ 5 → done 0 (tables n t) ≡ unanswered (stepBusy (tables n t) s)
+  unfolding stepByPhase
+  step-five e = rw (sym isPhase ∙ e) (accepted (tables n t) s)
 
   -- no other phase is sound
-  pub step-none : sound (tables n t) ≡ true → p ≢ 0 → p ≢ 1 → p ≢ 2 → p ≢ 3 → p ≢ 4 → p ≢ 5 → p ≢ 6 → done (refused 1) (tables n t) ≡ stepBusy (tables n t) s
+  pub step-none : sound (tables n t) ≡ true → p ≢ 0 → p ≢ 1 → p ≢ 2 → p ≢ 3 → p ≢ 4 → p ≢ 5 → p ≢ 6 → done 1 (tables n t) ≡ unanswered (stepBusy (tables n t) s)
   step-none z d0 d1 d2 d3 d4 d5 d6 = absurd (no-more p (rw isPhase (is-sound (tables n t) z .seat s .phase-small)) d0 d1 d2 d3 d4 d5 d6)
 
-  module _ (t′ : List ℕ) (r : Answer) where
-    pub step-two : done r (tables n t′) ≡ answered (waitingToEnter (tables n t) s) s → p ≡ 2 → done r (tables n t′) ≡ stepBusy (tables n t) s
+  module _ (t′ : List ℕ) where
+    pub step-two : tables n t′ ≡ waitingToEnter (tables n t) s → p ≡ 2 → done 0 (tables n t′) ≡ unanswered (stepBusy (tables n t) s)
     unfolding stepByPhase
-    step-two w e = rw (sym isPhase ∙ e) w
+    step-two w e = rw (sym isPhase ∙ e, w) (accepted (waitingToEnter (tables n t) s) s)
 
-    pub step-four : done r (tables n t′) ≡ answered (readerWaiting (tables n t) s) s → p ≡ 4 → done r (tables n t′) ≡ stepBusy (tables n t) s
+    pub step-four : tables n t′ ≡ readerWaiting (tables n t) s → p ≡ 4 → done 0 (tables n t′) ≡ unanswered (stepBusy (tables n t) s)
     unfolding stepByPhase
-    step-four w e = rw (sym isPhase ∙ e) w
+    step-four w e = rw (sym isPhase ∙ e, w) (accepted (readerWaiting (tables n t) s) s)
 
     module _ (n′ : List ℕ) where
-      pub step-one : done r (tables n′ t′) ≡ answered (walking (tables n t) s) s → p ≡ 1 → done r (tables n′ t′) ≡ stepBusy (tables n t) s
+      pub step-one : tables n′ t′ ≡ walking (tables n t) s → p ≡ 1 → done 0 (tables n′ t′) ≡ unanswered (stepBusy (tables n t) s)
       unfolding stepByPhase
-      step-one w e = rw (sym isPhase ∙ e) w
+      step-one w e = rw (sym isPhase ∙ e, w) (accepted (walking (tables n t) s) s)
 
-      pub step-three : done r (tables n′ t′) ≡ answered (validating (tables n t) s) s → p ≡ 3 → done r (tables n′ t′) ≡ stepBusy (tables n t) s
+      pub step-three : tables n′ t′ ≡ validating (tables n t) s → p ≡ 3 → done 0 (tables n′ t′) ≡ unanswered (stepBusy (tables n t) s)
       unfolding stepByPhase
-      step-three w e = rw (sym isPhase ∙ e) w
+      step-three w e = rw (sym isPhase ∙ e, w) (accepted (validating (tables n t) s) s)
 
-      pub step-six : done r (tables n′ t′) ≡ withdrawn (tables n t) s → p ≡ 6 → done r (tables n′ t′) ≡ stepBusy (tables n t) s
+      pub step-six : (r : ℕ) → done r (tables n′ t′) ≡ unanswered (withdrawn (tables n t) s) → p ≡ 6 → done r (tables n′ t′) ≡ unanswered (stepBusy (tables n t) s)
       unfolding stepByPhase
-      step-six w e = rw (sym isPhase ∙ e) w
+      step-six r w e = rw (sym isPhase ∙ e) w
 
 -- ---- the call, its tables sound
 module _ (n t : List ℕ) (s c : ℕ) (isCount : c ≡ seatCountOf t) (isSound : sound (tables n t) ≡ true) where
-  pub step-past : c ≤ s → done (refused 2) (tables n t) ≡ step (tables n t) s
+  pub step-past : c ≤ s → done 2 (tables n t) ≡ unanswered (step (tables n t) s)
   unfolding step
   step-past h = rw (isSound, ← isCount, le-leb c s h)
 
-  pub step-seat : (n′ t′ : List ℕ) (r : Answer) → done r (tables n′ t′) ≡ stepBusy (tables n t) s → s < c → done r (tables n′ t′) ≡ step (tables n t) s
+  pub step-seat : (n′ t′ : List ℕ) (r : ℕ) → done r (tables n′ t′) ≡ unanswered (stepBusy (tables n t) s) → s < c → done r (tables n′ t′) ≡ unanswered (step (tables n t) s)
   unfolding step
   step-seat n′ t′ r w h = rw (isSound, ← isCount, lt-leb c s h) w

@@ -12,7 +12,7 @@ use lib.Dec.{eqb, leb}
 use borrow.Author.Tests.{ne-eqb, eq-eqb, eqb-true, eqb-false, leb-true, leb-false, not-true, not-false}
 use Rattle.rules.specs.Tables.{Tables, tables, seatWord, nodeCountOf, seatCountOf, linkWord, phaseAt, phase}
 use Rattle.rules.specs.Shape.{nodesFit, seatsFit, lengthsFit, sound}
-use Rattle.rules.specs.Answers.{Answer, refused, Done, done}
+use Rattle.rules.specs.Answers.{refused, Done, done}
 use Rattle.rules.specs.Calls.{step}
 use Rattle.rules.specs.Run.{ran, refusalOf, oneMore, runSteps, run}
 use Rattle.rules.specs.declared.Ran.{Ran}
@@ -22,6 +22,7 @@ use Rattle.rules.proofs.Laws.Shape.{is-sound, lengths-fit-is}
 use Rattle.rules.proofs.Rules.RefusedExactly.{refused-step-keeps}
 use Rattle.rules.proofs.Soundness.SoundKept.{step-keeps-sound}
 use Rattle.shape.specs.Parts.{listEnds}
+use Rattle.phases.specs.Parts.{unanswered}
 use Rattle.phases.proofs.Ways.{step-past}
 use Rattle.rules.proofs.Laws.NodesAlone.{ends-alone}
 use Rattle.run.specs.Parts.{keptSound, stopAtDamage}
@@ -79,13 +80,13 @@ module _ (schedule : List ℕ) (budget : ℕ) (whole : Done Ran) (n t : List ℕ
       rw (e, drop-cons schedule k 0 i, ← add-one k)
 
   -- the entry is stepped
-  module _ (n′ t′ : List ℕ) (k s r : ℕ) (a : Answer) (left : Left k) (stepped : done a (tables n′ t′) ≡ step (tables n t) s) (isRefusal : r ≡ refusalOf a)
+  module _ (n′ t′ : List ℕ) (k s r : ℕ) (left : Left k) (stepped : done r (tables n′ t′) ≡ unanswered (step (tables n t) s))
       (isEntry : s ≡ getD schedule k 0) (h : k < budget) (i : k < length schedule) where
     refusal : r ≡ refusalOf (step (tables n t) s .answer)
-    refusal = isRefusal ∙ ap (λ (x : Done Answer). refusalOf (x .answer)) stepped
+    refusal = ap (λ (x : Done ℕ). x .answer) stepped
 
     after : tables n′ t′ ≡ step (tables n t) s .after
-    after = ap (λ (x : Done Answer). x .after) stepped
+    after = ap (λ (x : Done ℕ). x .after) stepped
 
     pub left-again : r ≡ 0 → plus (k + 1) (runSteps (budget - (k + 1)) (tables n′ t′) (drop (k + 1) schedule)) ≡ whole
     left-again e =
@@ -105,7 +106,7 @@ module _ (schedule : List ℕ) (budget : ℕ) (whole : Done Ran) (n t : List ℕ
   -- there is no such seat
   pub left-past : (k s c : ℕ) → Left k → sound (tables n t) ≡ true → c ≡ seatCountOf t → c ≤ s → s ≡ getD schedule k 0 → k < budget → k < length schedule
       → done (ran k 2) (tables n t) ≡ whole
-  left-past k s c l e p h q i j = left-refused n t k s 2 (refused 2) l (step-past n t s c p e h) refl q i j (omega arith)
+  left-past k s c l e p h q i j = left-refused n t k s 2 l (step-past n t s c p e h) q i j (omega arith)
 
   pub left-budget : (k : ℕ) → Left k → k ≡ budget → done (ran k 0) (tables n t) ≡ whole
   left-budget k l e =
@@ -170,14 +171,14 @@ still-fit n n′ t e l =
     (and-left (nodesFit (tables n t)) (seatsFit (tables n t)) (lengths-fit-is (tables n t) (is-sound (tables n t) e)))
 
 -- of the tables after a step on sound ones
-module _ (n n′ t t′ : List ℕ) (s before after : ℕ) (a : Answer) (k : Bool) (stepped : done a (tables n′ t′) ≡ step (tables n t) s) (isBefore : before ≡ seatWord t s phaseAt)
+module _ (n n′ t t′ : List ℕ) (s before after r : ℕ) (k : Bool) (stepped : done r (tables n′ t′) ≡ unanswered (step (tables n t) s)) (isBefore : before ≡ seatWord t s phaseAt)
     (isAfter : after ≡ seatWord t′ s phaseAt) (isKept : k ≡ keptSound (tables n′ []) before after) where
   alone : listEnds (tables n′ []) ≡ listEnds (tables n′ t′)
   alone = ends-alone (nodeCountOf n′) n′ t′ (linkWord n′ 0)
 
   pub still-sound : not k ≡ false → sound (tables n t) ≡ true → sound (tables n′ t′) ≡ true
   still-sound e was =
-      let u : tables n′ t′ ≡ step (tables n t) s .after = ap (λ (x : Done Answer). x .after) stepped in
+      let u : tables n′ t′ ≡ step (tables n t) s .after = ap (λ (x : Done ℕ). x .after) stepped in
       let new : after ≡ phase (step (tables n t) s .after) s = isAfter ∙ ap (λ (x : Tables). phase x s) u in
       rw u (step-keeps-sound (tables n t) s was (λ x y.
       let linked : keptSound (tables n′ []) before after ≡ listEnds (tables n′ []) = rw (eq-eqb before 1 (isBefore ∙ x), eq-eqb after 3 (new ∙ y)) in

@@ -6,26 +6,9 @@ ghost use Prim.Native.Nat.{_≤_};
 ghost use Rattle.rules.specs.Tables.{tables};
 ghost use Rattle.rules.specs.Shape.{nodesFit, sound};
 ghost use Rattle.rules.specs.Answers.{done};
-ghost use Rattle.rules.specs.Means.{means};
 ghost use Rattle.rules.specs.Run as rule;
 ghost use Rattle.run.specs.Parts as part;
 use rules::Ran;
-use rules::Reply;
-
-// the number of a refusal, 0 of any other answer
-fn refusal_of(reply: Reply) -> u32
-    ensures { λ r. ⌜ r ≡ rule.refusalOf (means reply) ⌝ }
-{
-    match reply {
-        Reply::Refused(number) => number,
-        Reply::Node(_) => 0,
-        Reply::Out => 0,
-        Reply::On => 0,
-        Reply::Wait(_, _, _) => 0,
-        Reply::Held => 0,
-        Reply::Back => 0,
-    }
-}
 
 // After an accepted step by which a seat's phase changed from one to the other. Only the step that links own in, from phase 1 to 3, can
 // leave sound tables damaged, and then it is their list that does not end: no other word is looked at again.
@@ -84,8 +67,7 @@ fn run_steps(nodes: &mut [u32], seats: &mut [u32], schedule: &[u32], budget: u32
             };
         }
         let before = words::seat_word_within(seats, s, words::PHASE);
-        let reply = phases::step_known(nodes, seats, s);
-        let refusal = refusal_of(reply);
+        let refusal = phases::step_known(nodes, seats, s);
         if refusal != 0 {
             break Ran {
                 steps: steps,

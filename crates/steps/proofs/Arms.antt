@@ -15,7 +15,7 @@ use borrow.Author.Tests.{eq-eqb, ne-eqb}
 use Rattle.rules.specs.Tables.{Tables, tables, seatWidth, seatCountOf, nodeWord, putNode, linkWord, seatWord, putSeat, clearWords, kindAt, markAt, startAt, endAt, phaseAt, ownAt, prevAt, curAt, countWord, setCount, phase}
 use Rattle.rules.specs.Shape.{sound}
 use Rattle.rules.specs.Comparison.{claimOf, compare, shared}
-use Rattle.rules.specs.Answers.{Answer, on, wait, held, back, done, waiting, answerOf, answered}
+use Rattle.rules.specs.Answers.{Answer, on, wait, held, back, waiting, answerOf}
 use Rattle.rules.specs.Steps.{moveTo, joined, unlink, pass, linkIn, startValidating, lookAgain, insert, kindOf, hold, withdraw, leave, walking, waitingToEnter, readerValidating, writerValidating, validating, readerWaiting}
 use Rattle.rules.specs.declared.SharedRun.{SharedRun}
 use Rattle.rules.proofs.Laws.Answers.{answers-wait, answers-held, answers-back}
@@ -231,6 +231,15 @@ module _ (n t t′ : List ℕ) (s c o : ℕ) (r : ℤ) where
   walk-after w d e q pc po =
       w ∙ sym (rw (way q pc po) (above-zero r _ _ _ (rw q (compare-fits (claimOf (tables n []) c) (claimOf (tables n []) o))) d e))
 
+-- ---- waiting, of both kinds
+pub enter-is : (n t t′ : List ℕ) (s : ℕ) → tables n t′ ≡ wakeTo 1 (tables n t) s → tables n t′ ≡ waitingToEnter (tables n t) s
+unfolding wakeTo waitingToEnter
+enter-is n t t′ s w = w
+
+pub reader-is : (n t t′ : List ℕ) (s : ℕ) → tables n t′ ≡ wakeTo 3 (tables n t) s → tables n t′ ≡ readerWaiting (tables n t) s
+unfolding wakeTo readerWaiting
+reader-is n t t′ s w = w
+
 -- ---- the answer
 module _ (n t : List ℕ) (s : ℕ) where
   pub waiting-is : (o c : ℕ) (r : SharedRun) → r ≡ shared (claimOf (tables n []) c) (claimOf (tables n []) o) → c ≡ seatWord t s curAt → o ≡ seatWord t s ownAt
@@ -250,14 +259,3 @@ module _ (n t : List ℕ) (s : ℕ) where
     pub answer-on : ((p ≡ 2) ⊎ (p ≡ 4) → ⊥) → p ≢ 5 → p ≢ 6 → on ≡ answerOf (tables n t) s
     unfolding answerOf
     answer-on w d e = rw (← isPhase, ne-eqb p 2 (λ q. w (inl q)), ne-eqb p 4 (λ q. w (inr q)), ne-eqb p 5 d, ne-eqb p 6 e)
-
-pub answered-is : (n′ t′ : List ℕ) (u : Tables) (s : ℕ) (a : Answer) → a ≡ answerOf (tables n′ t′) s → tables n′ t′ ≡ u → done a (tables n′ t′) ≡ answered u s
-answered-is n′ t′ u s a p w = rw (p, w)
-
-pub enter-is : (n t t′ : List ℕ) (s : ℕ) (a : Answer) → a ≡ answerOf (tables n t′) s → tables n t′ ≡ wakeTo 1 (tables n t) s → done a (tables n t′) ≡ answered (waitingToEnter (tables n t) s) s
-unfolding wakeTo waitingToEnter
-enter-is n t t′ s a p w = answered-is n t′ (waitingToEnter (tables n t) s) s a p w
-
-pub wait-is : (n t t′ : List ℕ) (s : ℕ) (a : Answer) → a ≡ answerOf (tables n t′) s → tables n t′ ≡ wakeTo 3 (tables n t) s → done a (tables n t′) ≡ answered (readerWaiting (tables n t) s) s
-unfolding wakeTo readerWaiting
-wait-is n t t′ s a p w = answered-is n t′ (readerWaiting (tables n t) s) s a p w

@@ -1,5 +1,5 @@
-// The step rules, one small function for each: what a step does in phases 1 to 5, the answer from the seat's new phase, and
-// release. The promise of each is the rule's definition over both tables. Those that move a count ask for sound tables, in which one more and
+// The step rules, one small function for each: what a step does in phases 1 to 5, release, and the answer from the seat's new phase, which a run does
+// without. The promise of each is the rule's definition over both tables. Those that move a count ask for sound tables, in which one more and
 // one less are still counts; the others are total.
 ghost use mathlib.Core.Path.{_≡_};
 ghost use mathlib.Core.Bool.{true};
@@ -7,7 +7,7 @@ ghost use mathlib.Core.List.{[]};
 ghost use Prim.Native.Nat.{_<_};
 ghost use Rattle.rules.specs.Tables.{tables, seatCountOf, phase};
 ghost use Rattle.rules.specs.Shape.{sound};
-ghost use Rattle.rules.specs.Answers.{done, waiting as answer·waiting, answerOf, answered};
+ghost use Rattle.rules.specs.Answers.{waiting as answer·waiting, answerOf};
 ghost use Rattle.rules.specs.Means.{means};
 ghost use Rattle.rules.specs.Steps as rule;
 ghost use Rattle.steps.specs.Parts as part;
@@ -162,7 +162,7 @@ fn walk_by_comparison(nodes: &mut [u32], seats: &mut [u32], s: u32)
     pass(nodes, seats, s);
 }
 
-fn walk(nodes: &mut [u32], seats: &mut [u32], s: u32)
+pub fn walk(nodes: &mut [u32], seats: &mut [u32], s: u32)
     ensures { λ r. ⌜ tables (now (nodes .exit)) (now (seats .exit)) ≡ rule.walking (tables (now (nodes .entry)) (now (seats .entry))) s ⌝ }
 {
     let cur = words::seat_word(seats, s, words::CUR);
@@ -187,6 +187,18 @@ fn wake(nodes: &[u32], seats: &mut [u32], s: u32, to: u32)
     if words::node_word(nodes, cur, words::MARK) == 1 {
         words::put_seat(seats, s, words::PHASE, to);
     }
+}
+
+pub fn wait_to_enter(nodes: &[u32], seats: &mut [u32], s: u32)
+    ensures { λ r. ⌜ tables (now (nodes .entry)) (now (seats .exit)) ≡ rule.waitingToEnter (tables (now (nodes .entry)) (now (seats .entry))) s ⌝ }
+{
+    wake(nodes, seats, s, 1);
+}
+
+pub fn wait_as_reader(nodes: &[u32], seats: &mut [u32], s: u32)
+    ensures { λ r. ⌜ tables (now (nodes .entry)) (now (seats .exit)) ≡ rule.readerWaiting (tables (now (nodes .entry)) (now (seats .entry))) s ⌝ }
+{
+    wake(nodes, seats, s, 3);
 }
 
 // ---- phase 3, a reader
@@ -281,7 +293,7 @@ fn validate_writer(nodes: &mut [u32], seats: &mut [u32], s: u32)
     write_on(nodes, seats, s);
 }
 
-fn validate(nodes: &mut [u32], seats: &mut [u32], s: u32)
+pub fn validate(nodes: &mut [u32], seats: &mut [u32], s: u32)
     requires { ⌜ sound (tables (now nodes) (now seats)) ≡ true ⌝ }
     ensures { λ r. ⌜ tables (now (nodes .exit)) (now (seats .exit)) ≡ rule.validating (tables (now (nodes .entry)) (now (seats .entry))) s ⌝ }
 {
@@ -291,61 +303,6 @@ fn validate(nodes: &mut [u32], seats: &mut [u32], s: u32)
         return;
     }
     validate_writer(nodes, seats, s);
-}
-
-// ---- the answer from the seat's new phase
-
-// where the seat waits, and for which frames: what the claim there and its own share
-fn waiting(nodes: &[u32], seats: &[u32], s: u32) -> Reply
-    ensures { λ r. ⌜ means r ≡ answer·waiting (tables (now (nodes .entry)) (now (seats .entry))) s ⌝ }
-{
-    let own = words::seat_word(seats, s, words::OWN);
-    let cur = words::seat_word(seats, s, words::CUR);
-    let run = comparison::shared_by_nodes(nodes, cur, own);
-    Reply::Wait(cur, run.first, run.end)
-}
-
-pub fn answer(nodes: &[u32], seats: &[u32], s: u32) -> Reply
-    ensures { λ r. ⌜ means r ≡ answerOf (tables (now (nodes .entry)) (now (seats .entry))) s ⌝ }
-{
-    let phase = words::seat_word(seats, s, words::PHASE);
-    match phase {
-        2 | 4 => waiting(nodes, seats, s),
-        5 => Reply::Held,
-        6 => Reply::Back,
-        _ => Reply::On,
-    }
-}
-
-// ---- the arms of a step
-
-pub fn step_walking(nodes: &mut [u32], seats: &mut [u32], s: u32) -> Reply
-    ensures { λ r. ⌜ done (means r) (tables (now (nodes .exit)) (now (seats .exit))) ≡ answered (rule.walking (tables (now (nodes .entry)) (now (seats .entry))) s) s ⌝ }
-{
-    walk(nodes, seats, s);
-    answer(nodes, seats, s)
-}
-
-pub fn step_waiting_to_enter(nodes: &[u32], seats: &mut [u32], s: u32) -> Reply
-    ensures { λ r. ⌜ done (means r) (tables (now (nodes .entry)) (now (seats .exit))) ≡ answered (rule.waitingToEnter (tables (now (nodes .entry)) (now (seats .entry))) s) s ⌝ }
-{
-    wake(nodes, seats, s, 1);
-    answer(nodes, seats, s)
-}
-
-pub fn step_validating(nodes: &mut [u32], seats: &mut [u32], s: u32) -> Reply
-    requires { ⌜ sound (tables (now nodes) (now seats)) ≡ true ⌝ }
-    ensures { λ r. ⌜ done (means r) (tables (now (nodes .exit)) (now (seats .exit))) ≡ answered (rule.validating (tables (now (nodes .entry)) (now (seats .entry))) s) s ⌝ }
-{
-    validate(nodes, seats, s);
-    answer(nodes, seats, s)
-}
-
-pub fn step_reader_waiting(nodes: &[u32], seats: &mut [u32], s: u32) -> Reply
-    ensures { λ r. ⌜ done (means r) (tables (now (nodes .entry)) (now (seats .exit))) ≡ answered (rule.readerWaiting (tables (now (nodes .entry)) (now (seats .entry))) s) s ⌝ }
-{
-    wake(nodes, seats, s, 3);
-    answer(nodes, seats, s)
 }
 
 // ---- release
@@ -370,4 +327,28 @@ pub fn leave(nodes: &mut [u32], seats: &mut [u32], s: u32)
     let count = words::count_word(nodes, kind);
     mark_and_clear(nodes, seats, s);
     words::put_count(nodes, kind, count - 1);
+}
+
+// ---- the answer from the seat's new phase
+
+// where the seat waits, and for which frames: what the claim there and its own share
+fn waiting(nodes: &[u32], seats: &[u32], s: u32) -> Reply
+    ensures { λ r. ⌜ means r ≡ answer·waiting (tables (now (nodes .entry)) (now (seats .entry))) s ⌝ }
+{
+    let own = words::seat_word(seats, s, words::OWN);
+    let cur = words::seat_word(seats, s, words::CUR);
+    let run = comparison::shared_by_nodes(nodes, cur, own);
+    Reply::Wait(cur, run.first, run.end)
+}
+
+pub fn answer(nodes: &[u32], seats: &[u32], s: u32) -> Reply
+    ensures { λ r. ⌜ means r ≡ answerOf (tables (now (nodes .entry)) (now (seats .entry))) s ⌝ }
+{
+    let phase = words::seat_word(seats, s, words::PHASE);
+    match phase {
+        2 | 4 => waiting(nodes, seats, s),
+        5 => Reply::Held,
+        6 => Reply::Back,
+        _ => Reply::On,
+    }
 }

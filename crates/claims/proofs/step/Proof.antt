@@ -8,8 +8,8 @@ use Rattle.claims.proofs.step.Tie as tie
 is-sound-requires : tie.Need-is-sound-requires
 is-sound-requires c κs = search needs
 
-step-known-requires : tie.Need-step-known-requires
-step-known-requires c κs = search now-sound
+step-and-answer-requires : tie.Need-step-and-answer-requires
+step-and-answer-requires c κs = search now-sound
 
 same-length : tie.Need-same-length
 same-length c = search needs
@@ -34,7 +34,7 @@ step-spec =
     tie.close
     (tie.spec
     is-sound-requires
-    step-known-requires
+    step-and-answer-requires
     same-length
     same-length-2
     returns

@@ -7,20 +7,20 @@ use Rattle.phases.proofs.step_by_phase.Tie as tie
 seat-word-requires : tie.Need-seat-word-requires
 seat-word-requires c κs = search needs
 
-step-walking-requires : tie.Need-step-walking-requires
-step-walking-requires c κs = search needs
+walk-requires : tie.Need-walk-requires
+walk-requires c κs = search needs
 
-step-waiting-to-enter-requires : tie.Need-step-waiting-to-enter-requires
-step-waiting-to-enter-requires c κs = search needs
+wait-to-enter-requires : tie.Need-wait-to-enter-requires
+wait-to-enter-requires c κs = search needs
 
-step-validating-requires : tie.Need-step-validating-requires
-step-validating-requires c κs = search needs
+validate-requires : tie.Need-validate-requires
+validate-requires c κs = search needs
 
-step-reader-waiting-requires : tie.Need-step-reader-waiting-requires
-step-reader-waiting-requires c κs = search needs
+wait-as-reader-requires : tie.Need-wait-as-reader-requires
+wait-as-reader-requires c κs = search needs
 
-step-withdrawn-requires : tie.Need-step-withdrawn-requires
-step-withdrawn-requires c κs = search needs
+fetch-again-requires : tie.Need-fetch-again-requires
+fetch-again-requires c κs = search needs
 
 same-length : tie.Need-same-length
 same-length c = search needs
@@ -90,11 +90,11 @@ step-by-phase-spec =
     tie.close
     (tie.spec
     seat-word-requires
-    step-walking-requires
-    step-waiting-to-enter-requires
-    step-validating-requires
-    step-reader-waiting-requires
-    step-withdrawn-requires
+    walk-requires
+    wait-to-enter-requires
+    validate-requires
+    wait-as-reader-requires
+    fetch-again-requires
     same-length
     returns
     same-length-2

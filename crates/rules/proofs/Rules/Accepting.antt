@@ -1,6 +1,6 @@
 -- Why a call is refused, or what is known where it is accepted. Over any tables and numbers.
 use Prim.Native.Nat.{ℕ, _≤_, _<_}
-use mathlib.Core.Path.{_≡_}
+use mathlib.Core.Path.{_≡_, refl}
 use mathlib.Core.Bool.{true, false, not}
 use mathlib.Core.Logic.{_≢_}
 use native.Mathlib.Omega.{arith}
@@ -10,15 +10,16 @@ use Rattle.rules.specs.Tables.{Tables, seatCount, title, phase}
 use Rattle.rules.specs.Comparison.{Claim}
 use Rattle.rules.specs.Shape.{sound, isKind}
 use Rattle.rules.specs.Fetch.{Fetched}
-use Rattle.rules.specs.Answers.{Answer, node, refused, out, Done, done}
-use Rattle.rules.specs.Steps.{leave, stepByPhase}
+use Rattle.rules.specs.Answers.{Answer, node, refused, out, Done, done, answerOf}
+use Rattle.rules.specs.Steps.{leave, refetched, stepByPhase}
 use Rattle.rules.specs.Calls.{noSeat, begun, begin, step, release}
+use Rattle.rules.specs.Run.{refusalOf}
 use Rattle.rules.specs.Play.{Call, beginCall, stepCall, releaseCall}
 use Rattle.rules.proofs.Ground.Logic.{branch, not-true, or-neither}
 use Rattle.rules.proofs.Laws.Shape.{is-kind}
 use Rattle.rules.specs.Refusing.{HasSeat, Proper, WithinTitle, Refuses, damaged, no-seat, no-frames, beyond-title, no-kind, not-idle, idle, not-holding, none-to-begin, none-again}
 use Rattle.rules.specs.Title.{BeginsBeyond, begins-beyond}
-use Rattle.rules.proofs.Rules.Reasons.{Fetching, fetching, Stepping, steps}
+use Rattle.rules.proofs.Rules.Reasons.{Fetching, fetching, Stepping, in-1, in-2, in-3, in-4, in-6, at-rest, steps}
 
 -- what a refusal's number tells: it is never 0, 1 only for damaged tables, and 11 only of a begin that ends beyond the title
 pub record Tells (t : Tables) (c : Call) (number : ℕ) : Type 0 where
@@ -96,6 +97,30 @@ stepped t s =
     branch (Stepped t s) (phase t s is 0)
     (λ e. step-refused 6 (idle has (eqb-true (phase t s) 0 e)))
     (λ e. step-accepted (has .is-sound) (has .is-seat) (eqb-false (phase t s) 0 e) (steps t s)))
+
+-- what an accepted step answers is said from the seat's new phase
+module _ (t : Tables) (s : ℕ) where
+  abbrev FromPhase : Done Answer → Type 0
+  FromPhase d = refusalOf (d .answer) ≡ 0 → d .answer ≡ answerOf (d .after) s
+
+  refetched-from-phase : (f : Fetched) → FromPhase (refetched t s f)
+  unfolding refetched
+  refetched-from-phase f = branch FromPhase (f .node is 0) (λ e q. absurd (omega arith)) (λ e q. refl)
+
+  stepping-from-phase : {d : Done Answer} → Stepping t s d → FromPhase d
+  stepping-from-phase (in-1 e w) q = refl
+  stepping-from-phase (in-2 e w) q = refl
+  stepping-from-phase (in-3 e w) q = refl
+  stepping-from-phase (in-4 e w) q = refl
+  stepping-from-phase (in-6 {f = f} e w) q = refetched-from-phase f q
+  stepping-from-phase (at-rest a b c d e) q = refl
+
+  stepped-from-phase : {d : Done Answer} → Stepped t s d → FromPhase d
+  stepped-from-phase (step-refused number r) q = absurd (refusal-tells r .not-0 q)
+  stepped-from-phase (step-accepted e h b w) q = stepping-from-phase w q
+
+  pub answers-from-phase : refusalOf (step t s .answer) ≡ 0 → step t s .answer ≡ answerOf (step t s .after) s
+  answers-from-phase = stepped-from-phase (stepped t s)
 
 pub data Releasing (t : Tables) (s : ℕ) : Done Answer → Type 0 where
   release-refused : (number : ℕ) → Refuses t (releaseCall s) number → Releasing t s (done (refused number) t)

@@ -3,89 +3,80 @@
 use Prim.Native.Nat.{ℕ, _<_}
 use mathlib.Core.Path.{_≡_, sym, ap, _∙_}
 use mathlib.Core.Bool.{true}
-use mathlib.Core.Logic.{_≢_, inl}
+use mathlib.Core.Logic.{_≢_, _⊎_, inl}
 use native.Mathlib.Omega.{arith}
 use lib.IntN.{pos}
 use borrow.Author.Tests.{ne-eqb}
-use Rattle.rules.specs.Notation.{_is_}
 use Rattle.rules.specs.Tables.{Tables, phaseAt, ownAt, curAt, seatCount, mark, phase, own, cur, setPhase}
 use Rattle.rules.specs.Comparison.{claimOf, compare, sharedRun, shared}
 use Rattle.rules.specs.Shape.{sound}
-use Rattle.rules.specs.Fetch.{Fetched}
 use Rattle.rules.specs.Answers.{Answer, wait, Done, done, sharedAtCur, waiting, answerOf, answered}
-use Rattle.rules.specs.Steps.{walking, refetched}
+use Rattle.rules.specs.Steps.{walking}
 use Rattle.rules.specs.Calls.{step}
+use Rattle.rules.specs.Run.{refusalOf}
 use Rattle.rules.specs.Apart.{claimOfSeat}
 use Rattle.rules.specs.Shared.{WholeShared, NoneShared}
 use Rattle.rules.specs.declared.SharedRun.{SharedRun}
-use Rattle.rules.proofs.Ground.Logic.{branch}
 use Rattle.rules.proofs.Laws.SharedRuns.{shared-whole, shared-none}
 use Rattle.rules.proofs.Laws.Answers.{answers-wait, waits-in}
 use Rattle.rules.proofs.Rules.RuleEffects.{phase-stored}
-use Rattle.rules.proofs.Rules.Reasons.{Stepping, in-1, in-2, in-3, in-4, in-6, at-rest, by-phase-1}
-use Rattle.rules.proofs.Rules.Accepting.{Stepped, step-refused, step-accepted, stepped, step-is}
+use Rattle.rules.proofs.Rules.Reasons.{by-phase-1}
+use Rattle.rules.proofs.Rules.Accepting.{Stepped, step-refused, step-accepted, stepped, answers-from-phase, step-is}
 use Rattle.rules.proofs.Frames.SeatFrames.{sound-room}
 use Rattle.rules.proofs.Frames.AfterStep.{Stayed, stepping-leaves}
 
--- ---- an accepted step that answers `wait` answers so from the seat's new phase
-module _ (n first end : ℕ) where
-  refetched-from-phase : (t : Tables) (s : ℕ) (f : Fetched) → refetched t s f .answer ≡ wait n first end → answerOf (refetched t s f .after) s ≡ wait n first end
-  unfolding refetched
-  refetched-from-phase t s f =
-      branch (λ (d : Done Answer). d .answer ≡ wait n first end → answerOf (d .after) s ≡ wait n first end) (f .node is 0)
-      (λ e q. let z : _≡_ {A = ℕ} 0 1 = cc in absurd (omega arith))
-      (λ e q. q)
+module _ (n first end : ℕ) (t : Tables) (s : ℕ) (answers : step t s .answer ≡ wait n first end) where
+  abbrev u : Tables
+  u = step t s .after
 
-  pub from-phase : {t : Tables} {s : ℕ} {d : Done Answer} → Stepping t s d → d .answer ≡ wait n first end → answerOf (d .after) s ≡ wait n first end
-  from-phase (in-1 e w) q = q
-  from-phase (in-2 e w) q = q
-  from-phase (in-3 e w) q = q
-  from-phase (in-4 e w) q = q
-  from-phase {t} {s} (in-6 {f = f} e w) q = refetched-from-phase t s f q
-  from-phase (at-rest a b c d e) q = q
+  -- ---- it is answered from the seat's new phase
+  from-phase : answerOf u s ≡ wait n first end
+  from-phase = sym (answers-from-phase t s (ap refusalOf answers)) ∙ answers
 
-  stepped-waits : {t : Tables} {s : ℕ} {d : Done Answer} → Stepped t s d → d .answer ≡ wait n first end
-      → (waiting (d .after) s ≡ wait n first end) × Stayed t (d .after) s
-  stepped-waits (step-refused k r) q = let z : _≡_ {A = ℕ} 0 1 = cc in absurd (omega arith)
-  stepped-waits {t} {s} {d} (step-accepted e h busy w) q =
-      let p = waits-in (d .after) s n first end (from-phase w q) in
-      (p .1, stepping-leaves t s (sound-room t s e h) busy w .stayed (p .0))
+  pub waits : (phase u s ≡ 2) ⊎ (phase u s ≡ 4)
+  waits = waits-in u s n first end from-phase .0
 
-  -- what the answer tells
-  module _ (t : Tables) (s : ℕ) (answers : step t s .answer ≡ wait n first end) where
-    abbrev u : Tables
-    u = step t s .after
+  told : waiting u s ≡ wait n first end
+  told = waits-in u s n first end from-phase .1
 
-    told : waiting u s ≡ wait n first end
-    told = stepped-waits (stepped t s) answers .0
+  -- ---- what the answer tells
+  pub at-node : cur u s ≡ n
+  at-node = let w = told in cc
 
-    pub at-node : cur u s ≡ n
-    at-node = let w = told in cc
+  pub from-first : sharedAtCur u s .first ≡ first
+  from-first = let w = told in cc
 
-    at-run : sharedRun first end ≡ shared (claimOf u n) (claimOfSeat u s)
-    at-run =
-        let w = told in
-        let from : sharedAtCur u s .first ≡ first = cc in
-        let to : sharedAtCur u s .end ≡ end = cc in
-        rw (← from, ← to, ← at-node)
+  pub up-to-end : sharedAtCur u s .end ≡ end
+  up-to-end = let w = told in cc
 
-    pub told-whole : WholeShared (claimOf u n) (claimOfSeat u s) first end
-    told-whole = let e = at-run in rw (ap (λ (r : SharedRun). r .first) e, ap (λ (r : SharedRun). r .end) e) (shared-whole (claimOf u n) (claimOfSeat u s))
+  at-run : sharedRun first end ≡ shared (claimOf u n) (claimOfSeat u s)
+  at-run = rw (← from-first, ← up-to-end, ← at-node)
 
-    pub told-none : NoneShared (claimOf u n) (claimOfSeat u s) → (first ≡ 0) × (end ≡ 0)
-    told-none z =
-        let e = at-run ∙ shared-none (claimOf u n) (claimOfSeat u s) z in
-        (ap (λ (r : SharedRun). r .first) e, ap (λ (r : SharedRun). r .end) e)
+  pub told-whole : WholeShared (claimOf u n) (claimOfSeat u s) first end
+  told-whole = let e = at-run in rw (ap (λ (r : SharedRun). r .first) e, ap (λ (r : SharedRun). r .end) e) (shared-whole (claimOf u n) (claimOfSeat u s))
 
-    -- and so it was before the step
-    pub stayed : Stayed t u s
-    stayed = stepped-waits (stepped t s) answers .1
+  pub told-none : NoneShared (claimOf u n) (claimOfSeat u s) → (first ≡ 0) × (end ≡ 0)
+  told-none z =
+      let e = at-run ∙ shared-none (claimOf u n) (claimOfSeat u s) z in
+      (ap (λ (r : SharedRun). r .first) e, ap (λ (r : SharedRun). r .end) e)
 
-    pub at-node-before : cur t s ≡ n
-    at-node-before = sym (stayed .same-cur) ∙ at-node
+  -- ---- where the step left the seat: it stood there before
+  left : {d : Done Answer} → Stepped t s d → d .answer ≡ wait n first end → (phase (d .after) s ≡ 2) ⊎ (phase (d .after) s ≡ 4)
+      → Stayed t (d .after) s × (mark (d .after) (cur (d .after) s) ≢ 1)
+  left (step-refused k r) q p = let z : _≡_ {A = ℕ} 0 1 = cc in absurd (omega arith)
+  left (step-accepted e h busy w) q p = let l = stepping-leaves t s (sound-room t s e h) busy w in (l .stayed p, l .unmarked p)
 
-    pub told-whole-before : WholeShared (claimOf t n) (claimOfSeat t s) first end
-    told-whole-before = let w = stayed in rw (w .same-nodes, w .same-own) at told-whole
+  pub at-unmarked : mark u (cur u s) ≢ 1
+  at-unmarked = left (stepped t s) answers waits .1
+
+  stayed : Stayed t u s
+  stayed = left (stepped t s) answers waits .0
+
+  pub at-node-before : cur t s ≡ n
+  at-node-before = sym (stayed .same-cur) ∙ at-node
+
+  pub told-whole-before : WholeShared (claimOf t n) (claimOfSeat t s) first end
+  told-whole-before = let w = stayed in rw (w .same-nodes, w .same-own) at told-whole
 
 -- ---- a walker that finds an unmarked claim where the comparison gives 0
 module _ (t : Tables) (s : ℕ) (is-sound : sound t ≡ true) (is-seat : s < seatCount t) (p : phase t s ≡ 1) where

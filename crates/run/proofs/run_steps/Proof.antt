@@ -50,12 +50,9 @@ seat-word-within-requires c κs =
 step-known-requires : tie.Need-step-known-requires Inv-loop μ-loop
 step-known-requires c κs = search needs
 
-refusal-of-requires : tie.Need-refusal-of-requires Inv-loop μ-loop
-refusal-of-requires c κs = search needs
-
 seat-word-within-requires-2 : tie.Need-seat-word-within-requires-2 Inv-loop μ-loop
 seat-word-within-requires-2 c κs =
-    let seat = c .before .before .before .before .before .before .before .before .before .before .before .before in
+    let seat = c .before .before .before .before .before .before .before .before .before .before .before in
     (still-there _ _ _ (seat .before .seat-count .ensures) (seat .if3 .left) _ (search needs), search needs)
 
 add-steps : tie.Need-add-steps Inv-loop μ-loop
@@ -75,8 +72,7 @@ loop-again c =
     let kept = c .before in
     let after = kept .before .before in
     let accepted = after .before .before in
-    let refusal = accepted .before in
-    let step = refusal .before .before .before .before .before in
+    let step = accepted .before .before .before .before .before in
     let before = step .before .before .before in
     let seat = before .before .before in
     let more = seat .before .before .before .before in
@@ -90,7 +86,7 @@ loop-again c =
       omega (arith, h, unused .if1 .left),
       omega (arith, i, more .if2 .left),
       still-sound _ _ _ _ _ _ _ _ _ stepped (before .seat-word-within .ensures) (after .seat-word-within2 .ensures) (kept .is-kept-sound .ensures) (c .if5 .left) (loop .loop .inv .4),
-      left-again _ _ _ _ _ _ _ _ _ _ _ (loop .loop .inv .5) stepped (refusal .refusal-of .ensures) refl (omega (arith, h, unused .if1 .left)) (omega (arith, i, more .if2 .left)) (accepted .if4 .left),
+      left-again _ _ _ _ _ _ _ _ _ _ (loop .loop .inv .5) stepped refl (omega (arith, h, unused .if1 .left)) (omega (arith, i, more .if2 .left)) (accepted .if4 .left),
     )
 
 same-length : tie.Need-same-length Inv-loop μ-loop
@@ -134,8 +130,7 @@ same-length-8 c = search needs
 
 returns-4 : tie.Need-returns-4 Inv-loop μ-loop
 returns-4 c =
-    let refusal = c .before in
-    let step = refusal .before .before .before .before .before in
+    let step = c .before .before .before .before .before in
     let seat = step .before .before .before .before .before in
     let more = seat .before .before .before .before in
     let unused = more .before in
@@ -143,7 +138,7 @@ returns-4 c =
     let h = loop .loop .inv .2 in
     let i = loop .loop .inv .3 in
     let stepped = step .step-known .ensures in
-    left-refused _ _ _ _ _ _ _ _ _ _ _ (loop .loop .inv .5) stepped (refusal .refusal-of .ensures) refl (omega (arith, h, unused .if1 .left)) (omega (arith, i, more .if2 .left)) (c .if4 .taken)
+    left-refused _ _ _ _ _ _ _ _ _ _ (loop .loop .inv .5) stepped refl (omega (arith, h, unused .if1 .left)) (omega (arith, i, more .if2 .left)) (c .if4 .taken)
 
 same-length-9 : tie.Need-same-length-9 Inv-loop μ-loop
 same-length-9 c = search needs
@@ -157,8 +152,7 @@ returns-5 c =
     let kept = stops .before in
     let after = kept .before .before in
     let accepted = after .before .before in
-    let refusal = accepted .before in
-    let step = refusal .before .before .before .before .before in
+    let step = accepted .before .before .before .before .before in
     let before = step .before .before .before in
     let seat = before .before .before in
     let more = seat .before .before .before .before in
@@ -168,7 +162,7 @@ returns-5 c =
     let i = loop .loop .inv .3 in
     let stepped = step .step-known .ensures in
     left-stopped _ _ _ _ _ _ _
-    (left-again _ _ _ _ _ _ _ _ _ _ _ (loop .loop .inv .5) stepped (refusal .refusal-of .ensures) refl (omega (arith, h, unused .if1 .left)) (omega (arith, i, more .if2 .left)) (accepted .if4 .left))
+    (left-again _ _ _ _ _ _ _ _ _ _ (loop .loop .inv .5) stepped refl (omega (arith, h, unused .if1 .left)) (omega (arith, i, more .if2 .left)) (accepted .if4 .left))
     (c .stop-at-damage .ensures)
     (now-damaged _ _ _ _ _ _ _ _ _ stepped (before .seat-word-within .ensures) (after .seat-word-within2 .ensures) (kept .is-kept-sound .ensures) (stops .if5 .taken))
     (omega (arith, h, unused .if1 .left)) (omega (arith, i, more .if2 .left))
@@ -188,7 +182,6 @@ run-steps-spec =
     cast-count
     seat-word-within-requires
     step-known-requires
-    refusal-of-requires
     seat-word-within-requires-2
     add-steps
     is-kept-sound-requires

@@ -1,9 +1,9 @@
--- `phases::step_withdrawn` meets its promise.
+-- `phases::fetch_again` meets its promise.
 use Rattle.phases.proofs.Ways.{refetch-none, refetch-node}
 use Rattle.fetch.proofs.Ways.{withdrawn-no-prev}
 use borrow.Author.Needs.{needs}
-use Rattle.phases.proofs.step_withdrawn.Statement.{statement}
-use Rattle.phases.proofs.step_withdrawn.Tie as tie
+use Rattle.phases.proofs.fetch_again.Statement.{statement}
+use Rattle.phases.proofs.fetch_again.Tie as tie
 
 seat-word-requires : tie.Need-seat-word-requires
 seat-word-requires c κs = search needs
@@ -29,9 +29,6 @@ same-length-2 c = search needs
 returns : tie.Need-returns
 returns c = search refetch-none
 
-answer-requires : tie.Need-answer-requires
-answer-requires c κs = search needs
-
 same-length-3 : tie.Need-same-length-3
 same-length-3 c = search needs
 
@@ -41,8 +38,8 @@ same-length-4 c = search needs
 returns-2 : tie.Need-returns-2
 returns-2 c = search refetch-node
 
-pub step-withdrawn-spec : {M : Type 1} → statement M
-step-withdrawn-spec =
+pub fetch-again-spec : {M : Type 1} → statement M
+fetch-again-spec =
     tie.close
     (tie.spec
     seat-word-requires
@@ -53,7 +50,6 @@ step-withdrawn-spec =
     same-length
     same-length-2
     returns
-    answer-requires
     same-length-3
     same-length-4
     returns-2)
