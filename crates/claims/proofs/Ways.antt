@@ -20,9 +20,10 @@ use Rattle.rules.specs.Steps.{leave}
 use Rattle.rules.specs.Calls.{clear, begun, begin, step, release}
 use Rattle.rules.specs.Run.{refusalOf}
 use Rattle.rules.specs.FreeCount.{Counted, freeCount}
+use Rattle.rules.proofs.Laws.Words.{same-seat-count}
 use Rattle.rules.proofs.Laws.Answers.{refused-as}
 use Rattle.rules.proofs.Laws.Shape.{lengths-fit}
-use Rattle.rules.proofs.Rules.Accepting.{answers-from-phase}
+use Rattle.rules.proofs.Rules.Accepting.{answers-from-phase, step-has-seat}
 use Rattle.phases.specs.Parts.{unanswered}
 use Rattle.fetch.proofs.Ways.{none-kept}
 use Rattle.claims.specs.Parts.{beginFetching, beginClaim, releaseSeat}
@@ -152,6 +153,9 @@ module _ (n t n′ t′ : List ℕ) (s r : ℕ) (stepped : done r (tables n′ t
 
   after : tables n′ t′ ≡ step (tables n t) s .after
   after = ap (λ (d : Done ℕ). d .after) stepped
+
+  pub still-there : r ≡ 0 → length t′ ≡ length t → s < seatCountOf t′
+  still-there z e = rw (same-seat-count (tables n t) (tables n t′) e) (step-has-seat (tables n t) s (sym refusal ∙ z))
 
   pub step-answered : (a : Answer) → a ≡ answerOf (tables n′ t′) s → r ≡ 0 → done a (tables n′ t′) ≡ step (tables n t) s
   step-answered a e z =

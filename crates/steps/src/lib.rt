@@ -333,18 +333,21 @@ pub fn leave(nodes: &mut [u32], seats: &mut [u32], s: u32)
 
 // where the seat waits, and for which frames: what the claim there and its own share
 fn waiting(nodes: &[u32], seats: &[u32], s: u32) -> Reply
+    requires { ⌜ s < seatCountOf (now seats) ⌝ }
     ensures { λ r. ⌜ means r ≡ answer·waiting (tables (now (nodes .entry)) (now (seats .entry))) s ⌝ }
 {
-    let own = words::seat_word(seats, s, words::OWN);
-    let cur = words::seat_word(seats, s, words::CUR);
+    let own = words::seat_word_within(seats, s, words::OWN);
+    let cur = words::seat_word_within(seats, s, words::CUR);
     let run = comparison::shared_by_nodes(nodes, cur, own);
     Reply::Wait(cur, run.first, run.end)
 }
 
+// of a seat that there is
 pub fn answer(nodes: &[u32], seats: &[u32], s: u32) -> Reply
+    requires { ⌜ s < seatCountOf (now seats) ⌝ }
     ensures { λ r. ⌜ means r ≡ answerOf (tables (now (nodes .entry)) (now (seats .entry))) s ⌝ }
 {
-    let phase = words::seat_word(seats, s, words::PHASE);
+    let phase = words::seat_word_within(seats, s, words::PHASE);
     match phase {
         2 | 4 => waiting(nodes, seats, s),
         5 => Reply::Held,

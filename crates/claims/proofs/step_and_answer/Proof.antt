@@ -1,5 +1,5 @@
 -- `claims::step_and_answer` meets its promise.
-use Rattle.claims.proofs.Ways.{step-answered, step-turned-away}
+use Rattle.claims.proofs.Ways.{still-there, step-answered, step-turned-away}
 use borrow.Author.Needs.{needs}
 use Rattle.claims.proofs.step_and_answer.Statement.{statement}
 use Rattle.claims.proofs.step_and_answer.Tie as tie
@@ -8,7 +8,7 @@ step-known-requires : tie.Need-step-known-requires
 step-known-requires c κs = search needs
 
 answer-requires : tie.Need-answer-requires
-answer-requires c κs = search needs
+answer-requires c κs = search (still-there, needs)
 
 same-length : tie.Need-same-length
 same-length c = search needs

@@ -122,6 +122,14 @@ module _ (t : Tables) (s : ℕ) where
   pub answers-from-phase : refusalOf (step t s .answer) ≡ 0 → step t s .answer ≡ answerOf (step t s .after) s
   answers-from-phase = stepped-from-phase (stepped t s)
 
+-- and its seat is one
+accepted-seat : {t : Tables} {s : ℕ} {d : Done Answer} → Stepped t s d → refusalOf (d .answer) ≡ 0 → s < seatCount t
+accepted-seat (step-refused number r) q = absurd (refusal-tells r .not-0 q)
+accepted-seat (step-accepted e h b w) q = h
+
+pub step-has-seat : (t : Tables) (s : ℕ) → refusalOf (step t s .answer) ≡ 0 → s < seatCount t
+step-has-seat t s = accepted-seat (stepped t s)
+
 pub data Releasing (t : Tables) (s : ℕ) : Done Answer → Type 0 where
   release-refused : (number : ℕ) → Refuses t (releaseCall s) number → Releasing t s (done (refused number) t)
   release-accepted : sound t ≡ true → s < seatCount t → phase t s ≡ 5 → Releasing t s (done out (leave t s))
