@@ -64,29 +64,29 @@ two-words (x ∷ y ∷ z ∷ l) first end e = absurd (omega arith)
 
 -- by the code of its reply
 module _ (r : Reply) (s : Said) (l : List ℕ) (isSaid : s ≡ saidOf r) where
-  run-at-4 : (r : Reply) → saidOf r .code ≡ 4 → sharedAfter l (means r) ≡ saidOf r .first ∷ saidOf r .end ∷ []
-  run-at-4 (Wait n first end) e = refl
-  run-at-4 (Refused number) e = absurd (omega arith)
-  run-at-4 (Node n) e = absurd (omega arith)
-  run-at-4 Out e = absurd (omega arith)
-  run-at-4 On e = absurd (omega arith)
-  run-at-4 Held e = absurd (omega arith)
-  run-at-4 Back e = absurd (omega arith)
+  run-of-a-wait : (r : Reply) → saidOf r .code ≡ 4 → sharedAfter l (means r) ≡ saidOf r .first ∷ saidOf r .end ∷ []
+  run-of-a-wait (Wait n first end) e = refl
+  run-of-a-wait (Refused number) e = absurd (omega arith)
+  run-of-a-wait (Node n) e = absurd (omega arith)
+  run-of-a-wait Out e = absurd (omega arith)
+  run-of-a-wait On e = absurd (omega arith)
+  run-of-a-wait Held e = absurd (omega arith)
+  run-of-a-wait Back e = absurd (omega arith)
 
-  else-kept : (r : Reply) → saidOf r .code ≢ 4 → sharedAfter l (means r) ≡ l
-  else-kept (Wait n first end) d = absurd (d refl)
-  else-kept (Refused number) d = refl
-  else-kept (Node n) d = refl
-  else-kept Out d = refl
-  else-kept On d = refl
-  else-kept Held d = refl
-  else-kept Back d = refl
+  kept-otherwise : (r : Reply) → saidOf r .code ≢ 4 → sharedAfter l (means r) ≡ l
+  kept-otherwise (Wait n first end) d = absurd (d refl)
+  kept-otherwise (Refused number) d = refl
+  kept-otherwise (Node n) d = refl
+  kept-otherwise Out d = refl
+  kept-otherwise On d = refl
+  kept-otherwise Held d = refl
+  kept-otherwise Back d = refl
 
   pub shared-stored : length l ≡ 2 → s .code ≡ 4 → set (set l 0 (s .first)) 1 (s .end) ≡ sharedAfter l (means r)
-  shared-stored n e = two-words l (s .first) (s .end) n ∙ rw isSaid (sym (run-at-4 r (rw isSaid at e)))
+  shared-stored n e = two-words l (s .first) (s .end) n ∙ rw isSaid (sym (run-of-a-wait r (rw isSaid at e)))
 
   pub shared-kept : s .code ≢ 4 → l ≡ sharedAfter l (means r)
-  shared-kept d = sym (else-kept r (rw isSaid at d))
+  shared-kept d = sym (kept-otherwise r (rw isSaid at d))
 
 pub step-told-is : (d : Done Answer) (r : Reply) (t : Tables) (l l′ : List ℕ) (h : Halves) → h ≡ encode (means r) → l′ ≡ sharedAfter l (means r) → done (means r) t ≡ d
     → stepTold h l′ t ≡ tellStep l d

@@ -2,10 +2,10 @@
 use Prim.Native.Nat.{ℕ, _≤_, _<_}
 use mathlib.Core.Path.{_≡_, refl, sym, _∙_}
 use mathlib.Core.List.{List, []}
-use borrow.Author.Tests.{le-leb, lt-leb, lt-ltb, le-ltb}
+use borrow.Author.Tests.{le-leb, lt-leb}
 use Rattle.rules.specs.Notation.{if_then_else_}
 use Rattle.rules.specs.Tables.{tables, nodeWord, startAt, endAt}
-use Rattle.rules.specs.Comparison.{claimOf, later, earlier, sharedRun, runOrNone, shared}
+use Rattle.rules.specs.Comparison.{claimOf, later, earlier, runOrNone, shared}
 use Rattle.rules.specs.declared.SharedRun.{SharedRun}
 
 module _ (a b : ℕ) where
@@ -20,14 +20,6 @@ module _ (a b : ℕ) where
 
   pub earlier-first : a < b → a ≡ earlier a b
   earlier-first h = rw (lt-leb b a h)
-
-  pub some-run : a < b → sharedRun a b ≡ runOrNone a b
-  unfolding runOrNone
-  some-run h = rw (lt-ltb a b h)
-
-  pub no-run : b ≤ a → sharedRun 0 0 ≡ runOrNone a b
-  unfolding runOrNone
-  no-run h = rw (le-ltb a b h)
 
 pub shared-is : (l : List ℕ) (c o a b x y first end : ℕ) (r : SharedRun) → r ≡ runOrNone first end → end ≡ earlier b y → first ≡ later a x
     → y ≡ nodeWord l o endAt → x ≡ nodeWord l o startAt → b ≡ nodeWord l c endAt → a ≡ nodeWord l c startAt

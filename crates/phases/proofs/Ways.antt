@@ -15,6 +15,7 @@ use Rattle.rules.specs.Steps.{walking, waitingToEnter, validating, readerWaitin
 use Rattle.rules.specs.Calls.{step}
 use Rattle.rules.proofs.Laws.Answers.{answer-accepts}
 use Rattle.rules.proofs.Laws.Shape.{is-sound}
+use Rattle.rules.proofs.Rules.Reasons.{by-phase-1, by-phase-2, by-phase-3, by-phase-4, by-phase-5}
 use Rattle.fetch.proofs.Ways.{none-kept}
 use Rattle.phases.specs.Parts.{unanswered, stepBusy}
 
@@ -51,9 +52,12 @@ module _ (n t : List ℕ) (s p : ℕ) (isPhase : p ≡ seatWord t s phaseAt) whe
   pub step-idle : p ≡ 0 → done 6 (tables n t) ≡ unanswered (stepBusy (tables n t) s)
   step-idle e = rw (sym isPhase ∙ e)
 
+  -- where a rule is stepped: 0, and the rule's tables
+  by-rule : (u v : Tables) → u ≡ v → p ≢ 0 → stepByPhase (tables n t) s ≡ answered v s → done 0 u ≡ unanswered (stepBusy (tables n t) s)
+  by-rule u v w d e = rw (w, ne-eqb (seatWord t s phaseAt) 0 (λ z. d (isPhase ∙ z)), e) (accepted v s)
+
   pub step-five : p ≡ 5 → done 0 (tables n t) ≡ unanswered (stepBusy (tables n t) s)
-  unfolding stepByPhase
-  step-five e = rw (sym isPhase ∙ e) (accepted (tables n t) s)
+  step-five e = by-rule _ _ refl (omega arith) (by-phase-5 (tables n t) s (sym isPhase ∙ e))
 
   -- no other phase is sound
   pub step-none : sound (tables n t) ≡ true → p ≢ 0 → p ≢ 1 → p ≢ 2 → p ≢ 3 → p ≢ 4 → p ≢ 5 → p ≢ 6 → done 1 (tables n t) ≡ unanswered (stepBusy (tables n t) s)
@@ -61,21 +65,17 @@ module _ (n t : List ℕ) (s p : ℕ) (isPhase : p ≡ seatWord t s phaseAt) whe
 
   module _ (t′ : List ℕ) where
     pub step-two : tables n t′ ≡ waitingToEnter (tables n t) s → p ≡ 2 → done 0 (tables n t′) ≡ unanswered (stepBusy (tables n t) s)
-    unfolding stepByPhase
-    step-two w e = rw (sym isPhase ∙ e, w) (accepted (waitingToEnter (tables n t) s) s)
+    step-two w e = by-rule _ _ w (omega arith) (by-phase-2 (tables n t) s (sym isPhase ∙ e))
 
     pub step-four : tables n t′ ≡ readerWaiting (tables n t) s → p ≡ 4 → done 0 (tables n t′) ≡ unanswered (stepBusy (tables n t) s)
-    unfolding stepByPhase
-    step-four w e = rw (sym isPhase ∙ e, w) (accepted (readerWaiting (tables n t) s) s)
+    step-four w e = by-rule _ _ w (omega arith) (by-phase-4 (tables n t) s (sym isPhase ∙ e))
 
     module _ (n′ : List ℕ) where
       pub step-one : tables n′ t′ ≡ walking (tables n t) s → p ≡ 1 → done 0 (tables n′ t′) ≡ unanswered (stepBusy (tables n t) s)
-      unfolding stepByPhase
-      step-one w e = rw (sym isPhase ∙ e, w) (accepted (walking (tables n t) s) s)
+      step-one w e = by-rule _ _ w (omega arith) (by-phase-1 (tables n t) s (sym isPhase ∙ e))
 
       pub step-three : tables n′ t′ ≡ validating (tables n t) s → p ≡ 3 → done 0 (tables n′ t′) ≡ unanswered (stepBusy (tables n t) s)
-      unfolding stepByPhase
-      step-three w e = rw (sym isPhase ∙ e, w) (accepted (validating (tables n t) s) s)
+      step-three w e = by-rule _ _ w (omega arith) (by-phase-3 (tables n t) s (sym isPhase ∙ e))
 
       pub step-six : (r : ℕ) → done r (tables n′ t′) ≡ unanswered (withdrawn (tables n t) s) → p ≡ 6 → done r (tables n′ t′) ≡ unanswered (stepBusy (tables n t) s)
       unfolding stepByPhase

@@ -1,6 +1,7 @@
 -- Demand 3: nobody waits without cause. In every table that is reached, each `wait n first end` has its cause at node n, in the frames from first up
 -- to end; and a seat with a claim that is stepped 6·N + 8 times, with no other call between, holds, or waits at a claim that clashes with its own in
--- the frames named and stands, or is refused 8 because no node is free for it. Nothing else stands here: the words are those of specs/Cause.antt, and each proof is a citation.
+-- the frames named and stands, or is refused 8 because no node is free for it. Nothing else stands here: the words are those of specs/Cause.antt and
+-- specs/Shared.antt, and each proof is a citation.
 use Prim.Native.Nat.{ℕ, _+_, _*_, _≤_}
 use mathlib.Core.Path.{_≡_}
 use mathlib.Core.Logic.{_≢_, _⊎_}

@@ -48,6 +48,7 @@ refusing say (reason ∷ more) t accepted =
 abbrev pub sharedAtCur : Tables → ℕ → SharedRun
 sharedAtCur t s = shared (claimOf t (cur t s)) (claimOf t (own t s))
 
+-- "`wait` carries both, in the step": the node waited at, and the two numbers
 abbrev pub waiting : Tables → ℕ → Answer
 waiting t s = wait (cur t s) (sharedAtCur t s .first) (sharedAtCur t s .end)
 

@@ -15,7 +15,7 @@ pub record WholeShared (c o : Claim) (first end : ℕ) : Type 0 where
 abbrev pub NoneShared : Claim → Claim → Type 0
 NoneShared c o = (frame : ℕ) → Covers c frame → Covers o frame → ⊥
 
--- they share a frame, and one of them writes it
+-- what they share is some frame, and one of the two writes
 pub record Clash (c o : Claim) : Type 0 where
   pub some-frame : shared c o .first < shared c o .end
   pub one-writes : (c .kind ≡ 2) ⊎ (o .kind ≡ 2)

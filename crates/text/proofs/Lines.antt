@@ -29,6 +29,7 @@ module _ (p q : Page) (s : Said) where
   answer-other a b c d e f h = rw (ne-eqb (s .code) 1 a, ne-eqb (s .code) 2 b, ne-eqb (s .code) 3 c, ne-eqb (s .code) 4 d, ne-eqb (s .code) 5 e, ne-eqb (s .code) 6 f) h
 
 -- ---- how long the lines are: a number below 2 to the 32 has at most 10 digits, one below 2 to the 64 at most 20
+
 -- the numbers of an answer need no more than 32 bits
 pub record Words (s : Said) : Type 0 where
   pub number : s .number ≤ 4294967295

@@ -1,5 +1,5 @@
 -- `comparison::run_or_none` meets its promise.
-use Rattle.comparison.proofs.Shares.{some-run, no-run}
+use Rattle.rules.proofs.Laws.SharedRuns.{some-run, no-run}
 use Rattle.comparison.proofs.run_or_none.Statement.{statement}
 use Rattle.comparison.proofs.run_or_none.Tie as tie
 

@@ -1,13 +1,13 @@
 -- What two claims share is the whole of what both cover, and where the comparison of claims that have frames gives 0, that is some frame which one
 -- of them writes.
 use Prim.Native.Nat.{ℕ, _-_, _≤_, _<_}
-use mathlib.Core.Path.{_≡_, refl, sym, ap, _∙_}
+use mathlib.Core.Path.{_≡_, refl, subst}
 use mathlib.Core.Logic.{_⊎_, inl, inr}
 use native.Mathlib.Omega.{arith}
 use native.Mathlib.Decide.{decLe}
 use lib.IntN.{ℤ, pos}
-use borrow.Author.Tests.{leb-true, leb-false, ltb-true, ltb-false}
-use Rattle.rules.specs.Notation.{if_then_else_, _≤?_, _<?_}
+use borrow.Author.Tests.{leb-true, leb-false, lt-ltb, le-ltb}
+use Rattle.rules.specs.Notation.{_≤?_}
 use Rattle.rules.specs.Comparison.{Claim, compare, later, earlier, sharedRun, runOrNone, shared}
 use Rattle.rules.specs.Refusing.{Proper}
 use Rattle.rules.specs.Apart.{Covers}
@@ -39,6 +39,21 @@ earlier-is a b =
     (λ e. record { to-first = leb-true b a e; to-second = omega arith; most = λ f p q. q })
     (λ e. let h = leb-false b a e in record { to-first = omega arith; to-second = omega arith; most = λ f p q. p })
 
+-- ---- a run from first up to end, if that is some frame
+pub some-run : (first end : ℕ) → first < end → sharedRun first end ≡ runOrNone first end
+unfolding runOrNone
+some-run first end h = rw (lt-ltb first end h)
+
+pub no-run : (first end : ℕ) → end ≤ first → sharedRun 0 0 ≡ runOrNone first end
+unfolding runOrNone
+no-run first end h = rw (le-ltb first end h)
+
+either-run : (P : SharedRun → Type 0) (first end : ℕ) → (first < end → P (sharedRun first end)) → (end ≤ first → P (sharedRun 0 0)) → P (runOrNone first end)
+either-run P first end some none = elim (decLe end first) [
+  | yes h ↦ subst P (no-run first end h) (none h)
+  | no h ↦ let k : first < end = omega arith in subst P (some-run first end k) (some k)
+]
+
 -- ---- the run is the whole of what both cover, of any two claims
 module _ (c o : Claim) where
   abbrev from : ℕ
@@ -61,24 +76,19 @@ module _ (c o : Claim) where
       ((omega arith, omega arith), (omega arith, omega arith))
 
   pub shared-whole : WholeShared c o (shared c o .first) (shared c o .end)
-  unfolding runOrNone
   shared-whole =
-      branch (λ (r : SharedRun). WholeShared c o (r .first) (r .end)) (from <? to)
-      (λ e. record { covered-by-both = covered; no-other = within })
-      (λ e. record {
-        covered-by-both = λ f p q. absurd (omega arith);
-        no-other = λ f p q. let h = ltb-false from to e in let w = within f p q in absurd (omega arith);
-      })
+      either-run (λ (r : SharedRun). WholeShared c o (r .first) (r .end)) _ _
+      (λ h. record { covered-by-both = covered; no-other = within })
+      (λ h. record { covered-by-both = λ f p q. absurd (omega arith); no-other = λ f p q. let w = within f p q in absurd (omega arith) })
 
   pub shared-some : (f : ℕ) → Covers c f → Covers o f → shared c o .first < shared c o .end
   shared-some f p q = let w = shared-whole .no-other f p q in omega arith
 
   pub shared-none : NoneShared c o → shared c o ≡ sharedRun 0 0
-  unfolding runOrNone
   shared-none z =
-      branch (λ (r : SharedRun). r ≡ sharedRun 0 0) (from <? to)
-      (λ e. let h = ltb-true from to e in let w = covered from (omega arith) h in absurd (z from (w .0) (w .1)))
-      (λ e. refl)
+      either-run (λ (r : SharedRun). r ≡ sharedRun 0 0) _ _
+      (λ h. let w = covered from (omega arith) h in absurd (z from (w .0) (w .1)))
+      (λ h. refl)
 
   -- no other pair is
   module _ (first end : ℕ) (h : first < end) (w : WholeShared c o first end) where
