@@ -15,7 +15,7 @@ use Rattle.rules.specs.Comparison.{claim}
 use Rattle.rules.specs.Shape.{lengthsFit, sound, isKind}
 use Rattle.rules.specs.Reach.{countFree}
 use Rattle.rules.specs.Fetch.{fetched, fetch}
-use Rattle.rules.specs.Answers.{Answer, node, out, refused, Done, done, answerOf}
+use Rattle.rules.specs.Answers.{Answer, node, out, refused, done, answerOf}
 use Rattle.rules.specs.Steps.{leave}
 use Rattle.rules.specs.Calls.{clear, begun, begin, step, release}
 use Rattle.rules.specs.Run.{refusalOf}
@@ -25,6 +25,7 @@ use Rattle.rules.proofs.Laws.Answers.{refused-as}
 use Rattle.rules.proofs.Laws.Shape.{lengths-fit}
 use Rattle.rules.proofs.Rules.Accepting.{answers-from-phase, step-has-seat}
 use Rattle.phases.specs.Parts.{unanswered}
+use Rattle.phases.proofs.Ways.{its-refusal, its-tables}
 use Rattle.fetch.proofs.Ways.{none-kept}
 use Rattle.claims.specs.Parts.{beginFetching, beginClaim, releaseSeat}
 
@@ -149,10 +150,10 @@ module _ (n t : List ℕ) (s : ℕ) where
 -- ---- step, its tables sound: by the refusal, or 0, that the step itself gives
 module _ (n t n′ t′ : List ℕ) (s r : ℕ) (stepped : done r (tables n′ t′) ≡ unanswered (step (tables n t) s)) where
   refusal : r ≡ refusalOf (step (tables n t) s .answer)
-  refusal = ap (λ (d : Done ℕ). d .answer) stepped
+  refusal = its-refusal (step (tables n t) s) r (tables n′ t′) stepped
 
   after : tables n′ t′ ≡ step (tables n t) s .after
-  after = ap (λ (d : Done ℕ). d .after) stepped
+  after = its-tables (step (tables n t) s) r (tables n′ t′) stepped
 
   pub still-there : r ≡ 0 → length t′ ≡ length t → s < seatCountOf t′
   still-there z e = rw (same-seat-count (tables n t) (tables n t′) e) (step-has-seat (tables n t) s (sym refusal ∙ z))

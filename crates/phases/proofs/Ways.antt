@@ -1,6 +1,6 @@
 -- A step of a seat as one law for each way through the code: n and t are the tables before, n′ and t′ after.
 use Prim.Native.Nat.{ℕ, zero, suc, _≤_, _<_}
-use mathlib.Core.Path.{_≡_, refl, sym, _∙_}
+use mathlib.Core.Path.{_≡_, refl, sym, ap, _∙_}
 use mathlib.Core.Bool.{true}
 use mathlib.Core.List.{List, []}
 use mathlib.Core.Logic.{_≢_}
@@ -10,9 +10,10 @@ use Rattle.rules.specs.Tables.{Tables, tables, nodeWord, seatWord, seatCountOf,
 use Rattle.rules.specs.Comparison.{claim, claimOf}
 use Rattle.rules.specs.Shape.{sound}
 use Rattle.rules.specs.Fetch.{fetched, fetch}
-use Rattle.rules.specs.Answers.{done, answered}
+use Rattle.rules.specs.Answers.{Answer, Done, done, answered}
 use Rattle.rules.specs.Steps.{walking, waitingToEnter, validating, readerWaiting, refetched, withdrawn, stepByPhase}
 use Rattle.rules.specs.Calls.{step}
+use Rattle.rules.specs.Run.{refusalOf}
 use Rattle.rules.proofs.Laws.Answers.{answer-accepts}
 use Rattle.rules.proofs.Laws.Shape.{is-sound}
 use Rattle.rules.proofs.Rules.Reasons.{by-phase-1, by-phase-2, by-phase-3, by-phase-4, by-phase-5}
@@ -90,3 +91,11 @@ module _ (n t : List ℕ) (s c : ℕ) (isCount : c ≡ seatCountOf t) (isSound :
   pub step-seat : (n′ t′ : List ℕ) (r : ℕ) → done r (tables n′ t′) ≡ unanswered (stepBusy (tables n t) s) → s < c → done r (tables n′ t′) ≡ unanswered (step (tables n t) s)
   unfolding step
   step-seat n′ t′ r w h = rw (isSound, ← isCount, lt-leb c s h) w
+
+-- ---- what a step without its answer tells of the step
+module _ (d : Done Answer) (r : ℕ) (u : Tables) (stepped : done r u ≡ unanswered d) where
+  pub its-refusal : r ≡ refusalOf (d .answer)
+  its-refusal = ap (λ (x : Done ℕ). x .answer) stepped
+
+  pub its-tables : u ≡ d .after
+  its-tables = ap (λ (x : Done ℕ). x .after) stepped

@@ -23,7 +23,7 @@ use Rattle.rules.proofs.Rules.RefusedExactly.{refused-step-keeps}
 use Rattle.rules.proofs.Soundness.SoundKept.{step-keeps-sound}
 use Rattle.shape.specs.Parts.{listEnds}
 use Rattle.phases.specs.Parts.{unanswered}
-use Rattle.phases.proofs.Ways.{step-past}
+use Rattle.phases.proofs.Ways.{step-past, its-refusal, its-tables}
 use Rattle.rules.proofs.Laws.NodesAlone.{ends-alone}
 use Rattle.run.specs.Parts.{keptSound, stopAtDamage}
 
@@ -83,10 +83,10 @@ module _ (schedule : List ℕ) (budget : ℕ) (whole : Done Ran) (n t : List ℕ
   module _ (n′ t′ : List ℕ) (k s r : ℕ) (left : Left k) (stepped : done r (tables n′ t′) ≡ unanswered (step (tables n t) s))
       (isEntry : s ≡ getD schedule k 0) (h : k < budget) (i : k < length schedule) where
     refusal : r ≡ refusalOf (step (tables n t) s .answer)
-    refusal = ap (λ (x : Done ℕ). x .answer) stepped
+    refusal = its-refusal (step (tables n t) s) r (tables n′ t′) stepped
 
     after : tables n′ t′ ≡ step (tables n t) s .after
-    after = ap (λ (x : Done ℕ). x .after) stepped
+    after = its-tables (step (tables n t) s) r (tables n′ t′) stepped
 
     pub left-again : r ≡ 0 → plus (k + 1) (runSteps (budget - (k + 1)) (tables n′ t′) (drop (k + 1) schedule)) ≡ whole
     left-again e =
@@ -178,7 +178,7 @@ module _ (n n′ t t′ : List ℕ) (s before after r : ℕ) (k : Bool) (stepped
 
   pub still-sound : not k ≡ false → sound (tables n t) ≡ true → sound (tables n′ t′) ≡ true
   still-sound e was =
-      let u : tables n′ t′ ≡ step (tables n t) s .after = ap (λ (x : Done ℕ). x .after) stepped in
+      let u : tables n′ t′ ≡ step (tables n t) s .after = its-tables (step (tables n t) s) r (tables n′ t′) stepped in
       let new : after ≡ phase (step (tables n t) s .after) s = isAfter ∙ ap (λ (x : Tables). phase x s) u in
       rw u (step-keeps-sound (tables n t) s was (λ x y.
       let linked : keptSound (tables n′ []) before after ≡ listEnds (tables n′ []) = rw (eq-eqb before 1 (isBefore ∙ x), eq-eqb after 3 (new ∙ y)) in
