@@ -1,9 +1,8 @@
 -- What two nodes share, as one law for each way through the code.
 use Prim.Native.Nat.{ℕ, _≤_, _<_}
-use mathlib.Core.Path.{_≡_, refl, sym, _∙_}
+use mathlib.Core.Path.{_≡_, _∙_}
 use mathlib.Core.List.{List, []}
 use borrow.Author.Tests.{le-leb, lt-leb}
-use Rattle.rules.specs.Notation.{if_then_else_}
 use Rattle.rules.specs.Tables.{tables, nodeWord, startAt, endAt}
 use Rattle.rules.specs.Comparison.{claimOf, later, earlier, runOrNone, shared}
 use Rattle.rules.specs.declared.SharedRun.{SharedRun}

@@ -122,7 +122,7 @@ module _ (t : Tables) (s : ℕ) where
   pub answers-from-phase : refusalOf (step t s .answer) ≡ 0 → step t s .answer ≡ answerOf (step t s .after) s
   answers-from-phase = stepped-from-phase (stepped t s)
 
--- and its seat is one
+-- and there is such a seat
 accepted-seat : {t : Tables} {s : ℕ} {d : Done Answer} → Stepped t s d → refusalOf (d .answer) ≡ 0 → s < seatCount t
 accepted-seat (step-refused number r) q = absurd (refusal-tells r .not-0 q)
 accepted-seat (step-accepted e h b w) q = h
