@@ -19,4 +19,5 @@ pub mod RunSteps
 pub mod BoardNumbers
 pub mod Covered
 pub mod ScriptRefused
+pub mod Locks
 pub mod OneAnswer

@@ -35,14 +35,18 @@ infix 2 _when_
 abbrev pub _when_ : ℕ → Bool → Refusal
 number when test = record { number = number; holds = test }
 
+-- the first reason that holds makes what is given back of its number; what is given back if none does
+abbrev pub unless : {A : Type 0} → (ℕ → A) → List Refusal → A → A
+unless say [] accepted = accepted
+unless say (reason ∷ more) accepted =
+    if reason .holds then say (reason .number)
+    else unless say more accepted
+
 -- "Each returns only its number .. and leaves tables .. as found": the first reason that holds, or what the call does if none does. Each call
 -- gives its list, and the list is the order in which they are looked at: 01's "in rising number", but for 11, which "stands after 3 and
 -- before 4" (02). `say` makes an answer of the number.
 abbrev pub refusing : {A : Type 0} → (ℕ → A) → List Refusal → Tables → Done A → Done A
-refusing say [] t accepted = accepted
-refusing say (reason ∷ more) t accepted =
-    if reason .holds then done (say (reason .number)) t
-    else refusing say more t accepted
+refusing say reasons t accepted = unless (λ number. done (say number) t) reasons accepted
 
 -- what the claim waited at, that of cur, shares with the seat's own
 abbrev pub sharedAtCur : Tables → ℕ → SharedRun

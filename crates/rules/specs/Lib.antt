@@ -12,6 +12,7 @@ pub mod Run
 pub mod Board
 pub mod Script
 pub mod Play
+pub mod Locks
 pub mod Reached
 pub mod Means
 pub mod Refusing

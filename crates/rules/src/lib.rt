@@ -83,3 +83,10 @@ pub struct Ran {
     pub steps: u32,
     pub refusal: u32,
 }
+
+// What import and export answer: the refusal or 0, and the place from 0 of the record that is refused.
+#[repr(C)]
+pub struct Moved {
+    pub refusal: u32,
+    pub place: usize,
+}

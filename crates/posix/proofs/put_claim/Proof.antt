@@ -1,0 +1,65 @@
+use borrow.Author.Needs.{needs}
+use Rattle.posix.proofs.put_claim.Statement.{statement}
+use Rattle.posix.proofs.put_claim.Tie as tie
+use Rattle.posix.proofs.put_claim.Reads as reads
+use Rattle.posix.proofs.put_claim.Lts as lts
+
+-- src/lib.rt:155:14
+mul-at : tie.Need-mul-at
+mul-at c = search needs
+
+-- src/lib.rt:156:5
+mul-claims : tie.Need-mul-claims
+mul-claims c = search needs
+
+-- src/lib.rt:156:5
+slice-write-claims : tie.Need-slice-write-claims
+slice-write-claims c = search needs
+
+-- src/lib.rt:157:12
+add-claims : tie.Need-add-claims
+add-claims c = search needs
+
+-- src/lib.rt:157:5
+mul-claims-2 : tie.Need-mul-claims-2
+mul-claims-2 c = search needs
+
+-- src/lib.rt:157:5
+slice-write-claims-2 : tie.Need-slice-write-claims-2
+slice-write-claims-2 c = ?
+
+-- src/lib.rt:158:12
+add-claims-2 : tie.Need-add-claims-2
+add-claims-2 c = search needs
+
+-- src/lib.rt:158:5
+mul-claims-3 : tie.Need-mul-claims-3
+mul-claims-3 c = search needs
+
+-- src/lib.rt:158:5
+slice-write-claims-3 : tie.Need-slice-write-claims-3
+slice-write-claims-3 c = search needs
+
+-- src/lib.rt:151:1
+same-length : tie.Need-same-length
+same-length c = search needs
+
+-- src/lib.rt:151:1
+returns : tie.Need-returns
+returns c = ?
+
+pub put-claim-spec : {M : Type 1} → statement M
+put-claim-spec =
+    tie.close
+    (tie.spec
+    mul-at
+    mul-claims
+    slice-write-claims
+    add-claims
+    mul-claims-2
+    slice-write-claims-2
+    add-claims-2
+    mul-claims-3
+    slice-write-claims-3
+    same-length
+    returns)
