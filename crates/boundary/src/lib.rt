@@ -12,11 +12,13 @@ ghost use Rattle.rules.specs.Calls as call;
 ghost use Rattle.rules.specs.FreeCount.{freeCount};
 ghost use Rattle.rules.specs.Run as running;
 ghost use Rattle.rules.specs.Board.{boardNumbers};
+ghost use Rattle.rules.specs.Locks.{listed, importLocks, exportClaims};
 ghost use Rattle.rules.specs.Play.{play as Play·play};
 ghost use Rattle.boundary.specs.Encoded.{halves, halvesOf, encode, encodeCount, encoded, encodedRun, stepTold, sharedAfter, tellStep, told, tell, putLine, linesAfter, scriptNumbers, readAs, encodeScript};
 use rules::BoardReply;
 use rules::CountReply;
 use rules::Line;
+use rules::Moved;
 use rules::Ran;
 use rules::Reply;
 use rules::Script;
@@ -144,6 +146,25 @@ pub extern "C" fn soodhiqune_board(
         BoardReply::Refused(number) => joined(0, number),
     }
 }
+
+// ---- locks of the archive's file system, three numbers to a record. The place of a refused record is handed back by value, beside the refusal, so that
+// a refused call stores nothing at all.
+
+#[no_mangle]
+pub extern "C" fn soodhiqune_import(title: u32, locks: &[i64], claims: &mut [u32]) -> Moved
+    ensures { λ r. ⌜ listed r (now (claims .exit)) ≡ importLocks title (now (locks .entry)) (now (claims .entry)) ⌝ }
+{
+    posix::import(title, locks, claims)
+}
+
+#[no_mangle]
+pub extern "C" fn soodhiqune_export(title: u32, claims: &[u32], locks: &mut [i64]) -> Moved
+    ensures { λ r. ⌜ listed r (now (locks .exit)) ≡ exportClaims title (now (claims .entry)) (now (locks .entry)) ⌝ }
+{
+    posix::export(title, claims, locks)
+}
+
+// ---- a script played
 
 // The bytes printed for a script, at most 48,986 of the 49,152 lent; their number.
 #[no_mangle]

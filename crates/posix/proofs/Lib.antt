@@ -1,3 +1,4 @@
 pub mod Signs
 pub mod One
 pub mod Lists
+pub mod Calls

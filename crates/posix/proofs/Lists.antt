@@ -200,7 +200,7 @@ module _ {A B C : Type 0} (make : A → A → A → B) (none : A) (move : B → 
       all-taken move at never-0 0 count z j (omega arith) (omega arith)
 
   module _ (f : ℕ → C) (is : (j : ℕ) → refusalOf (move (at j)) ≡ 0 → move (at j) ≡ taken (f j)) (e : found .refusal ≡ 0) where
-    each-taken : each move (inThrees make l) ≡ all (recordsFrom f 0 count)
+    pub each-taken : each move (inThrees make l) ≡ all (recordsFrom f 0 count)
     each-taken = rw (records-at make none l) (taken-all move at f 0 count (λ j p h. is j (each-passed e j (omega arith))))
 
     module _ {D : Type 0} (first second third : C → D) (lent : List D) where

@@ -1,20 +1,22 @@
 -- One record, by each way through the code.
-use Prim.Native.Nat.{ℕ, zero, suc, _+_, _-_, _<_, _≤_}
+use Prim.Native.Nat.{ℕ, zero, suc, _+_, _-_, _*_, _<_, _≤_}
 use mathlib.Core.Path.{_≡_, refl, sym, ap, _∙_}
+use mathlib.Core.List.{List}
 use mathlib.Core.Bool.{Bool, true, false, not, _||_, true≢false}
 use native.Mathlib.Omega.{arith}
 use lib.IntN.{ℤ, pos, negsuc, natAbs}
-use mir.Syntax.{w64}
-use mir.Val.{SFits, Fits}
-use mir.Facts.{toZ-ofZ}
+use lib.ListN.{getD}
+use mir.Syntax.{w32, w64}
+use mir.Val.{SFits, Fits, toZ}
+use mir.Facts.{toZ-ofZ, toZ-pos}
 use borrow.Author.Tests.{lt-ltb, le-ltb, le-leb, lt-leb, eq-eqb, ne-eqb}
 use Rattle.rules.specs.Notation.{if_then_else_, _is_, _≤?_, _<?_}
 use Rattle.rules.specs.Comparison.{Claim, claim}
 use Rattle.rules.specs.Shape.{isKind}
-use Rattle.rules.specs.Locks.{Lock, lock, lengthOf, isType, Taken, taken, bad, importLock, exportClaim}
+use Rattle.rules.specs.Locks.{Lock, lock, lengthOf, isType, Taken, taken, bad, importLock, exportClaim, recordWidth}
 use Rattle.rules.proofs.Ground.Deciding.{if-true}
 use Rattle.rules.proofs.Laws.Locks.{importRun, starts-below, reaches-below, run-back, run-to-the-end, run-on}
-use Rattle.posix.specs.Records.{below, above, kindOf, takeRun, imported, importedAs, refusalOf}
+use Rattle.posix.specs.Records.{below, above, kindOf, takeRun, imported, importedAs, refusalOf, lockAt, put3, putLock}
 use Rattle.posix.proofs.Signs.{again, above-small}
 use Rattle.posix.specs.declared.Imported.{Imported}
 
@@ -156,3 +158,29 @@ module _ (title start end kind : ℕ) where
   pub claim-unknown : start < end → end ≤ title → (kind ≡ 1 → ⊥) → (kind ≡ 2 → ⊥) → 4 ≡ refusalOf (exportClaim title (claim start end kind))
   unfolding exportClaim isKind
   claim-unknown h b k l = rw (lt-leb end start h, le-ltb title end b, ne-eqb kind 1 k, ne-eqb kind 2 l)
+
+-- ---- the record at a place, read from the bits of its numbers, and stored
+pub lock-read : (title place : ℕ) (l : List ℤ) (r : Imported)
+    → r ≡ importedAs (importLock title (lock (again (getD l (recordWidth * place) (pos 0))) (again (getD l (recordWidth * place + 1) (pos 0))) (again (getD l (recordWidth * place + 2) (pos 0)))))
+    → SFits w64 (getD l (recordWidth * place) (pos 0)) → SFits w64 (getD l (recordWidth * place + 1) (pos 0)) → SFits w64 (getD l (recordWidth * place + 2) (pos 0))
+    → r ≡ importedAs (importLock title (lockAt l place))
+lock-read title place l r q a b c = rw (toZ-ofZ a, toZ-ofZ b, toZ-ofZ c) at q
+
+pub refusal-read : (x : Taken Claim) (r : Imported) → r ≡ importedAs x → r .refusal ≡ refusalOf x
+refusal-read (taken c) r e = ap (λ (i : Imported). i .refusal) e
+refusal-read (bad number) r e = ap (λ (i : Imported). i .refusal) e
+
+pub lock-stored : (l : List ℤ) (place kind start : ℕ) (span : ℤ) → Fits w32 kind → Fits w32 start → SFits w64 span
+    → put3 l place (toZ w64 kind) (toZ w64 start) (again span) ≡ putLock l place (lock (pos kind) (pos start) span)
+lock-stored l place kind start span k s f =
+    let a : kind < 9223372036854775808 = let h = k .fits in omega arith in
+    let b : start < 9223372036854775808 = let h = s .fits in omega arith in
+    rw (toZ-pos w64 a, toZ-pos w64 b, toZ-ofZ f)
+
+pub to-the-end : (title start end : ℕ) → end ≡ title → pos 0 ≡ lengthOf title (claim start end 0)
+to-the-end title start end e = rw (eq-eqb end title e)
+
+pub not-to-the-end : (title start end : ℕ) → (end ≡ title → ⊥) → Fits w32 end → toZ w64 (end - start) ≡ lengthOf title (claim start end 0)
+not-to-the-end title start end d f =
+    let h : end - start < 9223372036854775808 = let h = f .fits in omega arith in
+    rw (ne-eqb end title d, toZ-pos w64 h)

@@ -276,20 +276,30 @@ fn put_lock(locks: &mut [i64], place: usize, kind: u32, start: u32, span: i64)
     locks[at + 2] = span;
 }
 
+// the claim at a place, which is not refused, as a lock at the same place
+fn export_at(title: u32, claims: &[u32], locks: &mut [i64], place: usize)
+    requires { ⌜ recordWidth * place + 2 < length (now claims) ⌝ }
+    requires { ⌜ recordWidth * place + 2 < length (now locks) ⌝ }
+    requires { ⌜ refusalOf (exportClaim title (claimAt (now claims) place)) ≡ 0 ⌝ }
+    ensures { λ r. ⌜ now (locks .exit) ≡ putLock (now (locks .entry)) place (lockFor title (now (claims .entry)) place) ⌝ }
+{
+    let at = 3 * place;
+    let start = claims[at];
+    let end = claims[at + 1];
+    let kind = claims[at + 2];
+    let span = length_of(title, start, end);
+    put_lock(locks, place, kind, start, span);
+}
+
 fn put_locks(title: u32, claims: &[u32], locks: &mut [i64])
     requires { ⌜ length (now claims) / recordWidth ≤ length (now locks) / recordWidth ⌝ }
-    requires { ⌜ verdict (each (exportClaim title) (claimsIn (now claims))) ≡ moved 0 0 ⌝ }
+    requires { ⌜ moved 0 0 ≡ verdict (each (exportClaim title) (claimsIn (now claims))) ⌝ }
     ensures { λ r. ⌜ now (locks .exit) ≡ putFrom putLock 0 (recordsFrom (lockFor title (now (claims .entry))) 0 (length (now (claims .entry)) / recordWidth)) (now (locks .entry)) ⌝ }
 {
     let count = claims.len() / 3;
     let mut place: usize = 0;
     while place < count {
-        let at = 3 * place;
-        let start = claims[at];
-        let end = claims[at + 1];
-        let kind = claims[at + 2];
-        let span = length_of(title, start, end);
-        put_lock(locks, place, kind, start, span);
+        export_at(title, claims, locks, place);
         place += 1;
     }
 }

@@ -1,3 +1,4 @@
+use Rattle.posix.proofs.One.{lock-read}
 use borrow.Author.Needs.{needs}
 use Rattle.posix.proofs.import_at.Statement.{statement}
 use Rattle.posix.proofs.import_at.Tie as tie
@@ -47,7 +48,7 @@ import-lock-requires c κs = search needs
 
 -- src/lib.rt:117:1
 returns : tie.Need-returns
-returns c = ?
+returns c = search lock-read
 
 pub import-at-spec : {M : Type 1} → statement M
 import-at-spec =

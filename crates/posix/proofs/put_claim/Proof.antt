@@ -1,3 +1,6 @@
+use mathlib.Core.Path.{refl}
+use native.Mathlib.Omega.{arith}
+use lib.ListN.{length-set}
 use borrow.Author.Needs.{needs}
 use Rattle.posix.proofs.put_claim.Statement.{statement}
 use Rattle.posix.proofs.put_claim.Tie as tie
@@ -26,7 +29,7 @@ mul-claims-2 c = search needs
 
 -- src/lib.rt:157:5
 slice-write-claims-2 : tie.Need-slice-write-claims-2
-slice-write-claims-2 c = ?
+slice-write-claims-2 c = simp length-set (omega arith)
 
 -- src/lib.rt:158:12
 add-claims-2 : tie.Need-add-claims-2
@@ -46,7 +49,7 @@ same-length c = search needs
 
 -- src/lib.rt:151:1
 returns : tie.Need-returns
-returns c = ?
+returns c = refl
 
 pub put-claim-spec : {M : Type 1} → statement M
 put-claim-spec =

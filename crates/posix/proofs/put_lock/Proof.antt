@@ -1,3 +1,6 @@
+use Rattle.posix.proofs.One.{lock-stored}
+use native.Mathlib.Omega.{arith}
+use lib.ListN.{length-set}
 use borrow.Author.Needs.{needs}
 use Rattle.posix.proofs.put_lock.Statement.{statement}
 use Rattle.posix.proofs.put_lock.Tie as tie
@@ -34,7 +37,7 @@ mul-first c = search needs
 
 -- src/lib.rt:267:5
 slice-set-from-first : tie.Need-slice-set-from-first
-slice-set-from-first c = ?
+slice-set-from-first c = simp length-set (omega arith)
 
 -- src/lib.rt:268:11
 add-span : tie.Need-add-span
@@ -54,7 +57,7 @@ same-length c = search needs
 
 -- src/lib.rt:259:1
 returns : tie.Need-returns
-returns c = ?
+returns c = search lock-stored
 
 pub put-lock-spec : {M : Type 1} → statement M
 put-lock-spec =

@@ -4,10 +4,13 @@ use mathlib.Core.Path.{_≡_, refl, sym, ap, _∙_}
 use mathlib.Core.Bool.{Bool, true, false, not, _||_}
 use native.Mathlib.Omega.{arith}
 use lib.IntN.{ℤ, pos, negsuc, natAbs, _+ℤ_, _-ℤ_, -ℤ-+ℤ-cancel}
-use borrow.Author.Tests.{lt-ltb, le-ltb}
+use lib.Signed.{ltZ}
+use borrow.Author.Tests.{lt-ltb, le-ltb, leb-true, leb-false, ltb-true, ltb-false, not-true, not-false}
 use Rattle.rules.specs.Notation.{if_then_else_, _≤?_, _<?_}
 use Rattle.rules.specs.Comparison.{Claim, claim}
-use Rattle.rules.specs.Locks.{Lock, lock, bySign, firstFrame, lastFrame, endFrame, noRun, isType, Taken, taken, bad, importLock}
+use Rattle.rules.specs.Shape.{isKind}
+use Rattle.rules.specs.Locks.{Lock, lock, bySign, firstFrame, lastFrame, endFrame, noRun, isType, Taken, taken, bad, importLock, lengthOf, exportClaim}
+use Rattle.rules.proofs.Ground.Logic.{branch}
 
 -- ---- the end, as begin has it
 pub end-is : (title : ℕ) (l : Lock) → endFrame title l ≡ bySign (l .length) (l .start) (pos title) (l .start +ℤ l .length)
@@ -21,6 +24,31 @@ end-is title l = go (l .length)
 
 not-below : (n : ℕ) → (n <? 0) ≡ false
 not-below n = le-ltb n 0 (omega arith)
+
+-- ---- one record goes by one of the tests, each branch knowing how those before it came out
+module _ {ℓ} (title : ℕ) where
+  pub importing : (P : Taken Claim → Type ℓ) (l : Lock) → (noRun (firstFrame l) (endFrame title l) ≡ true → P (bad 12))
+      → (noRun (firstFrame l) (endFrame title l) ≡ false → isType (l .type) ≡ false → P (bad 13))
+      → (noRun (firstFrame l) (endFrame title l) ≡ false → isType (l .type) ≡ true → ltZ (pos title) (endFrame title l) ≡ true → P (bad 11))
+      → (noRun (firstFrame l) (endFrame title l) ≡ false → isType (l .type) ≡ true → ltZ (pos title) (endFrame title l) ≡ false
+      → P (taken (claim (natAbs (firstFrame l)) (natAbs (endFrame title l)) (natAbs (l .type)))))
+      → P (importLock title l)
+  unfolding importLock
+  importing P l no-run no-type beyond takes =
+      branch P (noRun (firstFrame l) (endFrame title l)) no-run
+      (λ e. branch P (not (isType (l .type))) (λ f. no-type e (not-true (isType (l .type)) f))
+      (λ f. branch P (ltZ (pos title) (endFrame title l)) (beyond e (not-false (isType (l .type)) f)) (takes e (not-false (isType (l .type)) f))))
+
+  pub exporting : (P : Taken Lock → Type ℓ) (c : Claim) → (c .end ≤ c .start → P (bad 3)) → (c .start < c .end → title < c .end → P (bad 11))
+      → (c .start < c .end → c .end ≤ title → isKind (c .kind) ≡ false → P (bad 4))
+      → (c .start < c .end → c .end ≤ title → isKind (c .kind) ≡ true → P (taken (lock (pos (c .kind)) (pos (c .start)) (lengthOf title c))))
+      → P (exportClaim title c)
+  unfolding exportClaim
+  exporting P c empty beyond no-kind takes =
+      branch P (c .end ≤? c .start) (λ e. empty (leb-true (c .end) (c .start) e))
+      (λ e. branch P (title <? c .end) (λ f. beyond (leb-false (c .end) (c .start) e) (ltb-true title (c .end) f))
+      (λ f. branch P (not (isKind (c .kind))) (λ g. no-kind (leb-false (c .end) (c .start) e) (ltb-false title (c .end) f) (not-true (isKind (c .kind)) g))
+      (λ g. takes (leb-false (c .end) (c .start) e) (ltb-false title (c .end) f) (not-false (isKind (c .kind)) g))))
 
 -- ---- import of a run that does not start below 0
 abbrev pub importRun : ℕ → ℕ → ℕ → ℤ → Taken Claim

@@ -1,0 +1,58 @@
+use Rattle.posix.proofs.Calls.{LocksLookedAt, no-lock-yet, lock-passed, lock-bad, no-lock-left}
+use lib.ListN.{length}
+use Prim.Native.Nat.{_-_, _≤_, _/_}
+use mathlib.Core.Path.{_≡_, refl}
+use native.Mathlib.Omega.{arith}
+use Rattle.posix.proofs.first_bad_lock.Statement.{statement}
+use Rattle.posix.proofs.first_bad_lock.Tie as tie
+use Rattle.posix.proofs.first_bad_lock.Reads as reads
+use Rattle.posix.proofs.first_bad_lock.Lts as lts
+use Rattle.posix.proofs.lock_refusal_at.Reads as lock-refusal-at-reads
+
+abbrev Inv-loop : tie.InvT-loop
+Inv-loop title locks count place₀ place = (place ≤ count) × (count ≡ length locks / 3) × LocksLookedAt title locks place
+
+abbrev μ-loop : tie.MeasureT-loop
+μ-loop title locks count place₀ place = count - place
+
+-- src/lib.rt:143:5
+loop-holds : tie.Need-loop-holds Inv-loop μ-loop
+loop-holds c = (omega arith, refl, no-lock-yet _ _)
+
+-- src/lib.rt:144:13
+lock-refusal-at-requires : tie.Need-lock-refusal-at-requires Inv-loop μ-loop
+lock-refusal-at-requires c κs = omega arith
+
+-- src/lib.rt:146:13
+returns : tie.Need-returns Inv-loop μ-loop
+returns c = search lock-bad
+
+-- src/lib.rt:151:9
+add-place : tie.Need-add-place Inv-loop μ-loop
+add-place c = omega arith
+
+-- src/lib.rt:143:5
+loop-less : tie.Need-loop-less Inv-loop μ-loop
+loop-less c = omega arith
+
+-- src/lib.rt:143:5
+loop-again : tie.Need-loop-again Inv-loop μ-loop
+loop-again c = (omega arith, refl, search lock-passed)
+
+-- src/lib.rt:138:1
+returns-2 : tie.Need-returns-2 Inv-loop μ-loop
+returns-2 c = search no-lock-left
+
+pub first-bad-lock-spec : {M : Type 1} → statement M
+first-bad-lock-spec =
+    tie.close
+    (tie.spec
+    Inv-loop
+    μ-loop
+    loop-holds
+    lock-refusal-at-requires
+    returns
+    add-place
+    loop-less
+    loop-again
+    returns-2)

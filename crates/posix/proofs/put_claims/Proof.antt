@@ -1,0 +1,65 @@
+use Rattle.posix.proofs.Calls.{ClaimsStored, no-claim-yet, claim-stored, claims-stored}
+use lib.ListN.{length}
+use Prim.Native.Nat.{_-_, _≤_, _/_}
+use mathlib.Core.Path.{_≡_, refl}
+use borrow.Author.Needs.{needs}
+use native.Mathlib.Omega.{arith}
+use Rattle.posix.proofs.put_claims.Statement.{statement}
+use Rattle.posix.proofs.put_claims.Tie as tie
+use Rattle.posix.proofs.put_claims.Reads as reads
+use Rattle.posix.proofs.put_claims.Lts as lts
+use Rattle.posix.proofs.import_at.Reads as import-at-reads
+use Rattle.posix.proofs.put_claim.Reads as put-claim-reads
+
+abbrev Inv-loop : tie.InvT-loop
+Inv-loop title locks claims₀ count place₀ claims place = (place ≤ count) × (count ≡ length locks / 3) × (length claims ≡ length claims₀) × ClaimsStored title locks claims₀ place claims
+
+abbrev μ-loop : tie.MeasureT-loop
+μ-loop title locks claims₀ count place₀ claims place = count - place
+
+-- src/lib.rt:175:5
+loop-holds : tie.Need-loop-holds Inv-loop μ-loop
+loop-holds c = (omega arith, refl, refl, search no-claim-yet)
+
+-- src/lib.rt:176:13
+import-at-requires : tie.Need-import-at-requires Inv-loop μ-loop
+import-at-requires c κs = omega arith
+
+-- src/lib.rt:177:9
+put-claim-requires : tie.Need-put-claim-requires Inv-loop μ-loop
+put-claim-requires c κs = omega arith
+
+-- src/lib.rt:178:9
+add-place : tie.Need-add-place Inv-loop μ-loop
+add-place c = omega arith
+
+-- src/lib.rt:175:5
+loop-less : tie.Need-loop-less Inv-loop μ-loop
+loop-less c = omega arith
+
+-- src/lib.rt:175:5
+loop-again : tie.Need-loop-again Inv-loop μ-loop
+loop-again c = (omega arith, refl, search needs, search claim-stored)
+
+-- src/lib.rt:169:1
+same-length : tie.Need-same-length Inv-loop μ-loop
+same-length c = search needs
+
+-- src/lib.rt:169:1
+returns : tie.Need-returns Inv-loop μ-loop
+returns c = search claims-stored
+
+pub put-claims-spec : {M : Type 1} → statement M
+put-claims-spec =
+    tie.close
+    (tie.spec
+    Inv-loop
+    μ-loop
+    loop-holds
+    import-at-requires
+    put-claim-requires
+    add-place
+    loop-less
+    loop-again
+    same-length
+    returns)
