@@ -14,27 +14,14 @@ use borrow.Author.Tests.{ne-eqb, leb-false, eq-eqb}
 use Rattle.rules.specs.Notation.{if_then_else_, _≤?_, _<?_}
 use Rattle.rules.specs.Comparison.{Claim, claim}
 use Rattle.rules.specs.Shape.{isKind}
-use Rattle.rules.specs.Locks.{Lock, lock, Taken, taken, bad, importLock, lengthOf, exportClaim, each, recordWidth, locksIn, lockNumbers, claimsIn, claimNumbers, listed, moved, importLocks, exportClaims}
+use Rattle.rules.specs.Locks.{Lock, lock, Taken, taken, bad, importLock, lengthOf, lockOf, exportClaim, each, recordWidth, locksIn, lockNumbers, claimsIn, claimNumbers, listed, moved, importLocks, exportClaims}
 use Rattle.rules.specs.declared.Moved.{Moved}
-use Rattle.rules.proofs.Laws.Locks.{importing, exporting}
-use Rattle.posix.specs.Records.{lockAt, claimAt, putClaim, putLock, verdict, recordsFrom, putFrom, claimOr0, claimFor, lockOf, lockFor, importedAs, refusalOf}
+use Rattle.rules.proofs.Laws.Locks.{exporting, import-never-0, export-never-0}
+use Rattle.posix.specs.Records.{lockAt, claimAt, putClaim, putLock, verdict, recordsFrom, putFrom, claimOr0, claimFor, lockFor, importedAs, refusalOf}
 use Rattle.posix.specs.declared.Imported.{Imported}
 use Rattle.posix.proofs.Signs.{again}
 use Rattle.posix.proofs.Lists as lists
 use Rattle.posix.proofs.Lists.{LookedAt, StoredUpTo}
-
--- ---- a refusal has a number
-taken-not-0 : {A : Type 0} {a : A} → taken a ≢ bad 0
-taken-not-0 q = let z : _≡_ {A = ℕ} 0 1 = cc in absurd (omega arith)
-
-bad-not-0 : {A : Type 0} (n : ℕ) → _≢_ {A = Taken A} (bad (suc n)) (bad 0)
-bad-not-0 n q = let z : suc n ≡ 0 = ap refusalOf q in omega arith
-
-pub import-never-0 : (title : ℕ) (l : Lock) → importLock title l ≢ bad 0
-import-never-0 title l = importing title (λ x. x ≢ bad 0) l (λ e. bad-not-0 11) (λ e f. bad-not-0 12) (λ e f g. bad-not-0 10) (λ e f g. taken-not-0)
-
-pub export-never-0 : (title : ℕ) (c : Claim) → exportClaim title c ≢ bad 0
-export-never-0 title c = exporting title (λ x. x ≢ bad 0) c (λ e. bad-not-0 2) (λ e f. bad-not-0 10) (λ e f g. bad-not-0 3) (λ e f g. taken-not-0)
 
 -- ---- what is stored for a record that is not refused
 is-claim : (x : Taken Claim) → x ≢ bad 0 → refusalOf x ≡ 0 → x ≡ taken (claimOr0 x)

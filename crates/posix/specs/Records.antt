@@ -8,7 +8,7 @@ use Rattle.rules.specs.Notation.{if_then_else_, _is_, _≤?_, _<?_}
 use Rattle.rules.specs.Comparison.{Claim, claim}
 use Rattle.rules.specs.Shape.{isKind}
 use Rattle.rules.specs.Answers.{_when_, unless}
-use Rattle.rules.specs.Locks.{Lock, lock, lengthOf, Taken, taken, bad, importLock, All, all, firstBad, recordWidth, moved}
+use Rattle.rules.specs.Locks.{Lock, lock, lockOf, Taken, taken, bad, importLock, All, all, firstBad, recordWidth, moved}
 use Rattle.rules.specs.declared.Moved.{Moved}
 use Rattle.posix.specs.declared.Imported.{Imported}
 
@@ -89,9 +89,6 @@ claimOr0 (bad number) = claim 0 0 0
 
 abbrev pub claimFor : ℕ → List ℤ → ℕ → Claim
 claimFor title l i = claimOr0 (importLock title (lockAt l i))
-
-abbrev pub lockOf : ℕ → Claim → Lock
-lockOf title c = lock (pos (c .kind)) (pos (c .start)) (lengthOf title c)
 
 abbrev pub lockFor : ℕ → List ℕ → ℕ → Lock
 lockFor title l i = lockOf title (claimAt l i)

@@ -19,5 +19,8 @@ pub mod RunSteps
 pub mod BoardNumbers
 pub mod Covered
 pub mod ScriptRefused
+pub mod Records
 pub mod Locks
+pub mod LocksRefused
+pub mod ThereAndBack
 pub mod OneAnswer

@@ -23,3 +23,4 @@ pub mod Covered
 pub mod HowMany
 pub mod Title
 pub mod Stores
+pub mod Archive

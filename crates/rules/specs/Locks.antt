@@ -71,6 +71,9 @@ importLock title l =
 abbrev pub lengthOf : ℕ → Claim → ℤ
 lengthOf title c = if c .end is title then pos 0 else pos (c .end - c .start)
 
+abbrev pub lockOf : ℕ → Claim → Lock
+lockOf title c = lock (pos (c .kind)) (pos (c .start)) (lengthOf title c)
+
 -- "export 3, 11, 4"
 unfoldable pub exportClaim : ℕ → Claim → Taken Lock
 exportClaim title c =
@@ -79,7 +82,7 @@ exportClaim title c =
     ∷ (11 when title <? c .end)
     ∷ (4 when not (isKind (c .kind)))
     ∷ [])
-    (taken (lock (pos (c .kind)) (pos (c .start)) (lengthOf title c)))
+    (taken (lockOf title c))
 
 -- ---- several records: "refuses all of them for the first bad one and gives its place from 0"
 pub data All (A : Type 0) : Type 0 where
@@ -144,13 +147,14 @@ written numbers (all records) lent =
     if length lent / recordWidth <? length records then listed (moved 9 0) lent
     else listed (moved 0 0) (numbers records ++ drop (recordWidth * length records) lent)
 
--- "3 if the title's count is 0"
-unfoldable pub importLocks : ℕ → List ℤ → List ℕ → Listed ℕ
-importLocks title locks lent =
+-- "3 if the title's count is 0", whatever the records
+abbrev pub moveAll : {A B C : Type 0} → ℕ → (A → Taken B) → (List B → List C) → List A → List C → Listed C
+moveAll title move numbers records lent =
     if title is 0 then listed (moved 3 0) lent
-    else written claimNumbers (each (importLock title) (locksIn locks)) lent
+    else written numbers (each move records) lent
+
+unfoldable pub importLocks : ℕ → List ℤ → List ℕ → Listed ℕ
+importLocks title locks = moveAll title (importLock title) claimNumbers (locksIn locks)
 
 unfoldable pub exportClaims : ℕ → List ℕ → List ℤ → Listed ℤ
-exportClaims title claims lent =
-    if title is 0 then listed (moved 3 0) lent
-    else written lockNumbers (each (exportClaim title) (claimsIn claims)) lent
+exportClaims title claims = moveAll title (exportClaim title) lockNumbers (claimsIn claims)

@@ -1,12 +1,14 @@
 -- The words in which demand 1 is stated: of each call, its refusals and when each is met, by what the lent tables and the numbers are. Every
 -- case also says that none before it was met, so the order of the refusals stands here a second time, apart from the lists of tests in
--- Calls, Run, Board and Script. proofs/Refusing.antt says that the calls refuse exactly so, and that a refused call changes nothing.
+-- Calls, Run, Board, Script and Locks. proofs/Refusing.antt says that the calls refuse exactly so, and that a refused call changes nothing.
 use Prim.Native.Nat.{ℕ, suc, _+_, _≤_, _<_}
 use mathlib.Core.Path.{_≡_}
 use mathlib.Core.Bool.{true, false}
-use mathlib.Core.List.{List}
+use mathlib.Core.List.{List, [], _∷_, _++_}
 use mathlib.Core.Logic.{_≢_, _⊎_}
+use lib.IntN.{pos}
 use lib.ListN.{length}
+use lib.Signed.{_≤ℤ_, _<ℤ_}
 use Rattle.rules.specs.Tables.{Tables, seatCount, title, phase}
 use Rattle.rules.specs.Comparison.{Claim}
 use Rattle.rules.specs.Shape.{lengthsFit, sound}
@@ -14,6 +16,7 @@ use Rattle.rules.specs.Reach.{lowestFree}
 use Rattle.rules.specs.Fetch.{takenOut}
 use Rattle.rules.specs.Board.{holders}
 use Rattle.rules.specs.Script.{nowhere, contentsOf, bodyAt}
+use Rattle.rules.specs.Locks.{Lock, firstFrame, endFrame}
 use Rattle.rules.specs.Play.{Call, beginCall, stepCall, releaseCall, seatOf}
 
 -- the tables are sound and have the seat
@@ -84,3 +87,35 @@ pub data ScriptRefuses (src : List ℕ) : ℕ → Type 0 where
   contents-wrong : length src ≤ 16384 → contentsOf src .next ≡ nowhere src → ScriptRefuses src 1
   body-wrong : length src ≤ 16384 → (i at : ℕ) → i < contentsOf src .k → ReadTo src i at → bodyAt src at .next ≡ nowhere src → ScriptRefuses src (i + 2)
   more-follows : length src ≤ 16384 → (at : ℕ) → ReadTo src (contentsOf src .k) at → at ≢ length src → ScriptRefuses src (contentsOf src .k + 2)
+
+-- ---- import and export, each with the title's frame count: of one lock, "12 (the run starts below 0, is empty, or its end is past 4,294,967,295),
+-- 13 (unknown type), 11"
+pub record HasRun (frames : ℕ) (l : Lock) : Type 0 where
+  pub from-0 : pos 0 ≤ℤ firstFrame l
+  pub not-empty : firstFrame l <ℤ endFrame frames l
+  pub not-past : endFrame frames l ≤ℤ pos 4294967295
+
+pub data LockRefuses (frames : ℕ) (l : Lock) : ℕ → Type 0 where
+  starts-below : firstFrame l <ℤ pos 0 → LockRefuses frames l 12
+  run-empty : endFrame frames l ≤ℤ firstFrame l → LockRefuses frames l 12
+  ends-past : pos 4294967295 <ℤ endFrame frames l → LockRefuses frames l 12
+  no-type : HasRun frames l → l .type ≢ pos 1 → l .type ≢ pos 2 → LockRefuses frames l 13
+  run-beyond : HasRun frames l → (l .type ≡ pos 1) ⊎ (l .type ≡ pos 2) → pos frames <ℤ endFrame frames l → LockRefuses frames l 11
+
+-- of one claim, "3, 11, 4"
+pub data ClaimRefuses (frames : ℕ) (c : Claim) : ℕ → Type 0 where
+  claim-empty : c .end ≤ c .start → ClaimRefuses frames c 3
+  claim-beyond : c .start < c .end → frames < c .end → ClaimRefuses frames c 11
+  claim-of-no-kind : c .start < c .end → c .end ≤ frames → c .kind ≢ 1 → c .kind ≢ 2 → ClaimRefuses frames c 4
+
+-- of several records, the first bad one with its place from 0, and 9 last, where there is room for fewer: 3 of the title and 9 belong to no record,
+-- and come with the place 0
+pub data NoneRefused {A : Type 0} (Refused : A → ℕ → Type 0) : List A → Type 0 where
+  no-record : NoneRefused Refused []
+  not-this : {a : A} {more : List A} → ((number : ℕ) → Refused a number → ⊥) → NoneRefused Refused more → NoneRefused Refused (a ∷ more)
+
+pub data RecordsRefuse {A : Type 0} (Refused : A → ℕ → Type 0) (frames : ℕ) (records : List A) (room : ℕ) : ℕ → ℕ → Type 0 where
+  no-title : frames ≡ 0 → RecordsRefuse Refused frames records room 3 0
+  bad-record : {number : ℕ} → frames ≢ 0 → (before : List A) (one : A) (behind : List A) → records ≡ before ++ (one ∷ behind) → NoneRefused Refused before
+      → Refused one number → RecordsRefuse Refused frames records room number (length before)
+  no-room : frames ≢ 0 → NoneRefused Refused records → room < length records → RecordsRefuse Refused frames records room 9 0

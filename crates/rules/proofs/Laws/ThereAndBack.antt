@@ -1,0 +1,134 @@
+-- A lock and its claim cover the same frames; what goes out comes in again as it was, and what comes in goes out with the same frames: one record,
+-- several, and whole lists as they are lent.
+use Prim.Native.Nat.{ℕ, zero, suc, _+_, _-_, _*_, _/_, _≤_, _<_}
+use mathlib.Core.Path.{_≡_, refl, sym, ap, subst, _∙_}
+use mathlib.Core.List.{List, [], _∷_, _++_}
+use mathlib.Core.Logic.{_≢_}
+use native.Mathlib.Omega.{arith}
+use lib.Dec.{leb→le, le→leb}
+use lib.IntN.{ℤ, pos, negsuc, _-ℤ_, +ℤ-negℤ-cancel}
+use lib.ListN.{length, take, drop}
+use lib.Signed.{_≤ℤ_, leZ-yes}
+use borrow.Author.Tests.{le-ltb}
+use Rattle.rules.specs.Comparison.{Claim, claim}
+use Rattle.rules.specs.Locks.{Lock, lock, firstFrame, lastFrame, endFrame, lockOf, Taken, taken, importLock, exportClaim, All, all, each, recordWidth, locksIn, lockNumbers, claimsIn, claimNumbers, listed, moved, importLocks, exportClaims}
+use Rattle.rules.specs.Apart.{Covers}
+use Rattle.rules.specs.Archive.{LockCovers, SameFrames, Pairwise, no-more, and-then, recordNumbers}
+use Rattle.rules.proofs.Laws.Records.{records-of, taken-all, taken-too, accepted, written-so, taken-length, threes-length, records-length, read-back, written-back, take-front}
+use Rattle.rules.proofs.Laws.Locks.{Imports, imports, imported, Exports, exports, exported, out-and-in, in-and-out, last-is, import-never-0, export-never-0}
+
+-- ---- the frames
+most : (a b : ℕ) → a ≤ b → pos a ≤ℤ pos b
+most a b h = leZ-yes (le→leb a b h)
+
+at-most : (a b : ℕ) → pos a ≤ℤ pos b → a ≤ b
+at-most a b h = leb→le a b (h .le)
+
+module _ (title : ℕ) (l : Lock) (c : Claim) (i : Imports title l c) where
+  last : lastFrame title l ≡ pos (c .end - 1)
+  last = last-is title l ∙ ap (λ z. z -ℤ pos 1) (i .end) ∙ (let s = i .some in let h : 1 ≤ c .end = omega arith in rw (le-ltb (c .end) 1 h))
+
+  pub claim-as-lock : (frame : ℕ) → Covers c frame → LockCovers title l frame
+  claim-as-lock frame h =
+      (subst (λ z. z ≤ℤ pos frame) (sym (i .first)) (most (c .start) frame (h .0)), subst (λ z. pos frame ≤ℤ z) (sym last) (most frame (c .end - 1) (let e = h .1 in omega arith)))
+
+  pub lock-as-claim : (frame : ℕ) → LockCovers title l frame → Covers c frame
+  lock-as-claim frame h =
+      let e = at-most frame (c .end - 1) (subst (λ z. pos frame ≤ℤ z) last (h .1)) in
+      let s = i .some in
+      (at-most (c .start) frame (subst (λ z. z ≤ℤ pos frame) (i .first) (h .0)), omega arith)
+
+-- ---- several records
+module _ (title : ℕ) (small : title ≤ 4294967295) where
+  pub back-again : (c : Claim) (l : Lock) → exportClaim title c ≡ taken l → importLock title l ≡ taken c
+  back-again c l q = let e = exports title c l q in rw (e .1) (imported title (lockOf title c) c (out-and-in title c small (e .0)))
+
+  pub all-back-again : (claims : List Claim) (locks : List Lock) → each (exportClaim title) claims ≡ all locks → each (importLock title) locks ≡ all claims
+  unfolding each
+  all-back-again [] locks q = rw (← ap records-of q)
+  all-back-again (c ∷ more) locks q =
+      let w = taken-all (exportClaim title c) (each (exportClaim title) more) locks q in
+      rw (w .are, back-again c (w .one) (w .first), all-back-again more (w .more) (w .others))
+
+  pub out-again : (l : Lock) (c : Claim) → importLock title l ≡ taken c → (exportClaim title c ≡ taken (lockOf title c)) × SameFrames title l (lockOf title c)
+  out-again l c q = in-and-out title l c small (imports title l c q)
+
+  pub record OutAgain (locks : List Lock) (claims : List Claim) : Type 0 where
+    pub list : List Lock
+    pub are : each (exportClaim title) claims ≡ all list
+    pub alike : Pairwise (SameFrames title) locks list
+
+  pub all-out-again : (locks : List Lock) (claims : List Claim) → each (importLock title) locks ≡ all claims → OutAgain locks claims
+  unfolding each
+  all-out-again [] claims q = record { list = []; are = rw (← ap records-of q); alike = no-more }
+  all-out-again (l ∷ more) claims q =
+      let w = taken-all (importLock title l) (each (importLock title) more) claims q in
+      let o = out-again l (w .one) (w .first) in
+      let m = all-out-again more (w .more) (w .others) in
+      record { list = lockOf title (w .one) ∷ m .list; are = ap (each (exportClaim title)) (w .are) ∙ taken-too (exportClaim title) (w .one) (w .more) (lockOf title (w .one)) (m .list) (o .0) (m .are); alike = and-then (o .1) (m .alike) }
+
+  -- ---- lists as they are lent
+  lock-numbers : (locks : List Lock) → locksIn (lockNumbers locks) ≡ locks
+  lock-numbers = read-back lock (λ l. l .type) (λ l. l .start) (λ l. l .length) (λ l. refl)
+
+  claim-numbers : (claims : List Claim) → claimsIn (claimNumbers claims) ≡ claims
+  claim-numbers = read-back claim (λ c. c .start) (λ c. c .end) (λ c. c .kind) (λ c. refl)
+
+  -- what an accepted export stored, and what an accepted import did
+  gone : (claims : List ℕ) (lent : List ℤ) (locks : List Lock) → title ≢ 0 → each (exportClaim title) (claimsIn claims) ≡ all locks → length locks ≤ length lent / recordWidth
+      → length locks ≡ length (claimsIn claims) → take (recordNumbers claims) (exportClaims title claims lent .after) ≡ lockNumbers locks
+  unfolding exportClaims
+  gone claims lent locks d e room n =
+      let k = records-length claim claims in
+      let t = threes-length (λ l. l .type) (λ l. l .start) (λ l. l .length) locks in
+      ap (λ z. take (recordNumbers claims) (z .after)) (written-so (exportClaim title) (export-never-0 title) lockNumbers title (claimsIn claims) lent locks d e room)
+      ∙ take-front (lockNumbers locks) (drop (recordWidth * length locks) lent) (recordNumbers claims) (omega arith)
+
+  come : (locks : List ℤ) (lent : List ℕ) (claims : List Claim) → title ≢ 0 → each (importLock title) (locksIn locks) ≡ all claims → length claims ≤ length lent / recordWidth
+      → length claims ≡ length (locksIn locks) → take (recordNumbers locks) (importLocks title locks lent .after) ≡ claimNumbers claims
+  unfolding importLocks
+  come locks lent claims d e room n =
+      let k = records-length lock locks in
+      let t = threes-length (λ c. c .start) (λ c. c .end) (λ c. c .kind) claims in
+      ap (λ z. take (recordNumbers locks) (z .after)) (written-so (importLock title) (import-never-0 title) claimNumbers title (locksIn locks) lent claims d e room)
+      ∙ take-front (claimNumbers claims) (drop (recordWidth * length claims) lent) (recordNumbers locks) (omega arith)
+
+  pub list-back-again : (claims : List ℕ) (lent : List ℤ) (back : List ℕ) → exportClaims title claims lent .answer ≡ moved 0 0 → length claims / recordWidth ≤ length back / recordWidth
+      → importLocks title (take (recordNumbers claims) (exportClaims title claims lent .after)) back ≡ listed (moved 0 0) (take (recordNumbers claims) claims ++ drop (recordNumbers claims) back)
+  unfolding importLocks exportClaims
+  list-back-again claims lent back q room =
+      let a = accepted (exportClaim title) (export-never-0 title) lockNumbers title (claimsIn claims) lent q in
+      let n = records-length claim claims in
+      let again = all-back-again (claimsIn claims) (a .list) (a .are) in
+      rw (
+        gone claims lent (a .list) (a .some-title) (a .are) (a .room) (a .as-many),
+        written-so (importLock title) (import-never-0 title) claimNumbers title (locksIn (lockNumbers (a .list))) back (claimsIn claims) (a .some-title)
+        (ap (each (importLock title)) (lock-numbers (a .list)) ∙ again) (omega arith),
+        written-back claim (λ c. c .start) (λ c. c .end) (λ c. c .kind) (λ a b c. refl) (λ a b c. refl) (λ a b c. refl) claims,
+        n,
+      )
+
+  pub list-out-again : (locks : List ℤ) (lent : List ℕ) (back : List ℤ) → importLocks title locks lent .answer ≡ moved 0 0 → length locks / recordWidth ≤ length back / recordWidth
+      → (exportClaims title (take (recordNumbers locks) (importLocks title locks lent .after)) back .answer ≡ moved 0 0)
+      × Pairwise (SameFrames title) (locksIn locks) (locksIn (take (recordNumbers locks) (exportClaims title (take (recordNumbers locks) (importLocks title locks lent .after)) back .after)))
+  unfolding importLocks exportClaims
+  list-out-again locks lent back q room =
+      let a = accepted (importLock title) (import-never-0 title) claimNumbers title (locksIn locks) lent q in
+      let o = all-out-again (locksIn locks) (a .list) (a .are) in
+      let n = records-length lock locks in
+      let m = a .as-many in
+      let k = taken-length (exportClaim title) (a .list) (o .list) (o .are) in
+      let t = threes-length (λ l. l .type) (λ l. l .start) (λ l. l .length) (o .list) in
+      let c : exportClaims title (take (recordNumbers locks) (importLocks title locks lent .after)) back ≡ listed (moved 0 0) (lockNumbers (o .list) ++ drop (recordWidth * length (o .list)) back) =
+          ap (λ (x : List ℕ). exportClaims title x back) (come locks lent (a .list) (a .some-title) (a .are) (a .room) m)
+          ∙ written-so (exportClaim title) (export-never-0 title) lockNumbers title (claimsIn (claimNumbers (a .list))) back (o .list) (a .some-title)
+          (ap (each (exportClaim title)) (claim-numbers (a .list)) ∙ o .are) (omega arith) in
+      (
+        ap (λ z. z .answer) c,
+        subst (Pairwise (SameFrames title) (locksIn locks))
+        (sym
+        (ap (λ z. locksIn (take (recordNumbers locks) (z .after))) c
+        ∙ ap locksIn (take-front (lockNumbers (o .list)) (drop (recordWidth * length (o .list)) back) (recordNumbers locks) (omega arith))
+        ∙ lock-numbers (o .list)))
+        (o .alike),
+      )
