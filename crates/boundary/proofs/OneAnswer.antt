@@ -7,7 +7,7 @@ use native.Mathlib.Omega.{arith}
 use denote.Ref.{now}
 use Rattle.rules.specs.Tables.{Tables, tables}
 use Rattle.rules.specs.Answers.{Done, done}
-use Rattle.rules.proofs.Laws.OneAnswer.{Settles, SettlesAnswer, one-value, one-result}
+use Rattle.rules.proofs.Laws.OneAnswer.{Settles, SettlesAnswer, one-value, one-result, one-list}
 use Rattle.playing.proofs.OneAnswer.{one-text}
 use Rattle.boundary.specs.Encoded.{Halves, halvesOf, StepTold, stepTold, Told, told, ReadAs, readAs}
 use Rattle.boundary.proofs.soodhiqune_clear.Reads as clear
@@ -24,6 +24,10 @@ use Rattle.boundary.proofs.soodhiqune_run.Reads as run
 use Rattle.boundary.proofs.soodhiqune_run.Kinds as run-kinds
 use Rattle.boundary.proofs.soodhiqune_board.Reads as board
 use Rattle.boundary.proofs.soodhiqune_board.Kinds as board-kinds
+use Rattle.boundary.proofs.soodhiqune_import.Reads as import-reads
+use Rattle.boundary.proofs.soodhiqune_import.Kinds as import-kinds
+use Rattle.boundary.proofs.soodhiqune_export.Reads as export-reads
+use Rattle.boundary.proofs.soodhiqune_export.Kinds as export-kinds
 use Rattle.boundary.proofs.soodhiqune_read.Reads as read
 use Rattle.boundary.proofs.soodhiqune_read.Kinds as read-kinds
 use Rattle.boundary.proofs.soodhiqune_play.Reads as play
@@ -82,6 +86,13 @@ one-run κs args a b s t = one-number _ a b _ _
 -- the rows, and the word for the covered frames
 pub one-board : Settles board-kinds.ps board-kinds.r {B = List ℕ × ℕ} board.Post (λ κs s. (now (s .1 .1 .0), now (s .1 .1 .1 .0)))
 one-board κs args a b s t = one-board-number _ a b _ _ _ _
+
+-- the list lent for the output
+pub one-import : Settles import-kinds.ps import-kinds.r import-reads.Post (λ κs s. now (s .1 .1 .0))
+one-import κs args a b s t = one-list _ a b _ _
+
+pub one-export : Settles export-kinds.ps export-kinds.r export-reads.Post (λ κs s. now (s .1 .1 .0))
+one-export κs args a b s t = one-list _ a b _ _
 
 -- the 5,004 numbers
 pub one-read : Settles read-kinds.ps read-kinds.r read.Post (λ κs s. now (s .1 .0))

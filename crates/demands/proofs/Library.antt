@@ -1,12 +1,13 @@
 -- The demands, of the library: what is proved of the rules, of the library's own promises. The words are those of Made and of the rules'
--- specs/Refusing.antt, Apart.antt, Shared.antt, Cause.antt, Covered.antt, HowMany.antt and Title.antt; each proof cites what stands at the door of the
--- rules' proofs.
+-- specs/Refusing.antt, Apart.antt, Shared.antt, Cause.antt, Covered.antt, HowMany.antt, Title.antt and Archive.antt; each proof cites what stands at the
+-- door of the rules' proofs.
 use Prim.Native.Nat.{ℕ, _+_, _*_, _/_, _≤_}
 use mathlib.Core.Path.{_≡_, sym, ap, _∙_}
 use mathlib.Core.Bool.{true}
-use mathlib.Core.List.{List}
+use mathlib.Core.List.{List, _++_}
 use mathlib.Core.Logic.{_≢_, _⊎_}
-use lib.ListN.{length, replicate}
+use lib.IntN.{ℤ}
+use lib.ListN.{length, take, drop, replicate}
 use Rattle.rules.specs.Tables.{Tables, readers, writers, title, start, phase, own, cur}
 use Rattle.rules.specs.Comparison.{Claim, claimOf}
 use Rattle.rules.specs.Shape.{sound}
@@ -17,13 +18,16 @@ use Rattle.rules.specs.Board.{Boarded, Shown, rowWidth, holders, coveredBy}
 use Rattle.rules.specs.Play.{Call, beginCall, stepCall, call, seatOf}
 use Rattle.rules.specs.Reached.{Request}
 use Rattle.rules.specs.Run.{ran}
-use Rattle.rules.specs.Refusing.{WithinTitle, Refuses, ClearRefuses, DamageRefuses, BoardRefuses}
+use Rattle.rules.specs.Locks.{recordWidth, locksIn, claimsIn, Listed, listed, moved, importLocks, exportClaims}
+use Rattle.rules.specs.Refusing.{WithinTitle, Refuses, ClearRefuses, DamageRefuses, BoardRefuses, LockRefuses, ClaimRefuses, RecordsRefuse}
 use Rattle.rules.specs.Apart.{Covers, claimOfSeat, Holds, LinkedIn, Stands, OfOneSeat, Rising, IsItsSteps, Stops, GivenUp, callsMade, StillStands}
 use Rattle.rules.specs.Shared.{WholeShared, NoneShared}
 use Rattle.rules.specs.Cause.{Cause, Settled, Told}
 use Rattle.rules.specs.Covered.{addedUp, In32Bits}
 use Rattle.rules.specs.HowMany.{CountsRight, CountsMove}
 use Rattle.rules.specs.Title.{AllWithin, perCent}
+use Rattle.rules.specs.Archive.{SameFrames, Pairwise, recordNumbers}
+use Rattle.rules.specs.declared.Moved.{Moved}
 use Rattle.rules.specs.declared.Ran.{Ran}
 use Rattle.rules.proofs.Refusing as refusing
 use Rattle.rules.proofs.Apart as apart
@@ -32,8 +36,9 @@ use Rattle.rules.proofs.Cause as cause
 use Rattle.rules.proofs.Covered as covers
 use Rattle.rules.proofs.HowMany as many
 use Rattle.rules.proofs.Title as titled
-use Rattle.demands.proofs.Made.{ClearMade, CallMade, RunMade, CountMade, BoardMade, RequestsMade, StepsMade, Lent}
-use Rattle.demands.proofs.MadeByRules.{made-clear, made-accepted, made-call, made-run, made-count, made-board, made-requests, made-steps, count-not-1, board-not-1, board-accepted, lent-reached}
+use Rattle.rules.proofs.Archive as archive
+use Rattle.demands.proofs.Made.{ClearMade, CallMade, RunMade, CountMade, BoardMade, ImportMade, ExportMade, RequestsMade, StepsMade, Lent}
+use Rattle.demands.proofs.MadeByRules.{made-clear, made-accepted, made-call, made-run, made-count, made-board, made-import, made-export, made-requests, made-steps, count-not-1, board-not-1, board-accepted, lent-reached}
 
 -- ---- demand 1, of any tables: a call is refused exactly where the table of refusals says, and a refused one leaves the tables as found
 pub refused-only : {t u : Tables} {c : Call} {k : ℕ} → CallMade t c (refused k) u → Refuses t c k × (u ≡ t)
@@ -68,6 +73,21 @@ board-refused {t} {rows} {after} {k} m =
     let e = made-board m in
     let why = refusing.numbers-only t rows k (sym (ap (λ (x : Shown ℕ). x .answer) e)) in
     (why, ap (λ (x : Shown ℕ). x .board) (e ∙ refusing.numbers-there t rows k why))
+
+-- import and export: a refusal names the first bad record, or none, and the list lent for the output stays
+pub import-refused : {frames k place : ℕ} {locks : List ℤ} {lent after : List ℕ} → k ≢ 0 → ImportMade frames locks lent (moved k place) after
+    → RecordsRefuse (LockRefuses frames) frames (locksIn locks) (length lent / recordWidth) k place × (after ≡ lent)
+import-refused {frames} {k} {place} {locks} {lent} d m =
+    let e = made-import m in
+    let why = refusing.import-only frames locks lent k place (sym (ap (λ (x : Listed ℕ). x .answer) e)) d in
+    (why, ap (λ (x : Listed ℕ). x .after) (e ∙ refusing.import-there frames locks lent k place why))
+
+pub export-refused : {frames k place : ℕ} {claims : List ℕ} {lent after : List ℤ} → k ≢ 0 → ExportMade frames claims lent (moved k place) after
+    → RecordsRefuse (ClaimRefuses frames) frames (claimsIn claims) (length lent / recordWidth) k place × (after ≡ lent)
+export-refused {frames} {k} {place} {claims} {lent} d m =
+    let e = made-export m in
+    let why = refusing.export-only frames claims lent k place (sym (ap (λ (x : Listed ℤ). x .answer) e)) d in
+    (why, ap (λ (x : Listed ℤ). x .after) (e ∙ refusing.export-there frames claims lent k place why))
 
 -- ---- a run, of any tables: it is its steps, and on sound tables it stops at the end, when the budget is used, or at the first refused entry
 pub run-is-steps : {t u : Tables} {schedule : List ℕ} {budget : ℕ} {r : Ran} → RunMade t schedule budget r u → IsItsSteps t schedule budget (done r u)
@@ -145,6 +165,29 @@ unfolding call
 wait-for-no-frame {t} {s = s} {n} {first} {end} m none =
     let e = made-call m in
     shares.wait-for-no-frame t s n first end (sym (ap (λ (x : Done Answer). x .answer) e)) (rw (ap (λ (x : Done Answer). x .after) e) at none)
+
+-- ---- locks from the archive's file system: what export stored for claims is imported as the numbers of the claims, and what import stored for locks is
+-- exported as locks of the same frames, whatever is lent, wherever there is room
+pub same-numbers : {frames : ℕ} → frames ≤ 4294967295 → {claims again after : List ℕ} {lent locks : List ℤ} {r : Moved} → ExportMade frames claims lent (moved 0 0) locks
+    → ImportMade frames (take (recordNumbers claims) locks) again r after → length claims / recordWidth ≤ length again / recordWidth
+    → (r ≡ moved 0 0) × (after ≡ take (recordNumbers claims) claims ++ drop (recordNumbers claims) again)
+same-numbers {frames} small {claims} {again} {after} {lent} {locks} {r} out back room =
+    let o = made-export out in
+    let e : listed r after ≡ listed (moved 0 0) (take (recordNumbers claims) claims ++ drop (recordNumbers claims) again) =
+    made-import back
+    ∙ ap (λ (x : Listed ℤ). importLocks frames (take (recordNumbers claims) (x .after)) again) o
+    ∙ archive.same-numbers frames small claims lent again (sym (ap (λ (x : Listed ℤ). x .answer) o)) room in
+    (ap (λ (x : Listed ℕ). x .answer) e, ap (λ (x : Listed ℕ). x .after) e)
+
+pub same-frames : {frames : ℕ} → frames ≤ 4294967295 → {locks again after : List ℤ} {lent claims : List ℕ} {r : Moved} → ImportMade frames locks lent (moved 0 0) claims
+    → ExportMade frames (take (recordNumbers locks) claims) again r after → length locks / recordWidth ≤ length again / recordWidth
+    → (r ≡ moved 0 0) × Pairwise (SameFrames frames) (locksIn locks) (locksIn (take (recordNumbers locks) after))
+same-frames {frames} small {locks} {again} {after} {lent} {claims} {r} inward out room =
+    let i = made-import inward in
+    let e : listed r after ≡ exportClaims frames (take (recordNumbers locks) (importLocks frames locks lent .after)) again =
+    made-export out ∙ ap (λ (x : Listed ℕ). exportClaims frames (take (recordNumbers locks) (x .after)) again) i in
+    let w = archive.same-frames-in-lists frames small locks lent again (sym (ap (λ (x : Listed ℕ). x .answer) i)) room in
+    (ap (λ (x : Listed ℤ). x .answer) e ∙ w .0, rw (ap (λ (x : Listed ℤ). x .after) e) (w .1))
 
 -- ---- demand 2, of tables that the library cleared and that only its calls have changed since
 module _ {N S : ℕ} {t : Tables} (l : Lent N S t) where

@@ -3,6 +3,7 @@
 -- order of its parameters, `r` its result, `end` what the lent tables hold when it returns.
 use Prim.Native.Nat.{ℕ, suc}
 use mathlib.Core.List.{List, [], _∷_}
+use lib.IntN.{ℤ}
 use borrow.Fn.Kinds.{Dens, resT, endedOf}
 use contract.Lifetimes.{Lfts}
 use denote.Ref.{now}
@@ -15,6 +16,7 @@ use Rattle.rules.specs.Board.{Boarded}
 use Rattle.rules.specs.Means.{means, meansCount, meansBoard}
 use Rattle.rules.specs.Play.{Call, beginCall, stepCall, releaseCall}
 use Rattle.rules.specs.Reached.{Request, single, running}
+use Rattle.rules.specs.declared.Moved.{Moved}
 use Rattle.rules.specs.declared.Ran.{Ran}
 use Rattle.claims.proofs.clear.Reads as clearing
 use Rattle.claims.proofs.clear.Kinds as clear-kinds
@@ -30,6 +32,10 @@ use Rattle.run.proofs.run.Reads as run-reads
 use Rattle.run.proofs.run.Kinds as run-kinds
 use Rattle.board.proofs.board.Reads as board-reads
 use Rattle.board.proofs.board.Kinds as board-kinds
+use Rattle.posix.proofs.import.Reads as import-reads
+use Rattle.posix.proofs.import.Kinds as import-kinds
+use Rattle.posix.proofs.export.Reads as export-reads
+use Rattle.posix.proofs.export.Kinds as export-kinds
 
 -- clear: the tables before, the title's frame count, the number returned, the tables after
 pub data ClearMade : Tables → ℕ → ℕ → Tables → Type 0 where
@@ -68,6 +74,17 @@ pub data BoardMade : Tables → List ℕ → Boarded → List ℕ → Type 0 whe
   board-made : (κs : Lfts 3) (args : Dens κs board-kinds.ps) (r : resT board-kinds.r κs .Denot) (end : AtExit (endedOf 3 board-kinds.ps board-kinds.r) κs)
       → board-reads.Post κs args r end
       → BoardMade (tables (now (args .0)) (now (args .1 .0))) (now (args .1 .1 .0)) (meansBoard r) (now (end .1 .1 .0))
+
+-- import: the title's frame count, the locks, the list lent for the claims, what it answered, that list afterwards; and export, the other way
+pub data ImportMade : ℕ → List ℤ → List ℕ → Moved → List ℕ → Type 0 where
+  import-made : (κs : Lfts 2) (args : Dens κs import-kinds.ps) (r : resT import-kinds.r κs .Denot) (end : AtExit (endedOf 2 import-kinds.ps import-kinds.r) κs)
+      → import-reads.Post κs args r end
+      → ImportMade (args .0) (now (args .1 .0)) (now (args .1 .1 .0)) r (now (end .1 .1 .0))
+
+pub data ExportMade : ℕ → List ℕ → List ℤ → Moved → List ℤ → Type 0 where
+  export-made : (κs : Lfts 2) (args : Dens κs export-kinds.ps) (r : resT export-kinds.r κs .Denot) (end : AtExit (endedOf 2 export-kinds.ps export-kinds.r) κs)
+      → export-reads.Post κs args r end
+      → ExportMade (args .0) (now (args .1 .0)) (now (args .1 .1 .0)) r (now (end .1 .1 .0))
 
 -- ---- one after the other
 pub data RequestMade : Tables → Request → Tables → Type 0 where

@@ -4,6 +4,7 @@ use mathlib.Core.Path.{_≡_, refl, sym, ap, subst, _∙_}
 use mathlib.Core.Bool.{true}
 use mathlib.Core.List.{List}
 use mathlib.Core.Logic.{_≢_}
+use lib.IntN.{ℤ}
 use lib.ListN.{length}
 use native.Mathlib.Omega.{arith}
 use Rattle.rules.specs.Tables.{Tables, nodeCount, seatCount}
@@ -16,6 +17,8 @@ use Rattle.rules.specs.Run.{run}
 use Rattle.rules.specs.Play.{Call, call}
 use Rattle.rules.specs.Reached.{Request, afterRequest, afterRequests, Reached, cleared, asked}
 use Rattle.rules.specs.Cause.{stepTimes}
+use Rattle.rules.specs.Locks.{listed, importLocks, exportClaims}
+use Rattle.rules.specs.declared.Moved.{Moved}
 use Rattle.rules.specs.declared.Ran.{Ran}
 use Rattle.rules.specs.Refusing.{tables-damaged, BoardRefuses, board-damaged}
 use Rattle.rules.proofs.Refusing.{count-only, numbers-only, numbers-there}
@@ -23,7 +26,7 @@ use Rattle.rules.proofs.Ground.Logic.{clash}
 use Rattle.rules.proofs.Ground.Deciding.{if-true}
 use Rattle.rules.proofs.Laws.Shape.{lengths-fit}
 use Rattle.rules.proofs.Rules.RefusedExactly.{clear-accepted}
-use Rattle.demands.proofs.Made.{ClearMade, clear-made, CallMade, begin-made, step-made, release-made, RunMade, run-made, CountMade, count-made, BoardMade, board-made, RequestMade, a-call, a-run, RequestsMade, no-more, first, StepsMade, no-step, a-step, Lent, lent}
+use Rattle.demands.proofs.Made.{ClearMade, clear-made, CallMade, begin-made, step-made, release-made, RunMade, run-made, CountMade, count-made, BoardMade, board-made, ImportMade, import-made, ExportMade, export-made, RequestMade, a-call, a-run, RequestsMade, no-more, first, StepsMade, no-step, a-step, Lent, lent}
 
 -- ---- each call is its rule
 pub made-clear : {t u : Tables} {frames r : ℕ} → ClearMade t frames r u → done r u ≡ clear t frames
@@ -43,6 +46,12 @@ made-count (count-made κs args r end p) = p
 
 pub made-board : {t : Tables} {rows after : List ℕ} {a : Boarded} → BoardMade t rows a after → shown a after ≡ boardNumbers t rows
 made-board (board-made κs args r end p) = p
+
+pub made-import : {frames : ℕ} {locks : List ℤ} {lent after : List ℕ} {r : Moved} → ImportMade frames locks lent r after → listed r after ≡ importLocks frames locks lent
+made-import (import-made κs args r end p) = p
+
+pub made-export : {frames : ℕ} {claims : List ℕ} {lent after : List ℤ} {r : Moved} → ExportMade frames claims lent r after → listed r after ≡ exportClaims frames claims lent
+made-export (export-made κs args r end p) = p
 
 -- ---- and so are requests one after the other, and steps of one seat
 pub made-request : {t u : Tables} {r : Request} → RequestMade t r u → u ≡ afterRequest t r

@@ -2,3 +2,4 @@ pub mod Signs
 pub mod One
 pub mod Lists
 pub mod Calls
+pub mod OneAnswer

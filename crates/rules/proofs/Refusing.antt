@@ -4,6 +4,7 @@ use Prim.Native.Nat.{ℕ, _/_}
 use mathlib.Core.Path.{_≡_, ap}
 use mathlib.Core.List.{List}
 use mathlib.Core.Logic.{_≢_}
+use lib.IntN.{ℤ}
 use lib.ListN.{length}
 use Rattle.rules.specs.Tables.{Tables}
 use Rattle.rules.specs.Answers.{Answer, refused, Done, done}
@@ -13,10 +14,13 @@ use Rattle.rules.specs.Run.{ran, run}
 use Rattle.rules.specs.Board.{Boarded, shown, board, rowWidth, boardNumbers}
 use Rattle.rules.specs.Script.{badAt, readScript}
 use Rattle.rules.specs.Play.{Call, call}
-use Rattle.rules.specs.Refusing.{Refuses, ClearRefuses, DamageRefuses, BoardRefuses, ScriptRefuses}
+use Rattle.rules.specs.Locks.{importLock, exportClaim, recordWidth, locksIn, lockNumbers, claimsIn, claimNumbers, listed, moved, importLocks, exportClaims}
+use Rattle.rules.specs.Refusing.{Refuses, ClearRefuses, DamageRefuses, BoardRefuses, ScriptRefuses, LockRefuses, ClaimRefuses, RecordsRefuse}
 use Rattle.rules.specs.declared.Row.{Row}
 use Rattle.rules.proofs.Laws.RunSteps.{damaged-run-refused}
 use Rattle.rules.proofs.Laws.ScriptRefused.{script-by-table, script-refused}
+use Rattle.rules.proofs.Laws.Records as records
+use Rattle.rules.proofs.Laws.LocksRefused.{lock-only, lock-there, claim-only, claim-there}
 use Rattle.rules.proofs.Rules.Accepting.{refusal-tells}
 use Rattle.rules.proofs.Rules.RefusedExactly as exact
 
@@ -72,3 +76,24 @@ script-only = script-by-table
 
 pub script-there : (src : List ℕ) (wrong : ℕ) → ScriptRefuses src wrong → readScript src ≡ badAt wrong
 script-there = script-refused
+
+-- ---- import and export, over lists as they are lent, with the place: what is not 0 is a refusal, and the output list stays
+pub import-only : (frames : ℕ) (locks : List ℤ) (lent : List ℕ) (k place : ℕ) → importLocks frames locks lent .answer ≡ moved k place → k ≢ 0
+    → RecordsRefuse (LockRefuses frames) frames (locksIn locks) (length lent / recordWidth) k place
+unfolding importLocks
+import-only frames locks lent = records.refused-only (importLock frames) (LockRefuses frames) (lock-only frames) (lock-there frames) claimNumbers frames (locksIn locks) lent
+
+pub import-there : (frames : ℕ) (locks : List ℤ) (lent : List ℕ) (k place : ℕ) → RecordsRefuse (LockRefuses frames) frames (locksIn locks) (length lent / recordWidth) k place
+    → importLocks frames locks lent ≡ listed (moved k place) lent
+unfolding importLocks
+import-there frames locks lent = records.refused-there (importLock frames) (LockRefuses frames) (lock-only frames) (lock-there frames) claimNumbers frames (locksIn locks) lent
+
+pub export-only : (frames : ℕ) (claims : List ℕ) (lent : List ℤ) (k place : ℕ) → exportClaims frames claims lent .answer ≡ moved k place → k ≢ 0
+    → RecordsRefuse (ClaimRefuses frames) frames (claimsIn claims) (length lent / recordWidth) k place
+unfolding exportClaims
+export-only frames claims lent = records.refused-only (exportClaim frames) (ClaimRefuses frames) (claim-only frames) (claim-there frames) lockNumbers frames (claimsIn claims) lent
+
+pub export-there : (frames : ℕ) (claims : List ℕ) (lent : List ℤ) (k place : ℕ) → RecordsRefuse (ClaimRefuses frames) frames (claimsIn claims) (length lent / recordWidth) k place
+    → exportClaims frames claims lent ≡ listed (moved k place) lent
+unfolding exportClaims
+export-there frames claims lent = records.refused-there (exportClaim frames) (ClaimRefuses frames) (claim-only frames) (claim-there frames) lockNumbers frames (claimsIn claims) lent

@@ -6,7 +6,8 @@ use mathlib.Core.List.{List, [], _∷_}
 use lib.IntN.{pos}
 use lib.ListN.{length}
 use lib.Signed.{_≤ℤ_}
-use Rattle.rules.specs.Locks.{Lock, firstFrame, lastFrame, recordWidth}
+use Rattle.rules.specs.Comparison.{Claim}
+use Rattle.rules.specs.Locks.{Lock, firstFrame, lastFrame, exportClaim, all, each, recordWidth}
 
 -- "covers": from its first frame to its last
 abbrev pub LockCovers : ℕ → Lock → ℕ → Type 0
@@ -22,6 +23,12 @@ pub record SameFrames (title : ℕ) (l m : Lock) : Type 0 where
 pub data Pairwise {A : Type 0} (Alike : A → A → Type 0) : List A → List A → Type 0 where
   no-more : Pairwise Alike [] []
   and-then : {a b : A} {more others : List A} → Alike a b → Pairwise Alike more others → Pairwise Alike (a ∷ more) (b ∷ others)
+
+-- the claims go out again, as locks that cover the frames of those which they came from
+pub record OutAgain (title : ℕ) (locks : List Lock) (claims : List Claim) : Type 0 where
+  pub list : List Lock
+  pub are : each (exportClaim title) claims ≡ all list
+  pub alike : Pairwise (SameFrames title) locks list
 
 -- how many numbers of a lent list stand in records
 abbrev pub recordNumbers : {A : Type 0} → List A → ℕ

@@ -144,6 +144,7 @@ imports title l c =
     within : (end : ℤ) → end ≡ pos (natAbs end) → ltZ (pos title) end ≡ false → natAbs end ≤ title
     within (pos n) i e = ltb-false title n e
     within (negsuc n) i e = absurd (pos-ne-negsuc _ n (sym i))
+
     known : noRun (firstFrame l) (endFrame title l) ≡ false → isType (l .type) ≡ true → ltZ (pos title) (endFrame title l) ≡ false
         → Imports title l (claim (natAbs (firstFrame l)) (natAbs (endFrame title l)) (natAbs (l .type)))
     known e f g =
@@ -208,8 +209,10 @@ out-and-in title c h e =
   where
     length-is : c .end ≢ title → lengthOf title c ≡ pos (suc (c .end - suc (c .start)))
     length-is d = let n : c .end - c .start ≡ suc (c .end - suc (c .start)) = let s = e .some in omega arith in rw (ne-eqb (c .end) title d) (ap pos n)
+
     first : firstFrame (lockOf title c) ≡ pos (c .start)
     first = if-same (c .end) title (λ q. rw (eq-eqb (c .end) title q)) (λ d. rw (length-is d))
+
     end : endFrame title (lockOf title c) ≡ pos (c .end)
     end =
         end-is title (lockOf title c)
@@ -222,9 +225,11 @@ last-is title l = sym (+ℤ-negℤ-cancel (lastFrame title l) (pos 1))
 pub in-and-out : (title : ℕ) (l : Lock) (c : Claim) → title ≤ 4294967295 → Imports title l c → (exportClaim title c ≡ taken (lockOf title c)) × SameFrames title l (lockOf title c)
 in-and-out title l c h i =
     let e : Exports title c = record { some = i .some; within = i .within; known = i .known } in
-    let o = out-and-in title c h e in
-    (exported title c e, record {
-      same-type = i .type;
-      same-first = i .first ∙ sym (o .first);
-      same-last = last-is title l ∙ ap (λ z. z -ℤ pos 1) (i .end ∙ sym (o .end)) ∙ sym (last-is title (lockOf title c));
-    })
+    let o = out-and-in title c h e in (
+      exported title c e,
+      record {
+        same-type = i .type;
+        same-first = i .first ∙ sym (o .first);
+        same-last = last-is title l ∙ ap (λ z. z -ℤ pos 1) (i .end ∙ sym (o .end)) ∙ sym (last-is title (lockOf title c));
+      },
+    )

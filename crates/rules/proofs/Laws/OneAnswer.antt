@@ -10,7 +10,9 @@ use Rattle.rules.specs.Tables.{Tables}
 use Rattle.rules.specs.Answers.{Answer, node, out, on, wait, held, back, refused, Done, done}
 use Rattle.rules.specs.FreeCount.{Counted}
 use Rattle.rules.specs.Board.{Boarded, Shown, shown}
+use Rattle.rules.specs.Locks.{Listed, listed}
 use Rattle.rules.specs.Means.{means, meansCount, meansBoard}
+use Rattle.rules.specs.declared.Moved.{Moved}
 use Rattle.rules.specs.declared.Reply.{Reply}
 use Rattle.rules.specs.declared.Reply.the-variants.{Node, Out, On, Wait, Held, Back, Refused}
 use Rattle.rules.specs.declared.CountReply.{CountReply}
@@ -94,3 +96,7 @@ pub one-board : {A : Type 0} (promised : Shown A) (r r′ : BoardReply) (b b′ 
 one-board {A} promised r r′ b b′ p q =
     let e = p ∙ sym q in
     (sym (board-back r) ∙ ap (λ (x : Shown A). boardOf (x .answer)) e ∙ board-back r′, ap (λ (x : Shown A). x .board) e)
+
+-- import and export: the answer, and the list that was lent for the output
+pub one-list : {A : Type 0} (promised : Listed A) (a b : Moved) (m n : List A) → listed a m ≡ promised → listed b n ≡ promised → (a ≡ b) × (m ≡ n)
+one-list {A} promised a b m n p q = let e = one-value p q in (ap (λ (x : Listed A). x .answer) e, ap (λ (x : Listed A). x .after) e)

@@ -188,6 +188,7 @@ module _ {A B C : Type 0} (move : A → Taken B) (never-0 : (a : A) → move a �
     where
       not-0 : {p j : ℕ} (n : ℕ) → moved (suc n) p ≡ moved 0 j → ⊥
       not-0 n q = let z : suc n ≡ 0 = ap (λ (m : Moved). m .refusal) q in omega arith
+
       go : frames ≢ 0 → (x : All B) → each move records ≡ x → written numbers x lent .answer ≡ moved 0 0 → Accepted
       go e (firstBad n p) f q =
           let w = first-bad move (λ a n. move a ≡ bad n) (λ a n e. e) (λ a n e. e) records n p f in

@@ -3,17 +3,23 @@
 use Prim.Native.Nat.{ℕ, zero, suc, _+_, _-_, _*_, _/_, _≤_, _<_}
 use mathlib.Core.Path.{_≡_, refl, sym, ap, subst, _∙_}
 use mathlib.Core.List.{List, [], _∷_, _++_}
-use mathlib.Core.Logic.{_≢_}
+use mathlib.Core.Bool.{true}
+use mathlib.Core.Logic.{_≢_, _⊎_, inl, inr, ⊎-elim}
 use native.Mathlib.Omega.{arith}
-use lib.Dec.{leb→le, le→leb}
+use lib.Dec.{leb→le, le→leb, lt→ltb}
 use lib.IntN.{ℤ, pos, negsuc, _-ℤ_, +ℤ-negℤ-cancel}
 use lib.ListN.{length, take, drop}
-use lib.Signed.{_≤ℤ_, leZ-yes}
-use borrow.Author.Tests.{le-ltb}
+use lib.Signed.{_≤ℤ_, _<ℤ_, leZ-yes, ltZ-yes}
+use borrow.Author.Tests.{le-ltb, eq-eqb, ne-eqb}
+use Rattle.rules.specs.Tables.{Tables, title, phase, own, kind}
 use Rattle.rules.specs.Comparison.{Claim, claim}
+use Rattle.rules.specs.Shape.{sound}
 use Rattle.rules.specs.Locks.{Lock, lock, firstFrame, lastFrame, endFrame, lockOf, Taken, taken, importLock, exportClaim, All, all, each, recordWidth, locksIn, lockNumbers, claimsIn, claimNumbers, listed, moved, importLocks, exportClaims}
-use Rattle.rules.specs.Apart.{Covers}
-use Rattle.rules.specs.Archive.{LockCovers, SameFrames, Pairwise, no-more, and-then, recordNumbers}
+use Rattle.rules.specs.Play.{beginCall}
+use Rattle.rules.specs.Refusing.{Refuses, damaged, no-seat, no-frames, beyond-title, no-kind, not-idle, none-to-begin}
+use Rattle.rules.specs.Apart.{Covers, claimOfSeat}
+use Rattle.rules.specs.Archive.{LockCovers, SameFrames, Pairwise, no-more, and-then, OutAgain, recordNumbers}
+use Rattle.rules.proofs.Laws.Shape.{IsKind, is-kind, kind-is, Names, Sound, is-sound}
 use Rattle.rules.proofs.Laws.Records.{records-of, taken-all, taken-too, accepted, written-so, taken-length, threes-length, records-length, read-back, written-back, take-front}
 use Rattle.rules.proofs.Laws.Locks.{Imports, imports, imported, Exports, exports, exported, out-and-in, in-and-out, last-is, import-never-0, export-never-0}
 
@@ -38,6 +44,58 @@ module _ (title : ℕ) (l : Lock) (c : Claim) (i : Imports title l c) where
       let s = i .some in
       (at-most (c .start) frame (subst (λ z. z ≤ℤ pos frame) (i .first) (h .0)), omega arith)
 
+-- ---- the numbers of an exported claim
+module _ (title : ℕ) (c : Claim) (l : Lock) (q : exportClaim title c ≡ taken l) where
+  pub zero-at-end : c .end ≡ title → l .length ≡ pos 0
+  zero-at-end e = rw (exports title c l q .1, eq-eqb (c .end) title e)
+
+  pub positive-else : c .end ≢ title → pos 0 <ℤ l .length
+  positive-else d =
+      let e = exports title c l q in
+      let s = e .0 .some in
+      let h : 0 < c .end - c .start = omega arith in
+      rw (e .1, ne-eqb (c .end) title d) (ltZ-yes (lt→ltb 0 (c .end - c .start) h))
+
+  pub exported-numbers : (l .start ≡ pos (c .start)) × (l .type ≡ pos (c .kind))
+  exported-numbers = rw (exports title c l q .1) (refl, refl)
+
+-- ---- tables: begin refuses no claim that was imported for its table's title on account of its frames, its end or its kind
+refuses-otherwise : (t : Tables) (s : ℕ) (c : Claim) (k : ℕ) → Exports (title t) c → Refuses t (beginCall s c) k → (k ≢ 3) × (k ≢ 11) × (k ≢ 4)
+refuses-otherwise t s c k e (damaged z) = (λ q. omega arith, λ q. omega arith, λ q. omega arith)
+refuses-otherwise t s c k e (no-seat z h) = (λ q. omega arith, λ q. omega arith, λ q. omega arith)
+refuses-otherwise t s c k e (no-frames w h) = let i = e .some in absurd (omega arith)
+refuses-otherwise t s c k e (beyond-title w h b) = let i = e .within in absurd (omega arith)
+refuses-otherwise t s c k e (no-kind w h b d f) = absurd (⊎-elim d f (is-kind (c .kind) (e .known)))
+refuses-otherwise t s c k e (not-idle w p h d) = (λ q. omega arith, λ q. omega arith, λ q. omega arith)
+refuses-otherwise t s c k e (none-to-begin w p h z n) = (λ q. omega arith, λ q. omega arith, λ q. omega arith)
+
+pub begin-takes : (t : Tables) (s k : ℕ) (l : Lock) (c : Claim) → importLock (title t) l ≡ taken c → Refuses t (beginCall s c) k → (k ≢ 3) × (k ≢ 11) × (k ≢ 4)
+begin-takes t s k l c q = let i = imports (title t) l c q in refuses-otherwise t s c k (record { some = i .some; within = i .within; known = i .known })
+
+-- and every claim of sound tables can be exported for their title
+pub claims-export : (t : Tables) (s : ℕ) → sound t ≡ true → phase t s ≢ 0 → exportClaim (title t) (claimOfSeat t s) ≡ taken (lockOf (title t) (claimOfSeat t s))
+claims-export t s e d = go (w .seat s .own-names)
+  where
+    w : Sound t
+    w = is-sound t e
+
+    some : own t s ≢ 0
+    some = w .seat s .owning d
+
+    no-kind-0 : IsKind (kind t (own t s)) → kind t (own t s) ≡ 0 → ⊥
+    no-kind-0 (inl p) z = omega arith
+    no-kind-0 (inr p) z = omega arith
+
+    go : Names t (own t s) → exportClaim (title t) (claimOfSeat t s) ≡ taken (lockOf (title t) (claimOfSeat t s))
+    go (inl z) = absurd (some z)
+    go (inr k) =
+        exported (title t) (claimOfSeat t s)
+        (record {
+          some = ⊎-elim (λ z. absurd (no-kind-0 (k .1) (z .kind-zero))) (λ z. z .some) (w .node (own t s) some (k .0));
+          within = w .all-within .within (own t s);
+          known = kind-is (kind t (own t s)) (k .1);
+        })
+
 -- ---- several records
 module _ (title : ℕ) (small : title ≤ 4294967295) where
   pub back-again : (c : Claim) (l : Lock) → exportClaim title c ≡ taken l → importLock title l ≡ taken c
@@ -53,12 +111,7 @@ module _ (title : ℕ) (small : title ≤ 4294967295) where
   pub out-again : (l : Lock) (c : Claim) → importLock title l ≡ taken c → (exportClaim title c ≡ taken (lockOf title c)) × SameFrames title l (lockOf title c)
   out-again l c q = in-and-out title l c small (imports title l c q)
 
-  pub record OutAgain (locks : List Lock) (claims : List Claim) : Type 0 where
-    pub list : List Lock
-    pub are : each (exportClaim title) claims ≡ all list
-    pub alike : Pairwise (SameFrames title) locks list
-
-  pub all-out-again : (locks : List Lock) (claims : List Claim) → each (importLock title) locks ≡ all claims → OutAgain locks claims
+  pub all-out-again : (locks : List Lock) (claims : List Claim) → each (importLock title) locks ≡ all claims → OutAgain title locks claims
   unfolding each
   all-out-again [] claims q = record { list = []; are = rw (← ap records-of q); alike = no-more }
   all-out-again (l ∷ more) claims q =
@@ -103,7 +156,7 @@ module _ (title : ℕ) (small : title ≤ 4294967295) where
       rw (
         gone claims lent (a .list) (a .some-title) (a .are) (a .room) (a .as-many),
         written-so (importLock title) (import-never-0 title) claimNumbers title (locksIn (lockNumbers (a .list))) back (claimsIn claims) (a .some-title)
-        (ap (each (importLock title)) (lock-numbers (a .list)) ∙ again) (omega arith),
+            (ap (each (importLock title)) (lock-numbers (a .list)) ∙ again) (omega arith),
         written-back claim (λ c. c .start) (λ c. c .end) (λ c. c .kind) (λ a b c. refl) (λ a b c. refl) (λ a b c. refl) claims,
         n,
       )
@@ -120,15 +173,14 @@ module _ (title : ℕ) (small : title ≤ 4294967295) where
       let k = taken-length (exportClaim title) (a .list) (o .list) (o .are) in
       let t = threes-length (λ l. l .type) (λ l. l .start) (λ l. l .length) (o .list) in
       let c : exportClaims title (take (recordNumbers locks) (importLocks title locks lent .after)) back ≡ listed (moved 0 0) (lockNumbers (o .list) ++ drop (recordWidth * length (o .list)) back) =
-          ap (λ (x : List ℕ). exportClaims title x back) (come locks lent (a .list) (a .some-title) (a .are) (a .room) m)
-          ∙ written-so (exportClaim title) (export-never-0 title) lockNumbers title (claimsIn (claimNumbers (a .list))) back (o .list) (a .some-title)
-          (ap (each (exportClaim title)) (claim-numbers (a .list)) ∙ o .are) (omega arith) in
-      (
+      ap (λ (x : List ℕ). exportClaims title x back) (come locks lent (a .list) (a .some-title) (a .are) (a .room) m)
+      ∙ written-so (exportClaim title) (export-never-0 title) lockNumbers title (claimsIn (claimNumbers (a .list))) back (o .list) (a .some-title)
+      (ap (each (exportClaim title)) (claim-numbers (a .list)) ∙ o .are) (omega arith) in (
         ap (λ z. z .answer) c,
         subst (Pairwise (SameFrames title) (locksIn locks))
-        (sym
-        (ap (λ z. locksIn (take (recordNumbers locks) (z .after))) c
-        ∙ ap locksIn (take-front (lockNumbers (o .list)) (drop (recordWidth * length (o .list)) back) (recordNumbers locks) (omega arith))
-        ∙ lock-numbers (o .list)))
-        (o .alike),
+            (sym
+            (ap (λ z. locksIn (take (recordNumbers locks) (z .after))) c
+            ∙ ap locksIn (take-front (lockNumbers (o .list)) (drop (recordWidth * length (o .list)) back) (recordNumbers locks) (omega arith))
+            ∙ lock-numbers (o .list)))
+            (o .alike),
       )
