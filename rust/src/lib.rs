@@ -3,8 +3,11 @@
 pub mod driver;
 pub mod generate;
 pub mod library;
+pub mod lists;
 pub mod machine;
+pub mod moving;
 mod nodeset;
+pub mod posix;
 pub mod process;
 #[cfg(feature = "proved")]
 pub mod proved;

@@ -1,6 +1,6 @@
-//! compare_library SEED ROUNDS: calls the second machine and another one on the same tables and scripts and compares every
+//! compare_library SEED ROUNDS: calls the second machine and another one on the same tables, scripts and lists and compares every
 //! word. The other is the proved library (feature `proved`), another crate of this shape (feature `other`), or the same
-//! machine. At the first difference it prints the smallest tables or the shortest script found that show it. The last line
+//! machine. At the first difference it prints the smallest tables, the shortest script or the shortest lists found that show it. The last line
 //! is 'N passed, M failed'.
 
 use second::driver::{Difference, Driver, Library};
@@ -26,7 +26,7 @@ fn other_machine() -> Library {
 type Family = (&'static str, u32, fn(&mut Driver, &mut Random) -> Result<(), Difference>);
 
 /// What one round compares, and how often.
-const FAMILIES: [Family; 7] = [
+const FAMILIES: [Family; 8] = [
     ("histories from fresh tables", 2, Driver::history),
     ("any words", 200, Driver::any_words),
     ("sound words", 400, Driver::sound_words),
@@ -34,6 +34,7 @@ const FAMILIES: [Family; 7] = [
     ("many waiters", 100, Driver::many_waiters),
     ("each clause of sound shape broken", 2, Driver::damages),
     ("scripts read and played", 1, Driver::scripts),
+    ("lists of locks and of claims", 400, Driver::lists),
 ];
 
 fn number(argument: Option<String>) -> u64 {

@@ -8,6 +8,7 @@ mod counts;
 mod covered;
 mod histories;
 mod layout;
+mod posix;
 mod scripts;
 mod shared;
 mod stores;
