@@ -142,9 +142,9 @@ fn claims_are_written_as_the_request_says() {
 /// Every frame that a lock covers, one after the other, by POSIX's words: none lies outside of −40 to 40.
 fn frames_of(title: i64, start: i64, length: i64) -> Vec<i64> {
     let covered = |frame: &i64| match length {
-        0 => start <= *frame && *frame < title,
-        1.. => start <= *frame && *frame <= start + length - 1,
-        _ => start + length <= *frame && *frame <= start - 1,
+        0 => (start..title).contains(frame),
+        1.. => (start..=start + length - 1).contains(frame),
+        _ => (start + length..=start - 1).contains(frame),
     };
     (-40..=40).filter(covered).collect()
 }
