@@ -1,7 +1,8 @@
 /* The deepest stack of each call, by painting: a call is made on a stack filled with one byte, and the lowest byte that changed tells how
  * far down it went; what the switch to that stack takes is taken off. The tables are the largest, most seats hold, the script has numbers
- * of the most digits, and lists have a thousand records, so that a call that went deeper with every node, digit or record would be seen. Prints the bytes seen of each call,
- * and fails if the header promises fewer, or if the call took another way. The last line is 'N passed, M failed'. */
+ * of the most digits and the lists have a thousand records, so that a call that went deeper with every node, digit or record would be seen.
+ * Prints the bytes seen of each call, and fails if the header promises fewer, or if the call took another way. The last line is 'N passed,
+ * M failed'. */
 #define _XOPEN_SOURCE 700
 #include "../include/soodhiqune.h"
 
@@ -9,7 +10,8 @@
 #include <string.h>
 #include <ucontext.h>
 
-enum { NODES = SOODHIQUNE_MOST_NODES, SEATS = SOODHIQUNE_MOST_SEATS, HOLDERS = SEATS - 4, RECORDS = 1000, STACK_BYTES = 1 << 18, PAINT = 0xa5 };
+enum { NODES = SOODHIQUNE_MOST_NODES, SEATS = SOODHIQUNE_MOST_SEATS, HOLDERS = SEATS - 4, RECORDS = 1000 };
+enum { STACK_BYTES = 1 << 18, PAINT = 0xa5 };
 
 static unsigned char stack[STACK_BYTES];
 static uint32_t nodes[SOODHIQUNE_NODE_WORDS(NODES)], seats[SOODHIQUNE_SEAT_WORDS(SEATS)], rows[SOODHIQUNE_ROW_WORDS(SEATS)];
