@@ -17,6 +17,7 @@ pub mod script;
 pub mod shrink;
 pub mod stores;
 pub mod storing;
+pub mod storing_lists;
 pub mod tables;
 pub mod tally;
 

@@ -13,6 +13,7 @@ mod scripts;
 mod shared;
 mod stores;
 mod storing;
+mod storing_lists;
 mod tables;
 mod title;
 
