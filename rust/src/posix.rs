@@ -48,11 +48,11 @@ fn lock_of(title: u32, [start, end, kind]: Claim) -> Result<Lock, u32> {
 
 /// 02: "3 if the title's count is 0; [...] last 9, output list too short." 01: "A call over several records [...] refuses all
 /// of them for the first bad one and gives its place from 0", and leaves every list as found. Later words stay.
-fn move_all<From: Copy, To: Copy>(
+fn move_all<Given: Copy, Made: Copy>(
     title: u32,
-    from: &[From],
-    to: &mut [To],
-    moved: fn(u32, [From; RECORD_WORDS]) -> Result<[To; RECORD_WORDS], u32>,
+    from: &[Given],
+    to: &mut [Made],
+    moved: fn(u32, [Given; RECORD_WORDS]) -> Result<[Made; RECORD_WORDS], u32>,
 ) -> Result<(), NotMoved> {
     refuse(3, title == 0).map_err(|refusal| (refusal, 0))?;
     let mut records = Vec::new();
