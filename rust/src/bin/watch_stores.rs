@@ -231,15 +231,17 @@ fn some_fetches(random: &mut Random, (nodes, seats): &Tables) -> Vec<Call> {
 type Family = (u32, fn(&mut Watch, &mut Random));
 
 /// What one round watches, and how often.
-const FAMILIES: [Family; 7] = [
+const FAMILIES: [Family; 6] = [
     (2, Watch::history),
     (60, Watch::fetches),
     (10, |watch, random| watch.every_call(random, any_words)),
     (10, |watch, random| watch.every_call(random, sound_words)),
     (10, |watch, random| watch.every_call(random, many_holders)),
     (1, Watch::damages),
-    (20, Watch::lists),
 ];
+
+/// Lists of either way have numbers of their own, so that the tables of a seed are what they were before there were lists.
+const LISTS: u32 = 20;
 
 fn number(argument: Option<String>) -> u64 {
     argument.and_then(|digits| digits.parse().ok()).expect("watch_stores SEED ROUNDS")
@@ -255,11 +257,12 @@ fn main() {
             exit(0);
         });
         let mut watch = Watch::new(watcher, *library);
-        let mut random = Random::new(seed);
+        let (mut random, mut of_lists) = (Random::new(seed), Random::new(!seed));
         for _ in 0..rounds {
             for (times, watch_some) in FAMILIES {
                 (0..times).for_each(|_| watch_some(&mut watch, &mut random));
             }
+            (0..LISTS).for_each(|_| watch.lists(&mut of_lists));
         }
         print!("{}", watch.text(name));
         if let Some(case) = watch.smallest_wrong.take() {
