@@ -6,12 +6,13 @@
  *   nodes   the head word, how many readers hold and how many writers, the title's frame count, then N nodes of five words: start, end,
  *           kind, next, mark (N is 1 to 256)
  *   seats   S seats of four words: phase, own, prev, cur (S is 1 to 64)
+ * Claims may be kept elsewhere as POSIX advisory record locks: import makes claims of a list of locks, export locks of a list of claims.
  *
  * What is asked of the caller:
  *   addresses   of so many words or bytes, aligned as their type asks; no two of a call overlap. NULL will do where the length is 0, but
  *               not for shared, covered, numbers and printed, whose lengths are always the same
  *   threads     one call at a time on a pair of tables, save that board and free count only read. Nothing is kept between calls, so
- *               calls on different tables may be made at once
+ *               calls on different tables, or on different lists, may be made at once
  *   stack       SOODHIQUNE_STACK_BYTES, and SOODHIQUNE_SCRIPT_STACK_BYTES for read and play, whatever is lent
  * The library calls nothing but memset and memcpy.
  *
@@ -35,6 +36,8 @@ extern "C" {
 #define SOODHIQUNE_NODE_WORDS(nodes) (SOODHIQUNE_BEFORE_NODES + 5 * (size_t)(nodes))
 #define SOODHIQUNE_SEAT_WORDS(seats) (4 * (size_t)(seats))
 #define SOODHIQUNE_ROW_WORDS(rows) (4 * (size_t)(rows))
+#define SOODHIQUNE_LOCK_WORDS(locks) (3 * (size_t)(locks))
+#define SOODHIQUNE_CLAIM_WORDS(claims) (3 * (size_t)(claims))
 
 #define SOODHIQUNE_MOST_SCRIPT_BYTES 16384
 #define SOODHIQUNE_MOST_SCRIPT_ROWS 1000
@@ -42,8 +45,8 @@ extern "C" {
 #define SOODHIQUNE_PRINTED_BYTES 49152
 
 /* Room for the deepest stack seen, arguments and return address included: begin 432 bytes, step 512, run 544, board 1,224, every other call
- * on tables fewer; read 80,704 and play 87,008. tests/stack.c paints a stack, makes the calls on it, and fails if one needs more than is
- * said here. The first use of memset or memcpy in a program may take more, while the C library finds it. */
+ * on tables or lists fewer; read 80,704 and play 87,008. tests/stack.c paints a stack, makes the calls on it, and fails if one needs more
+ * than is said here. The first use of memset or memcpy in a program may take more, while the C library finds it. */
 #define SOODHIQUNE_STACK_BYTES 2048
 #define SOODHIQUNE_SCRIPT_STACK_BYTES 98304
 
@@ -72,6 +75,25 @@ enum soodhiqune_shared { SOODHIQUNE_SHARED_FIRST, SOODHIQUNE_SHARED_END, SOODHIQ
 
 enum soodhiqune_row { SOODHIQUNE_ROW_SEAT, SOODHIQUNE_ROW_START, SOODHIQUNE_ROW_END, SOODHIQUNE_ROW_KIND };
 
+/* ---- words of a lock, which are signed and of 64 bits, and of a claim, of 32 bits, in the lists of import and export:
+ * locks[SOODHIQUNE_LOCK_WORDS(r) + SOODHIQUNE_LOCK_START], claims[SOODHIQUNE_CLAIM_WORDS(r) + SOODHIQUNE_CLAIM_END] and the like */
+
+enum soodhiqune_lock {
+    SOODHIQUNE_LOCK_TYPE,  /* SOODHIQUNE_READS or SOODHIQUNE_WRITES */
+    SOODHIQUNE_LOCK_START,
+    SOODHIQUNE_LOCK_LENGTH /* positive from start on, negative before start, 0 from start to the title's end */
+};
+enum soodhiqune_claim { SOODHIQUNE_CLAIM_START, SOODHIQUNE_CLAIM_END, SOODHIQUNE_CLAIM_KIND };
+
+/* ---- a lock as fcntl takes and gives it: a byte of the lock file stands for a frame, l_start and l_len are start and length, and l_whence
+ * must be SEEK_SET. l_type is not the type: on Linux F_RDLCK is 0, F_WRLCK is 1, and F_UNLCK is 2. These turn the one into the other, in a
+ * file that includes <fcntl.h>. F_UNLCK, which is no lock, and whatever else is unknown becomes 0, which import refuses; a type that is not
+ * 1 or 2 becomes -1, which fcntl refuses. A list of struct flock is not taken as it lies there, since its layout differs between systems. */
+
+#define SOODHIQUNE_TYPE_OF_FLOCK(l_type) \
+    ((l_type) == F_RDLCK ? (int64_t)SOODHIQUNE_READS : (l_type) == F_WRLCK ? (int64_t)SOODHIQUNE_WRITES : 0)
+#define SOODHIQUNE_FLOCK_OF_TYPE(type) ((type) == SOODHIQUNE_READS ? F_RDLCK : (type) == SOODHIQUNE_WRITES ? F_WRLCK : -1)
+
 /* ---- numbers of a script: numbers[SOODHIQUNE_SCRIPT_SEATS], numbers[SOODHIQUNE_SCRIPT_ROW(r) + SOODHIQUNE_LINE_SEAT] and the like */
 
 enum soodhiqune_script {
@@ -96,7 +118,7 @@ enum soodhiqune_code { SOODHIQUNE_NO_LINE, SOODHIQUNE_BEGIN, SOODHIQUNE_STEP, SO
 
 enum soodhiqune_kind { SOODHIQUNE_READS = 1, SOODHIQUNE_WRITES = 2 };
 
-/* ---- what a call gives back is one number, with two numbers of 32 bits in it: these take it apart */
+/* ---- what a call on tables or on a script gives back is one number, with two numbers of 32 bits in it: these take it apart */
 
 static inline uint32_t soodhiqune_upper(uint64_t given)
 {
@@ -118,21 +140,25 @@ enum soodhiqune_answer {
     SOODHIQUNE_BACK     /* it was withdrawn, since a reader was there first; step it again, and it takes a node anew */
 };
 
-/* the numbers are not the order in which a call looks for them: beyond title is looked for between empty claim and no such kind */
+/* the numbers are not the order in which a call looks for them: beyond title is looked for between empty claim and no such kind, and by
+ * import after no run and no such type */
 enum soodhiqune_refusal {
     SOODHIQUNE_ACCEPTED,
     SOODHIQUNE_DAMAGED,         /* tables damaged (for clear: only lengths wrong) */
     SOODHIQUNE_NO_SUCH_SEAT,    /* seat number not below S */
-    SOODHIQUNE_EMPTY_CLAIM,     /* begin: start not below end */
-    SOODHIQUNE_EMPTY_TITLE = SOODHIQUNE_EMPTY_CLAIM, /* clear: a title of no frames. It is 3 too, under the name that fits */
+    SOODHIQUNE_EMPTY_CLAIM,     /* begin, export: start not below end */
+    SOODHIQUNE_EMPTY_TITLE = SOODHIQUNE_EMPTY_CLAIM, /* clear, import, export: a title of no frames. 3 too, under the name that fits */
     SOODHIQUNE_NO_SUCH_KIND,    /* kind not 1 or 2 */
     SOODHIQUNE_SEAT_HAS_CLAIM,  /* begin wants an idle seat */
     SOODHIQUNE_SEAT_IDLE,       /* step wants a seat with a claim */
     SOODHIQUNE_NOT_HOLDING,     /* release wants a seat that holds */
     SOODHIQUNE_NO_NODE_FREE,    /* begin, or a step that takes a node anew */
     SOODHIQUNE_BOARD_TOO_SHORT, /* fewer rows than holders */
+    SOODHIQUNE_LIST_TOO_SHORT = SOODHIQUNE_BOARD_TOO_SHORT, /* import, export: room for fewer records than there are. 9 too */
     SOODHIQUNE_BAD_SCRIPT,      /* script not well formed */
-    SOODHIQUNE_BEYOND_TITLE     /* begin: end beyond the title */
+    SOODHIQUNE_BEYOND_TITLE,    /* begin, import, export: end beyond the title */
+    SOODHIQUNE_NO_RUN,          /* import: the run starts below 0, is empty, or its end is past 4,294,967,295 */
+    SOODHIQUNE_NO_SUCH_TYPE     /* import: type not 1 or 2 */
 };
 
 /* of begin, step and release: which answer, and its node, if it has one */
@@ -146,7 +172,7 @@ static inline uint32_t soodhiqune_node_of(uint64_t given)
     return soodhiqune_lower(given);
 }
 
-/* of every call but run, read and play: the refusal, or SOODHIQUNE_ACCEPTED */
+/* of every call on tables but run: the refusal, or SOODHIQUNE_ACCEPTED */
 static inline enum soodhiqune_refusal soodhiqune_refusal_of(uint64_t given)
 {
     return soodhiqune_upper(given) == 0 ? (enum soodhiqune_refusal)soodhiqune_lower(given) : SOODHIQUNE_ACCEPTED;
@@ -179,6 +205,15 @@ static inline uint32_t soodhiqune_wrong_line(uint64_t given)
 {
     return soodhiqune_lower(given);
 }
+
+/* ---- what import and export give back: the refusal, or SOODHIQUNE_ACCEPTED, and the place of the record that is refused, from 0. A
+ * title of no frames and a list too short belong to no record, and their place is 0, as it is when the call is accepted. It comes back by
+ * value, so that a refused call writes nothing at all. */
+
+struct soodhiqune_moved {
+    uint32_t refusal;
+    size_t place;
+};
 
 /* ---- the calls */
 
@@ -218,6 +253,18 @@ uint64_t soodhiqune_read(const uint8_t *script, size_t bytes, uint32_t *numbers)
 
 /* What the program prints for a script, into SOODHIQUNE_PRINTED_BYTES bytes; gives the number of bytes, at most 48,986. The others stay. */
 uint64_t soodhiqune_play(const uint8_t *script, size_t bytes, uint8_t *printed);
+
+/* The claims of a list of locks, for begin on tables of this title: a positive length covers start up to but not including start + length,
+ * a negative one start + length up to but not including start, and 0 start up to the title's end; sums are exact for all numbers. There are
+ * lock_words / 3 locks, and a rest of one or two words is none; words of claims behind as many claims stay. Refused: empty title; then the
+ * first bad lock, no run before no such type before beyond title, whether or not there is room for it; then list too short. Then nothing
+ * is stored. */
+struct soodhiqune_moved soodhiqune_import(uint32_t title, const int64_t *locks, size_t lock_words, uint32_t *claims, size_t claim_words);
+
+/* The locks of a list of claims: lengths are positive, and 0 exactly where the claim ends at the title's end. What it gives, import turns
+ * into the same claims again. Lengths of lists as above. Refused: empty title; then the first bad claim, empty claim before beyond title
+ * before no such kind; then list too short. */
+struct soodhiqune_moved soodhiqune_export(uint32_t title, const uint32_t *claims, size_t claim_words, int64_t *locks, size_t lock_words);
 
 #ifdef __cplusplus
 }

@@ -1,6 +1,6 @@
-/* H1 of document 01, every refusal, how many hold, where the title ends, which frames clash, and the edges of what may be lent, through
- * include/soodhiqune.h and the archive: that the header says how each call is made, and that its names and sizes are those of the library.
- * It is C99 and C++. Prints what differs, and a closing line 'N passed, M failed'. */
+/* H1 of document 01, every refusal, how many hold, where the title ends, which frames clash, locks read and written, and the edges of what
+ * may be lent, through include/soodhiqune.h and the archive: that the header says how each call is made, and that its names and sizes are
+ * those of the library. It is C99 and C++. Prints what differs, and a closing line 'N passed, M failed'. */
 #include "../include/soodhiqune.h"
 
 #include <stdio.h>
@@ -89,7 +89,8 @@ static void check_lengths(void)
     check("the numbers that documents 01 and 02 say", SOODHIQUNE_NODE_WORDS(4) == 24 && SOODHIQUNE_SEAT_WORDS(3) == 12 &&
           SOODHIQUNE_ROW_WORDS(2) == 8 && SOODHIQUNE_SHARED_WORDS == 2 && SOODHIQUNE_SCRIPT_NUMBERS == 5004 &&
           SOODHIQUNE_EMPTY_CLAIM == 3 && SOODHIQUNE_EMPTY_TITLE == 3 && SOODHIQUNE_NO_SUCH_KIND == 4 && SOODHIQUNE_BAD_SCRIPT == 10 &&
-          SOODHIQUNE_BEYOND_TITLE == 11);
+          SOODHIQUNE_BEYOND_TITLE == 11 && SOODHIQUNE_BOARD_TOO_SHORT == 9 && SOODHIQUNE_LIST_TOO_SHORT == 9 && SOODHIQUNE_NO_RUN == 12 &&
+          SOODHIQUNE_NO_SUCH_TYPE == 13 && SOODHIQUNE_LOCK_WORDS(2) == 6 && SOODHIQUNE_CLAIM_WORDS(2) == 6);
     check("the fewest", accepts_lengths(node_words, seat_words));
     check("the most", accepts_lengths(SOODHIQUNE_NODE_WORDS(SOODHIQUNE_MOST_NODES), SOODHIQUNE_SEAT_WORDS(SOODHIQUNE_MOST_SEATS)));
     check("a node too many", !accepts_lengths(SOODHIQUNE_NODE_WORDS(SOODHIQUNE_MOST_NODES + 1), seat_words));
@@ -375,6 +376,171 @@ static void check_longest_waits(void)
     check("996 waits", length == 32856 && memcmp(printed + length - strlen(wait), wait, strlen(wait)) == 0);
 }
 
+enum { RECORDS = 3, MOVED_WORDS = 3 * RECORDS, ROOM = MOVED_WORDS + 2 };
+
+static int64_t locks[ROOM];
+static uint32_t claims[ROOM];
+
+static void put_lock(size_t place, int64_t type, int64_t start, int64_t length)
+{
+    int64_t *lock = locks + SOODHIQUNE_LOCK_WORDS(place);
+    lock[SOODHIQUNE_LOCK_TYPE] = type;
+    lock[SOODHIQUNE_LOCK_START] = start;
+    lock[SOODHIQUNE_LOCK_LENGTH] = length;
+}
+
+static void put_claim(size_t place, uint32_t start, uint32_t end, uint32_t kind)
+{
+    uint32_t *claim = claims + SOODHIQUNE_CLAIM_WORDS(place);
+    claim[SOODHIQUNE_CLAIM_START] = start;
+    claim[SOODHIQUNE_CLAIM_END] = end;
+    claim[SOODHIQUNE_CLAIM_KIND] = kind;
+}
+
+static int is_lock(size_t place, int64_t type, int64_t start, int64_t length)
+{
+    const int64_t *lock = locks + SOODHIQUNE_LOCK_WORDS(place);
+    return lock[SOODHIQUNE_LOCK_TYPE] == type && lock[SOODHIQUNE_LOCK_START] == start && lock[SOODHIQUNE_LOCK_LENGTH] == length;
+}
+
+static int is_claim(size_t place, uint32_t start, uint32_t end, uint32_t kind)
+{
+    const uint32_t *claim = claims + SOODHIQUNE_CLAIM_WORDS(place);
+    return claim[SOODHIQUNE_CLAIM_START] == start && claim[SOODHIQUNE_CLAIM_END] == end && claim[SOODHIQUNE_CLAIM_KIND] == kind;
+}
+
+/* words from this one on are as found */
+static int claims_stay(size_t word)
+{
+    for (; word < ROOM; word++) {
+        if (claims[word] != UNTOUCHED) {
+            return 0;
+        }
+    }
+    return 1;
+}
+
+static int locks_stay(size_t word)
+{
+    for (; word < ROOM; word++) {
+        if (locks[word] != UNTOUCHED) {
+            return 0;
+        }
+    }
+    return 1;
+}
+
+static int moves(struct soodhiqune_moved moved, enum soodhiqune_refusal refusal, size_t place)
+{
+    return moved.refusal == (uint32_t)refusal && moved.place == place;
+}
+
+/* import of three locks into so many words, which stay if it is refused: in a title of 20 frames the first two are good */
+static int imports(uint32_t title, int64_t type, int64_t start, int64_t length, size_t words, enum soodhiqune_refusal refusal, size_t place)
+{
+    struct soodhiqune_moved moved;
+    size_t word;
+    for (word = 0; word < ROOM; word++) {
+        claims[word] = UNTOUCHED;
+    }
+    put_lock(0, SOODHIQUNE_READS, 10, 5);
+    put_lock(1, SOODHIQUNE_WRITES, 15, -5);
+    put_lock(2, type, start, length);
+    moved = soodhiqune_import(title, locks, SOODHIQUNE_LOCK_WORDS(RECORDS), claims, words);
+    return moves(moved, refusal, place) && (refusal == SOODHIQUNE_ACCEPTED || claims_stay(0));
+}
+
+/* export of three claims likewise */
+static int exports(uint32_t title, uint32_t start, uint32_t end, uint32_t kind, size_t words, enum soodhiqune_refusal refusal, size_t place)
+{
+    struct soodhiqune_moved moved;
+    size_t word;
+    for (word = 0; word < ROOM; word++) {
+        locks[word] = UNTOUCHED;
+    }
+    put_claim(0, 10, 15, SOODHIQUNE_READS);
+    put_claim(1, 0, 1, SOODHIQUNE_WRITES);
+    put_claim(2, start, end, kind);
+    moved = soodhiqune_export(title, claims, SOODHIQUNE_CLAIM_WORDS(RECORDS), locks, words);
+    return moves(moved, refusal, place) && (refusal == SOODHIQUNE_ACCEPTED || locks_stay(0));
+}
+
+/* locks from the archive's file system: document 02's sixth request */
+static void check_import(void)
+{
+    const int64_t last = UINT32_MAX;
+    check("locks are read", imports(20, SOODHIQUNE_WRITES, 15, 0, MOVED_WORDS, SOODHIQUNE_ACCEPTED, 0));
+    check("their claims, and the words behind them kept", is_claim(0, 10, 15, SOODHIQUNE_READS) && is_claim(1, 10, 15, SOODHIQUNE_WRITES) &&
+          is_claim(2, 15, 20, SOODHIQUNE_WRITES) && claims_stay(MOVED_WORDS));
+    check("room to spare", imports(20, SOODHIQUNE_READS, 20, -20, ROOM, SOODHIQUNE_ACCEPTED, 0) && is_claim(2, 0, 20, SOODHIQUNE_READS) &&
+          claims_stay(MOVED_WORDS));
+    check("all frames there are", imports(UINT32_MAX, 1, 0, last, ROOM, SOODHIQUNE_ACCEPTED, 0) && is_claim(2, 0, UINT32_MAX, 1));
+    check("the last of them", imports(UINT32_MAX, 1, last, -1, ROOM, SOODHIQUNE_ACCEPTED, 0) && is_claim(2, UINT32_MAX - 1, UINT32_MAX, 1));
+    check("a run below 0", imports(20, 1, -1, 5, ROOM, SOODHIQUNE_NO_RUN, 2) && imports(20, 1, 5, -6, ROOM, SOODHIQUNE_NO_RUN, 2) &&
+          imports(20, 1, -1, 0, ROOM, SOODHIQUNE_NO_RUN, 2));
+    check("an empty run", imports(20, 1, 20, 0, ROOM, SOODHIQUNE_NO_RUN, 2) && imports(20, 1, 21, 0, ROOM, SOODHIQUNE_NO_RUN, 2));
+    check("a run past 4,294,967,295", imports(UINT32_MAX, 1, last, 1, ROOM, SOODHIQUNE_NO_RUN, 2) &&
+          imports(UINT32_MAX, 1, last + 1, -1, ROOM, SOODHIQUNE_NO_RUN, 2));
+    check("sums that 64 bits do not hold", imports(20, 1, INT64_MAX, INT64_MAX, ROOM, SOODHIQUNE_NO_RUN, 2) &&
+          imports(20, 1, INT64_MIN, INT64_MIN, ROOM, SOODHIQUNE_NO_RUN, 2) && imports(20, 1, INT64_MIN, -1, ROOM, SOODHIQUNE_NO_RUN, 2));
+    check("the lowest length", imports(20, 1, 0, INT64_MIN, ROOM, SOODHIQUNE_NO_RUN, 2) &&
+          imports(20, 1, INT64_MAX, INT64_MIN, ROOM, SOODHIQUNE_NO_RUN, 2));
+    check("no run, and an unknown type", imports(20, 9, -1, 5, ROOM, SOODHIQUNE_NO_RUN, 2));
+    check("an unknown type", imports(20, 0, 10, 5, ROOM, SOODHIQUNE_NO_SUCH_TYPE, 2) &&
+          imports(20, 3, 10, 5, ROOM, SOODHIQUNE_NO_SUCH_TYPE, 2));
+    check("a type by its lowest 32 bits", imports(20, last + 2, 10, 5, ROOM, SOODHIQUNE_NO_SUCH_TYPE, 2));
+    check("an unknown type, and beyond the title", imports(20, 9, 10, 11, ROOM, SOODHIQUNE_NO_SUCH_TYPE, 2));
+    check("a lock beyond the title", imports(20, 2, 10, 11, ROOM, SOODHIQUNE_BEYOND_TITLE, 2) &&
+          imports(20, 2, 21, -1, ROOM, SOODHIQUNE_BEYOND_TITLE, 2));
+    check("the first bad lock decides", imports(14, 1, -1, 5, ROOM, SOODHIQUNE_BEYOND_TITLE, 0));
+    check("a list a word too short", imports(20, 1, 10, 5, MOVED_WORDS - 1, SOODHIQUNE_LIST_TOO_SHORT, 0));
+    check("no list for three", imports(20, 1, 10, 5, 0, SOODHIQUNE_LIST_TOO_SHORT, 0));
+    check("a bad lock behind the room", imports(20, 1, -1, 5, SOODHIQUNE_CLAIM_WORDS(1), SOODHIQUNE_NO_RUN, 2));
+    check("no title, before all else", imports(0, 1, -1, 5, 0, SOODHIQUNE_EMPTY_TITLE, 0) &&
+          imports(0, 1, 0, 1, ROOM, SOODHIQUNE_EMPTY_TITLE, 0));
+    put_lock(1, 9, -1, -1);
+    check("a rest is no lock", moves(soodhiqune_import(20, locks, SOODHIQUNE_LOCK_WORDS(1) + 2, claims, 3), SOODHIQUNE_ACCEPTED, 0) &&
+          is_claim(0, 10, 15, SOODHIQUNE_READS) && claims_stay(3));
+}
+
+static void check_export(void)
+{
+    check("claims are written", exports(20, 15, 20, SOODHIQUNE_WRITES, MOVED_WORDS, SOODHIQUNE_ACCEPTED, 0));
+    check("their locks, and the words behind them kept", is_lock(0, SOODHIQUNE_READS, 10, 5) && is_lock(1, SOODHIQUNE_WRITES, 0, 1) &&
+          is_lock(2, SOODHIQUNE_WRITES, 15, 0) && locks_stay(MOVED_WORDS));
+    check("no frame before the title's end is open-ended", exports(20, 15, 19, 1, ROOM, SOODHIQUNE_ACCEPTED, 0) && is_lock(2, 1, 15, 4) &&
+          locks_stay(MOVED_WORDS));
+    check("all frames there are", exports(UINT32_MAX, 0, UINT32_MAX, 1, ROOM, SOODHIQUNE_ACCEPTED, 0) && is_lock(2, 1, 0, 0));
+    check("all but the last", exports(UINT32_MAX, 0, UINT32_MAX - 1, 1, ROOM, SOODHIQUNE_ACCEPTED, 0) && is_lock(2, 1, 0, 4294967294));
+    check("an empty claim to write", exports(20, 10, 10, 1, ROOM, SOODHIQUNE_EMPTY_CLAIM, 2) &&
+          exports(20, 30, 29, 9, ROOM, SOODHIQUNE_EMPTY_CLAIM, 2));
+    check("a claim beyond the title", exports(20, 10, 21, 1, ROOM, SOODHIQUNE_BEYOND_TITLE, 2) &&
+          exports(20, 10, UINT32_MAX, 9, ROOM, SOODHIQUNE_BEYOND_TITLE, 2));
+    check("a claim of no known kind", exports(20, 10, 15, 0, ROOM, SOODHIQUNE_NO_SUCH_KIND, 2) &&
+          exports(20, 10, 20, 3, ROOM, SOODHIQUNE_NO_SUCH_KIND, 2));
+    check("the first bad claim decides", exports(14, 10, 10, 9, ROOM, SOODHIQUNE_BEYOND_TITLE, 0));
+    check("a list of locks a word too short", exports(20, 10, 15, 1, MOVED_WORDS - 1, SOODHIQUNE_LIST_TOO_SHORT, 0));
+    check("a bad claim behind the room", exports(20, 10, 15, 9, 0, SOODHIQUNE_NO_SUCH_KIND, 2));
+    check("no title to write for", exports(0, 10, 15, 1, ROOM, SOODHIQUNE_EMPTY_TITLE, 0) &&
+          exports(0, 9, 9, 9, 0, SOODHIQUNE_EMPTY_TITLE, 0));
+}
+
+/* claims that are written and read are the same again, and may be begun */
+static void check_there_and_back(void)
+{
+    uint32_t table[SOODHIQUNE_NODE_WORDS(2)], both[SOODHIQUNE_SEAT_WORDS(2)];
+    const uint32_t *last = claims + SOODHIQUNE_CLAIM_WORDS(2);
+    exports(20, 15, 20, SOODHIQUNE_WRITES, ROOM, SOODHIQUNE_ACCEPTED, 0);
+    memset(claims, 0, sizeof claims);
+    check("what was written is read", moves(soodhiqune_import(20, locks, MOVED_WORDS, claims, MOVED_WORDS), SOODHIQUNE_ACCEPTED, 0));
+    check("as the same claims", is_claim(0, 10, 15, SOODHIQUNE_READS) && is_claim(1, 0, 1, SOODHIQUNE_WRITES) &&
+          is_claim(2, 15, 20, SOODHIQUNE_WRITES));
+    soodhiqune_clear(BOTH, 20);
+    check("and such a claim is begun",
+          answers(soodhiqune_begin(BOTH, 0, last[SOODHIQUNE_CLAIM_START], last[SOODHIQUNE_CLAIM_END], last[SOODHIQUNE_CLAIM_KIND]),
+                  SOODHIQUNE_NODE, 1));
+}
+
 static void check_null(void)
 {
     static uint32_t numbers[SOODHIQUNE_SCRIPT_NUMBERS];
@@ -395,6 +561,12 @@ static void check_null(void)
     check("no rows for no holder", counts(soodhiqune_board(TABLES, NULL, 0, &covered), 0) && covered == 0);
     check("no tables to count on", refuses(soodhiqune_free_count(NULL, 0, NULL, 0), SOODHIQUNE_DAMAGED));
     check("no script to read", soodhiqune_wrong_line(soodhiqune_read(NULL, 0, numbers)) == 1);
+    check("no locks to read", moves(soodhiqune_import(20, NULL, 0, NULL, 0), SOODHIQUNE_ACCEPTED, 0));
+    check("no locks to read, and no title", moves(soodhiqune_import(0, NULL, 0, NULL, 0), SOODHIQUNE_EMPTY_TITLE, 0));
+    check("no room for claims", moves(soodhiqune_import(20, locks, 3, NULL, 0), SOODHIQUNE_LIST_TOO_SHORT, 0));
+    check("no claims to write", moves(soodhiqune_export(20, NULL, 0, NULL, 0), SOODHIQUNE_ACCEPTED, 0));
+    check("no claims to write, and no title", moves(soodhiqune_export(0, NULL, 0, NULL, 0), SOODHIQUNE_EMPTY_TITLE, 0));
+    check("no room for locks", moves(soodhiqune_export(20, claims, 3, NULL, 0), SOODHIQUNE_LIST_TOO_SHORT, 0));
     check("no script to play", soodhiqune_play(NULL, 0, printed) == strlen("bad 1\n") && memcmp(printed, "bad 1\n", 6) == 0);
 }
 
@@ -412,6 +584,9 @@ int main(void)
     check_title();
     check_scripts();
     check_longest_waits();
+    check_import();
+    check_export();
+    check_there_and_back();
     check_null();
     printf("%d passed, %d failed\n", passed, failed);
     return failed != 0;

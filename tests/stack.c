@@ -1,7 +1,8 @@
 /* The deepest stack of each call, by painting: a call is made on a stack filled with one byte, and the lowest byte that changed tells how
- * far down it went; what the switch to that stack takes is taken off. The tables are the largest, most seats hold, and the script has
- * numbers of the most digits, so that a call that went deeper with every node or digit would be seen. Prints the bytes seen of each call,
- * and fails if the header promises fewer, or if the call took another way. The last line is 'N passed, M failed'. */
+ * far down it went; what the switch to that stack takes is taken off. The tables are the largest, most seats hold, the script has numbers
+ * of the most digits and the lists have a thousand records, so that a call that went deeper with every node, digit or record would be seen.
+ * Prints the bytes seen of each call, and fails if the header promises fewer, or if the call took another way. The last line is 'N passed,
+ * M failed'. */
 #define _XOPEN_SOURCE 700
 #include "../include/soodhiqune.h"
 
@@ -9,12 +10,15 @@
 #include <string.h>
 #include <ucontext.h>
 
-enum { NODES = SOODHIQUNE_MOST_NODES, SEATS = SOODHIQUNE_MOST_SEATS, HOLDERS = SEATS - 4, STACK_BYTES = 1 << 18, PAINT = 0xa5 };
+enum { NODES = SOODHIQUNE_MOST_NODES, SEATS = SOODHIQUNE_MOST_SEATS, HOLDERS = SEATS - 4, RECORDS = 1000 };
+enum { STACK_BYTES = 1 << 18, PAINT = 0xa5 };
 
 static unsigned char stack[STACK_BYTES];
 static uint32_t nodes[SOODHIQUNE_NODE_WORDS(NODES)], seats[SOODHIQUNE_SEAT_WORDS(SEATS)], rows[SOODHIQUNE_ROW_WORDS(SEATS)];
 static uint32_t numbers[SOODHIQUNE_SCRIPT_NUMBERS], shared[SOODHIQUNE_SHARED_WORDS];
 static uint8_t printed[SOODHIQUNE_PRINTED_BYTES];
+static int64_t locks[SOODHIQUNE_LOCK_WORDS(RECORDS)];
+static uint32_t claims[SOODHIQUNE_CLAIM_WORDS(RECORDS)];
 static uint64_t covered, given;
 static const char script[] = "256 64 1 4294967295\nb 4294967295 4294967295 4294967295 4294967295\n", lines[] = "1 no 2\nlist\ncovered 0\n";
 static int passed, failed;
@@ -37,6 +41,18 @@ static void board(void) { given = soodhiqune_board(TABLES, rows, SOODHIQUNE_ROW_
 static void free_count(void) { given = soodhiqune_free_count(TABLES); }
 static void read_script(void) { given = soodhiqune_read((const uint8_t *)script, sizeof script - 1, numbers); }
 static void play(void) { given = soodhiqune_play((const uint8_t *)script, sizeof script - 1, printed); }
+
+#define LOCKS locks, SOODHIQUNE_LOCK_WORDS(RECORDS)
+#define CLAIMS claims, SOODHIQUNE_CLAIM_WORDS(RECORDS)
+
+/* the refusal, and the place behind it */
+static uint64_t told(struct soodhiqune_moved moved)
+{
+    return (uint64_t)moved.refusal << 32 | moved.place;
+}
+
+static void import_locks(void) { given = told(soodhiqune_import(UINT32_MAX, LOCKS, CLAIMS)); }
+static void export_claims(void) { given = told(soodhiqune_export(UINT32_MAX, CLAIMS, LOCKS)); }
 
 static size_t painted_over(void (*call)(void))
 {
@@ -86,6 +102,32 @@ static void set_up_withdrawal(void)
     soodhiqune_run(TABLES, STEPS(to_withdrawal));
 }
 
+/* locks of either sign and of length 0, and the claims that they are */
+static void set_up_lists(void)
+{
+    size_t record;
+    for (record = 0; record < RECORDS; record++) {
+        int64_t *lock = locks + SOODHIQUNE_LOCK_WORDS(record);
+        const int64_t frames = (int64_t)(record % 3) - 1;
+        lock[SOODHIQUNE_LOCK_TYPE] = SOODHIQUNE_WRITES;
+        lock[SOODHIQUNE_LOCK_START] = 4000000000;
+        lock[SOODHIQUNE_LOCK_LENGTH] = frames * (int64_t)record;
+    }
+    import_locks();
+}
+
+static void set_up_bad_lock(void)
+{
+    set_up_lists();
+    locks[SOODHIQUNE_LOCK_WORDS(RECORDS - 1) + SOODHIQUNE_LOCK_LENGTH] = INT64_MIN;
+}
+
+static void set_up_bad_claim(void)
+{
+    set_up_lists();
+    claims[SOODHIQUNE_CLAIM_WORDS(RECORDS - 1) + SOODHIQUNE_CLAIM_KIND] = 0;
+}
+
 static void check(const char *name, void (*prepare)(void), void (*call)(void), uint64_t wanted, size_t promised)
 {
     size_t bytes;
@@ -118,6 +160,10 @@ int main(void)
     check("release", set_up_withdrawal, release, both(SOODHIQUNE_OUT, 0), SOODHIQUNE_STACK_BYTES);
     check("board", set_up_withdrawal, board, both(1, HOLDERS + 2), SOODHIQUNE_STACK_BYTES);
     check("free count", set_up_withdrawal, free_count, both(1, NODES - HOLDERS - 4), SOODHIQUNE_STACK_BYTES);
+    check("import", set_up_lists, import_locks, SOODHIQUNE_ACCEPTED, SOODHIQUNE_STACK_BYTES);
+    check("import, the last refused", set_up_bad_lock, import_locks, both(SOODHIQUNE_NO_RUN, RECORDS - 1), SOODHIQUNE_STACK_BYTES);
+    check("export", set_up_lists, export_claims, SOODHIQUNE_ACCEPTED, SOODHIQUNE_STACK_BYTES);
+    check("export, the last refused", set_up_bad_claim, export_claims, both(SOODHIQUNE_NO_SUCH_KIND, RECORDS - 1), SOODHIQUNE_STACK_BYTES);
     check("read", nothing, read_script, SOODHIQUNE_ACCEPTED, SOODHIQUNE_SCRIPT_STACK_BYTES);
     check("play", nothing, play, sizeof lines - 1, SOODHIQUNE_SCRIPT_STACK_BYTES);
     printf("%d passed, %d failed\n", passed, failed);

@@ -1,9 +1,11 @@
 //! Calls two machines on copies of the same tables and compares the answer and every word afterwards, also of the board and
-//! of the shared run; `reading.rs` does so with scripts. Both machines are behind the functions that `library.rs` names.
+//! of the shared run; `reading.rs` does so with scripts, `moving.rs` with lists of locks and of claims. Both machines are
+//! behind the functions that `library.rs` names.
 //! Nothing is assumed of the tables.
 
 use crate::generate::{self, around};
-use crate::library::{Numbers, Printed, Shared};
+use crate::library::{Moved, Numbers, Printed, Shared};
+use crate::lists::Lists;
 use crate::machine;
 use crate::random::Random;
 use crate::script::{read_script, BEGIN, STEP};
@@ -23,6 +25,8 @@ pub struct Library {
     pub free_count: fn(&[u32], &[u32]) -> u64,
     pub read: fn(&[u8], &mut Numbers) -> u64,
     pub play: fn(&[u8], &mut Printed) -> u64,
+    pub import: fn(u32, &[i64], &mut [u32]) -> Moved,
+    pub export: fn(u32, &[u32], &mut [i64]) -> Moved,
 }
 
 /// The functions of a module as a `Library`.
@@ -40,6 +44,8 @@ macro_rules! library_of {
             free_count: side::free_count,
             read: side::read,
             play: side::play,
+            import: side::import,
+            export: side::export,
         }
     }};
 }
@@ -71,10 +77,11 @@ pub struct Case {
     pub call: Call,
 }
 
-/// What the machines do not agree on: a call on tables, or a script to read and play.
+/// What the machines do not agree on: a call on tables, a script to read and play, or a list to move.
 pub enum Difference {
     Call(Case),
     Script(Vec<u8>),
+    Lists(Lists),
 }
 
 /// What a call gives back and leaves behind. The slices lie in longer ones, whose other words must stay as well.

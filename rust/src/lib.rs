@@ -3,8 +3,11 @@
 pub mod driver;
 pub mod generate;
 pub mod library;
+pub mod lists;
 pub mod machine;
+pub mod moving;
 mod nodeset;
+pub mod posix;
 pub mod process;
 #[cfg(feature = "proved")]
 pub mod proved;
@@ -14,6 +17,7 @@ pub mod script;
 pub mod shrink;
 pub mod stores;
 pub mod storing;
+pub mod storing_lists;
 pub mod tables;
 pub mod tally;
 

@@ -1,8 +1,10 @@
-//! The calls of the library as plain functions with one word back, the form in which machines are compared and linked.
-//! Answers: the kind in the high 32 bits (0 refused, 1 node, 2 out, 3 on, 4 wait, 5 held, 6 back), the number, or 0, below.
+//! The calls of the library as plain functions with one word back, two where a list is moved: the form in which machines are
+//! compared and linked. Answers: the kind in the high 32 bits (0 refused, 1 node, 2 out, 3 on, 4 wait, 5 held, 6 back), the
+//! number, or 0, below.
 //! A machine that stands in for this one offers the same functions under the same names; `proved.rs` does.
 
 use crate::machine::{self, Answer};
+use crate::posix;
 use crate::script;
 
 /// A script's numbers: N, S, K and the title's frame count, then five for each of 1,000 rows.
@@ -14,6 +16,9 @@ pub type Printed = [u8; 49152];
 
 /// What `wait` carries beside its node: the first shared frame, and the end of the shared run.
 pub type Shared = [u32; 2];
+
+/// What import and export give back: 0 or the refusal, and the place of the bad record, or 0.
+pub type Moved = (u32, usize);
 
 fn answer_word(answer: Result<Answer, u32>) -> u64 {
     let (kind, number) = match answer {
@@ -94,4 +99,12 @@ pub fn play(bytes: &[u8], printed: &mut Printed) -> u64 {
     let text = script::play(bytes);
     printed[..text.len()].copy_from_slice(text.as_bytes());
     text.len() as u64
+}
+
+pub fn import(title: u32, locks: &[i64], claims: &mut [u32]) -> Moved {
+    posix::import(title, locks, claims).err().unwrap_or((0, 0))
+}
+
+pub fn export(title: u32, claims: &[u32], locks: &mut [i64]) -> Moved {
+    posix::export(title, claims, locks).err().unwrap_or((0, 0))
 }

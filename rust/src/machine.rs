@@ -67,7 +67,7 @@ pub enum Answer {
 }
 
 /// A refusal is its number. The calls ask in rising number, but for 11, "after 3 and before 4", before they change anything.
-fn refuse(number: u32, when: bool) -> Result<(), u32> {
+pub fn refuse(number: u32, when: bool) -> Result<(), u32> {
     if when {
         Err(number)
     } else {

@@ -1,9 +1,16 @@
 //! The proved library behind the same functions as `library.rs`: its archive is linked, and this file says how it is called.
 //! Compiled only with the feature `proved`. A slice crosses as its address and its count of words, an array as its address.
 
-use crate::library::{Numbers, Printed, Shared};
+use crate::library::{Moved, Numbers, Printed, Shared};
 
 mod archive {
+    /// What crosses by value: nothing that is lent tells of a refusal.
+    #[repr(C)]
+    pub struct Moved {
+        pub refusal: u32,
+        pub place: usize,
+    }
+
     extern "C" {
         pub fn soodhiqune_clear(
             nodes: *mut u32,
@@ -59,6 +66,20 @@ mod archive {
             -> u64;
         pub fn soodhiqune_read(bytes: *const u8, byte_count: usize, numbers: *mut u32) -> u64;
         pub fn soodhiqune_play(bytes: *const u8, byte_count: usize, printed: *mut u8) -> u64;
+        pub fn soodhiqune_import(
+            title: u32,
+            locks: *const i64,
+            lock_words: usize,
+            claims: *mut u32,
+            claim_words: usize,
+        ) -> Moved;
+        pub fn soodhiqune_export(
+            title: u32,
+            claims: *const u32,
+            claim_words: usize,
+            locks: *mut i64,
+            lock_words: usize,
+        ) -> Moved;
     }
 }
 
@@ -138,4 +159,16 @@ pub fn read(bytes: &[u8], numbers: &mut Numbers) -> u64 {
 
 pub fn play(bytes: &[u8], printed: &mut Printed) -> u64 {
     unsafe { archive::soodhiqune_play(bytes.as_ptr(), bytes.len(), printed.as_mut_ptr()) }
+}
+
+pub fn import(title: u32, locks: &[i64], claims: &mut [u32]) -> Moved {
+    let moved =
+        unsafe { archive::soodhiqune_import(title, locks.as_ptr(), locks.len(), claims.as_mut_ptr(), claims.len()) };
+    (moved.refusal, moved.place)
+}
+
+pub fn export(title: u32, claims: &[u32], locks: &mut [i64]) -> Moved {
+    let moved =
+        unsafe { archive::soodhiqune_export(title, claims.as_ptr(), claims.len(), locks.as_mut_ptr(), locks.len()) };
+    (moved.refusal, moved.place)
 }

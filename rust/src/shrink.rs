@@ -1,9 +1,12 @@
 //! A smaller case on which two machines still differ: fewer nodes, seats, entries and rows, and smaller words; or a shorter
-//! script. Nothing is assumed of the tables; what does not fit the layout is shortened word by word.
+//! script; or lists of fewer records. Nothing is assumed of the tables; what does not fit the layout is shortened word by word.
 
 use crate::driver::{outcome, Call, Case, Difference, Driver, Library};
 use crate::library::CONTENTS_WORDS;
+use crate::lists::{Lists, Way};
 use crate::machine::{BEFORE_NODES, CUR, HEAD, NEXT, NODE_WORDS, OWN, ROW_WORDS, SEAT_WORDS};
+use crate::moving::moving;
+use crate::posix::RECORD_WORDS;
 use crate::reading::reading;
 use crate::tables::counted_at;
 
@@ -202,11 +205,83 @@ pub fn shrink_script(script: Vec<u8>, differs: impl Fn(&[u8]) -> bool) -> Vec<u8
     leave_out(fewer_bodies, <[u8]>::len, without, &differs)
 }
 
-fn table_text(words: &[u32], first: usize, width: usize) -> String {
+/// The lists without some of the records that are moved, and without room for as many if that is asked.
+fn without_records(lists: &Lists, from: usize, count: usize, less_room: bool) -> Lists {
+    let (from, count) = (RECORD_WORDS * from, RECORD_WORDS * count);
+    let mut smaller = lists.clone();
+    let room = |words: usize| if less_room { words.saturating_sub(count) } else { words };
+    match lists.way {
+        Way::Import => {
+            smaller.locks = without(&lists.locks, from, count);
+            smaller.claims.truncate(room(lists.claims.len()));
+        }
+        Way::Export => {
+            smaller.claims = without(&lists.claims, from, count);
+            smaller.locks.truncate(room(lists.locks.len()));
+        }
+    }
+    smaller
+}
+
+/// All records left out, halves of them, down to single ones.
+fn of_fewer_records(lists: &Lists) -> impl Iterator<Item = Lists> + '_ {
+    let records = lists.records();
+    let parts = std::iter::successors(Some(records), |part| Some(part / 2)).take_while(|&part| part > 0);
+    let places = parts.flat_map(move |part| (0..=records - part).step_by(part).map(move |from| (from, part)));
+    places.flat_map(move |(from, part)| [true, false].map(|less_room| without_records(lists, from, part, less_room)))
+}
+
+/// One of the lists without its last word.
+fn of_fewer_words(lists: &Lists) -> impl Iterator<Item = Lists> {
+    let (mut fewer_locks, mut fewer_claims) = (lists.clone(), lists.clone());
+    let shorter = [fewer_locks.locks.pop().is_some(), fewer_claims.claims.pop().is_some()];
+    [fewer_locks, fewer_claims].into_iter().zip(shorter).filter(|(_, shorter)| *shorter).map(|(lists, _)| lists)
+}
+
+/// The number brought nearer to 0: to 0 itself, else by half of it, and so on.
+fn nearer_to_0(number: i64) -> impl Iterator<Item = i64> {
+    let falls = (0..63).map(move |halvings| number / (1 << halvings)).take_while(|&fall| fall != 0);
+    falls.map(move |fall| number - fall)
+}
+
+/// One of the numbers nearer to 0, the title's first.
+fn of_smaller_numbers(lists: &Lists) -> impl Iterator<Item = Lists> + '_ {
+    let with = move |change: &dyn Fn(&mut Lists)| {
+        let mut smaller = lists.clone();
+        change(&mut smaller);
+        smaller
+    };
+    let title = nearer_to_0(lists.title.into()).map(move |title| with(&|lists| lists.title = title as u32));
+    let locks =
+        lists.locks.iter().enumerate().flat_map(move |(at, &number)| {
+            nearer_to_0(number).map(move |number| with(&|lists| lists.locks[at] = number))
+        });
+    let claims = lists.claims.iter().enumerate().flat_map(move |(at, &number)| {
+        nearer_to_0(number.into()).map(move |number| with(&|lists| lists.claims[at] = number as u32))
+    });
+    title.chain(locks).chain(claims)
+}
+
+/// The smallest lists found on which the machines differ, from some on which they do.
+pub fn shrink_lists(mut lists: Lists, differs: impl Fn(&Lists) -> bool) -> Lists {
+    loop {
+        let mut smaller = of_fewer_records(&lists).chain(of_fewer_words(&lists)).chain(of_smaller_numbers(&lists));
+        match smaller.find(|smaller| differs(smaller)) {
+            Some(found) => {
+                drop(smaller);
+                lists = found;
+            }
+            None => break,
+        }
+    }
+    lists
+}
+
+fn table_text<Word: ToString>(words: &[Word], first: usize, width: usize) -> String {
     let (head, rest) = words.split_at(first.min(words.len()));
     let parts = std::iter::once(head).chain(rest.chunks(width)).filter(|part| !part.is_empty());
     let texts: Vec<String> =
-        parts.map(|part| part.iter().map(u32::to_string).collect::<Vec<String>>().join(" ")).collect();
+        parts.map(|part| part.iter().map(Word::to_string).collect::<Vec<String>>().join(" ")).collect();
     texts.join(" | ")
 }
 
@@ -255,7 +330,24 @@ fn script_text(script: &[u8], ours: &Library, theirs: &Library) -> String {
     text
 }
 
-/// The smallest tables or the shortest script found on which the machines differ, and what each of them does.
+/// The lists, and how each machine moved them.
+fn lists_text(lists: &Lists, ours: &Library, theirs: &Library) -> String {
+    let words = |locks: &[i64], claims: &[u32]| {
+        let [locks, claims] = [table_text(locks, 0, RECORD_WORDS), table_text(claims, 0, RECORD_WORDS)];
+        format!("  locks  {locks}\n  claims {claims}\n")
+    };
+    let mut text = format!("{:?}, title {}\n{}", lists.way, lists.title, words(&lists.locks, &lists.claims));
+    for (name, library) in [("second", ours), ("other", theirs)] {
+        let after = moving(library, lists);
+        let (refusal, place) = after.moved;
+        text += &format!("{name}: refusal {refusal}, place {place}\n");
+        text += &words(after.locks.words(), after.claims.words());
+    }
+    text
+}
+
+/// The smallest tables, the shortest script or the shortest lists found on which the machines differ, and what each of them
+/// does.
 pub fn smallest_text(driver: &Driver, difference: Difference) -> String {
     let (ours, theirs) = (&driver.ours, &driver.theirs);
     match difference {
@@ -263,5 +355,6 @@ pub fn smallest_text(driver: &Driver, difference: Difference) -> String {
         Difference::Script(script) => {
             script_text(&shrink_script(script, |script| !driver.reads_alike(script)), ours, theirs)
         }
+        Difference::Lists(lists) => lists_text(&shrink_lists(lists, |lists| !driver.moves_alike(lists)), ours, theirs),
     }
 }

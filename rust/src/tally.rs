@@ -2,6 +2,7 @@
 //! What happened in a call is told from the tables before and after it, as the second machine leaves them.
 
 use crate::driver::{every_call, Call};
+use crate::lists::{names_met, some_export, some_import};
 use crate::machine::{self, Answer, CUR, END, HOLDING, IDLE, KIND, MOST_SEATS, OWN, PHASE, PREV, READERS, ROW_WORDS};
 use crate::machine::{READER_WAITING, READS, SEAT_WORDS, START, TITLE, VALIDATING, WAITING_TO_ENTER, WALKING};
 use crate::machine::{WITHDRAWN, WRITERS, WRITES};
@@ -353,6 +354,14 @@ impl Tally {
         for mistitle in MISTITLES {
             let tables = mistitled(random, mistitle);
             count(random, &format!("title, {}", mistitle.0), tables);
+        }
+    }
+
+    /// Counts what the lists of a round meet, some to be imported and as many to be exported.
+    pub fn count_lists(&mut self, random: &mut Random) {
+        for _ in 0..100 {
+            let lists = [some_import(random), some_export(random)];
+            lists.iter().flat_map(names_met).for_each(|name| self.count(name));
         }
     }
 

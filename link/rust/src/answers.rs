@@ -23,6 +23,13 @@ impl From<Kind> for u32 {
     }
 }
 
+/// As the type of a [`Lock`].
+impl From<Kind> for i64 {
+    fn from(kind: Kind) -> i64 {
+        u32::from(kind).into()
+    }
+}
+
 impl TryFrom<u32> for Kind {
     type Error = Refused;
 
@@ -91,11 +98,15 @@ pub enum Refused {
     Damaged,
     /// 2: the seat's number is not below the number of seats.
     NoSuchSeat,
-    /// 3, of begin: the claim starts at its end, or behind it.
+    /// 3, of begin and export: the claim starts at its end, or behind it.
     EmptyClaim,
-    /// 3, of clear: the title has no frames.
+    /// 3, of clear, import and export: the title has no frames.
     EmptyTitle,
-    /// 11: the claim ends beyond the title.
+    /// 12: the lock's run starts below 0, is empty, or its end is past 4,294,967,295.
+    NoRun,
+    /// 13: the lock's type is neither 1 nor 2.
+    NoSuchType,
+    /// 11: the claim, or the lock, ends beyond the title.
     BeyondTitle,
     /// 4: the kind is neither 1 nor 2.
     NoSuchKind,
@@ -107,16 +118,20 @@ pub enum Refused {
     NotHolding,
     /// 8: begin, or a step that takes a node anew, found no node free.
     NoNodeFree,
-    /// 9: the board has fewer rows than there are holders.
+    /// 9, of the board: it has fewer rows than there are holders.
     BoardTooShort,
+    /// 9, of import and export: there is room for fewer records than there are.
+    ListTooShort,
 }
 
 impl Refused {
-    const ALL: [Refused; 11] = [
+    const ALL: [Refused; 14] = [
         Refused::Damaged,
         Refused::NoSuchSeat,
         Refused::EmptyClaim,
         Refused::EmptyTitle,
+        Refused::NoRun,
+        Refused::NoSuchType,
         Refused::BeyondTitle,
         Refused::NoSuchKind,
         Refused::SeatHasClaim,
@@ -124,31 +139,38 @@ impl Refused {
         Refused::NotHolding,
         Refused::NoNodeFree,
         Refused::BoardTooShort,
+        Refused::ListTooShort,
     ];
 
-    /// The number that the program prints as `no k`. Two have number 3, one of begin and one of clear.
+    /// The number that the program prints as `no k`. Two have number 3, that of a claim and that of a title, and two have number 9, that
+    /// of the board and that of a list.
     pub fn number(self) -> u32 {
         match self {
             Refused::Damaged => 1,
             Refused::NoSuchSeat => 2,
             Refused::EmptyClaim | Refused::EmptyTitle => 3,
+            Refused::NoRun => 12,
+            Refused::NoSuchType => 13,
             Refused::BeyondTitle => 11,
             Refused::NoSuchKind => 4,
             Refused::SeatHasClaim => 5,
             Refused::SeatIdle => 6,
             Refused::NotHolding => 7,
             Refused::NoNodeFree => 8,
-            Refused::BoardTooShort => 9,
+            Refused::BoardTooShort | Refused::ListTooShort => 9,
         }
     }
 
-    /// The refusal of this number, of any call but clear.
+    /// The refusal of this number, of any call on tables but clear.
     fn of(number: u32) -> Refused {
-        let known = Refused::ALL.into_iter().find(|refused| refused.number() == number);
-        known.unwrap_or_else(|| {
-            panic!("the archive that is linked gave refusal {number}, which this package does not know")
-        })
+        let of_tables = |refused: &Refused| !matches!(refused, Refused::NoRun | Refused::NoSuchType);
+        let known = Refused::ALL.into_iter().filter(of_tables).find(|refused| refused.number() == number);
+        known.unwrap_or_else(|| unknown(number))
     }
+}
+
+fn unknown(refusal: u32) -> ! {
+    panic!("the archive that is linked gave refusal {refusal}, which this package does not know")
 }
 
 impl Display for Refused {
@@ -158,6 +180,8 @@ impl Display for Refused {
             Refused::NoSuchSeat => "there is no such seat",
             Refused::EmptyClaim => "the claim does not start below its end",
             Refused::EmptyTitle => "the title has no frames",
+            Refused::NoRun => "the lock's run starts below 0, is empty, or ends past 4294967295",
+            Refused::NoSuchType => "the lock's type is neither 1 (reads) nor 2 (writes)",
             Refused::BeyondTitle => "the claim ends beyond the title",
             Refused::NoSuchKind => "the kind is neither 1 (reads) nor 2 (writes)",
             Refused::SeatHasClaim => "the seat has a claim already",
@@ -165,6 +189,7 @@ impl Display for Refused {
             Refused::NotHolding => "the seat does not hold",
             Refused::NoNodeFree => "no node is free",
             Refused::BoardTooShort => "the board has fewer rows than there are holders",
+            Refused::ListTooShort => "there is room for fewer records than there are",
         })
     }
 }
@@ -195,6 +220,55 @@ pub struct Shown {
     /// The number of frames that at least one of them covers; at most the title's.
     pub covered: u64,
 }
+
+/// A POSIX advisory record lock, as [`import`](crate::import) reads it and [`export`](crate::export) writes it: its numbers are within 64
+/// bits, and import may refuse them. Of a `struct flock` with l_whence SEEK_SET, start is l_start and length l_len, and a byte of the lock
+/// file stands for a frame; kind is not l_type: on Linux F_RDLCK is 0 and F_WRLCK is 1.
+#[derive(Clone, Copy, Debug, Default, PartialEq, Eq, Hash)]
+#[repr(C)]
+pub struct Lock {
+    /// The type: 1 reads, 2 writes.
+    pub kind: i64,
+    pub start: i64,
+    /// Positive: so many frames from start on. Negative: so many before start. 0: all from start to the title's end.
+    pub length: i64,
+}
+
+/// A claim's numbers as begin takes them: the frames from start up to but not including end, and what is done with them.
+#[derive(Clone, Copy, Debug, Default, PartialEq, Eq, Hash)]
+#[repr(C)]
+pub struct Claim {
+    pub start: u32,
+    pub end: u32,
+    /// 1 reads, 2 writes.
+    pub kind: u32,
+}
+
+impl Claim {
+    /// The frames that it covers, for [`begin`](crate::Tables::begin).
+    pub fn frames(self) -> Range<u32> {
+        self.start..self.end
+    }
+}
+
+/// Why no record of a list was moved.
+#[derive(Clone, Copy, Debug, PartialEq, Eq, Hash)]
+pub struct NotMoved {
+    pub refused: Refused,
+    /// The place, from 0, of the first bad record. A title without frames and a list too short belong to none.
+    pub place: Option<usize>,
+}
+
+impl Display for NotMoved {
+    fn fmt(&self, out: &mut Formatter) -> fmt::Result {
+        match self.place {
+            Some(place) => write!(out, "record {place}: {}", self.refused),
+            None => self.refused.fmt(out),
+        }
+    }
+}
+
+impl Error for NotMoved {}
 
 /// Why a script is not well formed: refusal 10.
 #[derive(Clone, Copy, Debug, PartialEq, Eq, Hash)]
@@ -270,6 +344,30 @@ pub(crate) fn ran(given: u64) -> Ran {
     Ran { steps: lower(given), refused }
 }
 
+/// What import and export of the archive give back.
+#[derive(Clone, Copy)]
+#[repr(C)]
+pub(crate) struct Moved {
+    pub refusal: u32,
+    pub place: usize,
+}
+
+/// Of import and export in a title of so many frames: 3 is the title's if it has none.
+pub(crate) fn moved(title: u32, given: Moved) -> Result<(), NotMoved> {
+    let (refused, place) = match given.refusal {
+        0 => return Ok(()),
+        3 if title == 0 => (Refused::EmptyTitle, None),
+        3 => (Refused::EmptyClaim, Some(given.place)),
+        4 => (Refused::NoSuchKind, Some(given.place)),
+        9 => (Refused::ListTooShort, None),
+        11 => (Refused::BeyondTitle, Some(given.place)),
+        12 => (Refused::NoRun, Some(given.place)),
+        13 => (Refused::NoSuchType, Some(given.place)),
+        number => unknown(number),
+    };
+    Err(NotMoved { refused, place })
+}
+
 pub(crate) fn well_formed(given: u64) -> Result<(), BadScript> {
     match (upper(given), lower(given)) {
         (0, _) => Ok(()),
@@ -284,13 +382,40 @@ mod tests {
 
     #[test]
     fn every_refusal_has_its_number_and_words_of_its_own() {
-        assert_eq!(Refused::ALL.map(Refused::number), [1, 2, 3, 3, 11, 4, 5, 6, 7, 8, 9]);
+        assert_eq!(Refused::ALL.map(Refused::number), [1, 2, 3, 3, 12, 13, 11, 4, 5, 6, 7, 8, 9, 9]);
         for (place, &refused) in Refused::ALL.iter().enumerate() {
-            let of_clear = refused == Refused::EmptyTitle;
-            assert_eq!(if of_clear { cleared(3) } else { answer(refused.number().into()).map(|_| ()) }, Err(refused));
+            let told = match refused {
+                Refused::EmptyTitle => cleared(3),
+                Refused::NoRun | Refused::NoSuchType | Refused::ListTooShort => moved_by(1, refused.number(), 0),
+                _ => answer(refused.number().into()).map(|_| ()),
+            };
+            assert_eq!(told, Err(refused));
             assert!(Refused::ALL[..place].iter().all(|other| other.to_string() != refused.to_string()));
         }
         assert_eq!([cleared(0), cleared(1)], [Ok(()), Err(Refused::Damaged)]);
+    }
+
+    fn moved_by(title: u32, refusal: u32, place: usize) -> Result<(), Refused> {
+        moved(title, Moved { refusal, place }).map_err(|not_moved| not_moved.refused)
+    }
+
+    #[test]
+    fn a_place_is_a_records_and_the_title_and_the_room_have_none() {
+        let told = |title, refusal| moved(title, Moved { refusal, place: 5 });
+        assert_eq!(told(1, 0), Ok(()));
+        for refused in
+            [Refused::EmptyClaim, Refused::NoSuchKind, Refused::BeyondTitle, Refused::NoRun, Refused::NoSuchType]
+        {
+            assert_eq!(told(1, refused.number()), Err(NotMoved { refused, place: Some(5) }));
+        }
+        assert_eq!(told(0, 3), Err(NotMoved { refused: Refused::EmptyTitle, place: None }));
+        assert_eq!(told(1, 9), Err(NotMoved { refused: Refused::ListTooShort, place: None }));
+    }
+
+    #[test]
+    #[should_panic(expected = "refusal 8")]
+    fn a_refusal_that_no_list_has_is_not_taken_for_one_of_ours() {
+        let _ = moved_by(1, 8, 0);
     }
 
     #[test]

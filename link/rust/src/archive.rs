@@ -1,6 +1,8 @@
 //! The functions of the archive, as `include/soodhiqune.h` declares them: a table, list or text is its address and its length.
 //! None asks anything of its caller but that so many words stand there, and that what it may change overlaps nothing else.
 
+use crate::answers::Moved;
+
 extern "C" {
     pub fn soodhiqune_clear(nodes: *mut u32, node_words: usize, seats: *mut u32, seat_words: usize, title: u32) -> u64;
     pub fn soodhiqune_begin(
@@ -44,4 +46,18 @@ extern "C" {
     pub fn soodhiqune_free_count(nodes: *const u32, node_words: usize, seats: *const u32, seat_words: usize) -> u64;
     pub fn soodhiqune_read(script: *const u8, bytes: usize, numbers: *mut u32) -> u64;
     pub fn soodhiqune_play(script: *const u8, bytes: usize, printed: *mut u8) -> u64;
+    pub fn soodhiqune_import(
+        title: u32,
+        locks: *const i64,
+        lock_words: usize,
+        claims: *mut u32,
+        claim_words: usize,
+    ) -> Moved;
+    pub fn soodhiqune_export(
+        title: u32,
+        claims: *const u32,
+        claim_words: usize,
+        locks: *mut i64,
+        lock_words: usize,
+    ) -> Moved;
 }

@@ -1,8 +1,10 @@
-//! The calls on tables that stay the caller's: lent slices of words, as the archive takes them. Any slices and any numbers will do, and a
+//! The calls on tables and lists that stay the caller's: lent slices, as the archive takes them. Any slices and any numbers will do, and a
 //! refused call changes nothing. For who mirrors the tables on every store: a refused call, the board and the free count store nothing in
-//! them, not even what stands there already, and where nodes are taken off the list only the links that differ are stored. The two slices of a call must be those of one pair; [`Tables`](crate::Tables) keeps them together.
+//! them, not even what stands there already, and where nodes are taken off the list only the links that differ are stored. The two tables of
+//! a call must be those of one pair; [`Tables`](crate::Tables) keeps them together.
 
-use crate::answers::{answer, cleared, count, ran, stepped, well_formed, Answer, BadScript, Ran, Refused, Row, Shown};
+use crate::answers::{answer, cleared, count, moved, ran, stepped, well_formed};
+use crate::answers::{Answer, BadScript, Claim, Lock, NotMoved, Ran, Refused, Row, Shown};
 use crate::archive;
 use std::ops::Range;
 
@@ -25,6 +27,8 @@ pub const TITLE: usize = 3;
 const BEFORE_NODES: usize = 4;
 
 const ROW_WORDS: usize = std::mem::size_of::<Row>() / std::mem::size_of::<u32>();
+const LOCK_WORDS: usize = std::mem::size_of::<Lock>() / std::mem::size_of::<i64>();
+const CLAIM_WORDS: usize = std::mem::size_of::<Claim>() / std::mem::size_of::<u32>();
 
 /// Where a script's rows start among its numbers, and how many numbers a row has.
 pub(crate) const CONTENTS_NUMBERS: usize = 4;
@@ -149,4 +153,33 @@ pub fn read(script: &[u8], numbers: &mut [u32; SCRIPT_NUMBERS]) -> Result<(), Ba
 /// What the program prints for a script, `bad L` if it is not well formed: so many bytes. The others stay as they were.
 pub fn play(script: &[u8], printed: &mut [u8; PRINTED_BYTES]) -> usize {
     unsafe { archive::soodhiqune_play(script.as_ptr(), script.len(), printed.as_mut_ptr()) as usize }
+}
+
+/// The claims that these locks are, into as many places; the others stay. If one lock is refused none is moved, and no place is written.
+pub fn import(title: u32, locks: &[Lock], claims: &mut [Claim]) -> Result<(), NotMoved> {
+    // a lock is three words in the archive's order, and so is a claim, and nothing else
+    let given = unsafe {
+        archive::soodhiqune_import(
+            title,
+            locks.as_ptr().cast(),
+            LOCK_WORDS * locks.len(),
+            claims.as_mut_ptr().cast(),
+            CLAIM_WORDS * claims.len(),
+        )
+    };
+    moved(title, given)
+}
+
+/// The locks of these claims, likewise.
+pub fn export(title: u32, claims: &[Claim], locks: &mut [Lock]) -> Result<(), NotMoved> {
+    let given = unsafe {
+        archive::soodhiqune_export(
+            title,
+            claims.as_ptr().cast(),
+            CLAIM_WORDS * claims.len(),
+            locks.as_mut_ptr().cast(),
+            LOCK_WORDS * locks.len(),
+        )
+    };
+    moved(title, given)
 }

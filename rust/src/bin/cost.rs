@@ -1,10 +1,13 @@
 //! cost MACHINE OPERATION N S COUNT: makes one call COUNT times, each from the same tables, under a counter of instructions.
 //! The cost of a call is what twice COUNT takes more than COUNT, over COUNT, less the same for `reset`, which makes no call.
 //! cost MACHINE OPERATION N S stores: makes the call once and prints how many stores to the two tables it made, and how many
-//! of these changed a word. `cost` alone lists the operations. MACHINE is second, or proved with the feature of that name.
+//! of these changed a word. cost MACHINE OPERATION RECORDS COUNT: the same as the first for a list that is moved. `cost` alone
+//! lists the operations on tables, `cost lists` those on lists. MACHINE is second, or proved with the feature of that name.
 
 use second::driver::{make, Call, Case, Library, MACHINES};
+use second::lists::{Lists, Way};
 use second::machine::{self, Answer, BEFORE_NODES, HEAD, MARK, NODE_WORDS, START};
+use second::posix::RECORD_WORDS;
 use second::random::Random;
 use second::stores::{Watcher, NOT_HERE};
 use second::storing::watched;
@@ -261,8 +264,84 @@ const OPERATIONS: &[Operation] = &[
     ("free count", |nodes, seats| holders(nodes, seats, WRITES).call(Call::FreeCount)),
 ];
 
+// Lists of so many records
+
+/// Each lock covers five frames, behind those before it, and the last reaches to the title's end.
+fn locks(records: usize, lock: fn(i64) -> [i64; 2]) -> Lists {
+    let starts = (0..records as i64).map(|place| 10 * place);
+    let mut locks: Vec<i64> = starts.flat_map(|first| [&[WRITES.into()], lock(first).as_slice()].concat()).collect();
+    if let Some(length) = locks.last_mut() {
+        *length = 0;
+    }
+    Lists { way: Way::Import, title: TITLE, locks, claims: vec![0; RECORD_WORDS * records] }
+}
+
+fn positive(records: usize) -> Lists {
+    locks(records, |first| [first, 5])
+}
+
+fn negative(records: usize) -> Lists {
+    locks(records, |first| [first + 5, -5])
+}
+
+/// The claims that those locks are.
+fn claims(records: usize) -> Lists {
+    let starts = (0..records as u32).map(|place| 10 * place);
+    let mut claims: Vec<u32> = starts.flat_map(|first| [first, first + 5, WRITES]).collect();
+    if let [.., end, _] = claims.as_mut_slice() {
+        *end = TITLE;
+    }
+    Lists { way: Way::Export, title: TITLE, locks: vec![0; RECORD_WORDS * records], claims }
+}
+
+type ListOperation = (&'static str, fn(usize) -> Lists);
+
+const LIST_OPERATIONS: &[ListOperation] = &[
+    ("import, positive lengths", positive),
+    ("import, negative lengths", negative),
+    ("import, the last refused 12", |records| {
+        let mut lists = positive(records);
+        lists.locks[RECORD_WORDS * (records - 1) + 1] = -1;
+        lists
+    }),
+    ("import, the first refused 12", |records| {
+        let mut lists = positive(records);
+        lists.locks[1] = -1;
+        lists
+    }),
+    ("import, refused 9", |records| Lists { claims: vec![], ..positive(records) }),
+    ("export", claims),
+    ("export, the last refused 4", |records| {
+        let mut lists = claims(records);
+        lists.claims[RECORD_WORDS * records - 1] = 0;
+        lists
+    }),
+    ("export, the first refused 4", |records| {
+        let mut lists = claims(records);
+        lists.claims[2] = 0;
+        lists
+    }),
+    ("export, refused 9", |records| Lists { locks: vec![], ..claims(records) }),
+];
+
+/// Moves a list so often. Nothing of what it is moved into is looked at, so it stays as the turn before left it.
+fn move_lists(library: &Library, operation: &str, records: usize, count: u32) {
+    let prepare = LIST_OPERATIONS.iter().find(|(name, _)| *name == operation);
+    let mut lists = prepare.map_or(positive as fn(usize) -> Lists, |(_, prepare)| *prepare)(records);
+    let mut moved = (0, 0);
+    for _ in 0..count {
+        if prepare.is_some() {
+            moved = match lists.way {
+                Way::Import => (library.import)(lists.title, &lists.locks, &mut lists.claims),
+                Way::Export => (library.export)(lists.title, &lists.claims, &mut lists.locks),
+            };
+        }
+    }
+    println!("{operation}: refusal {}, place {}", moved.0, moved.1);
+}
+
 fn number(argument: &str) -> u32 {
-    argument.parse().expect("N, S and COUNT are numbers")
+    argument.parse().expect("N, S, RECORDS and COUNT are numbers")
 }
 
 /// Makes the call once under the watcher, and counts its stores to the tables and those that changed a word.
@@ -277,12 +356,19 @@ fn count_stores(library: &Library, case: &Case) {
 
 fn main() {
     let arguments: Vec<String> = std::env::args().skip(1).collect();
-    if arguments.len() != 5 {
+    if ![4, 5].contains(&arguments.len()) {
         println!("reset");
-        OPERATIONS.iter().for_each(|(name, _)| println!("{name}"));
-        exit(if arguments.is_empty() { 0 } else { 2 });
+        if arguments == ["lists"] {
+            LIST_OPERATIONS.iter().for_each(|(name, _)| println!("{name}"));
+        } else {
+            OPERATIONS.iter().for_each(|(name, _)| println!("{name}"));
+        }
+        exit(if arguments.is_empty() || arguments == ["lists"] { 0 } else { 2 });
     }
     let library = MACHINES.iter().find(|(name, _)| *name == arguments[0]).expect("the name of a machine").1;
+    if let [_, operation, records, count] = arguments.as_slice() {
+        return move_lists(&library, operation, number(records) as usize, number(count));
+    }
     let operation = OPERATIONS.iter().find(|(name, _)| *name == arguments[1]);
     let prepare = operation.map_or(OPERATIONS[0].1, |(_, prepare)| *prepare);
     let case = prepare(number(&arguments[2]), number(&arguments[3]));

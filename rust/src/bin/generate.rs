@@ -1,14 +1,24 @@
-//! generate SEED COUNT [DIRECTORY | --tally | --tables]: writes the scripts 0 to COUNT − 1 of a seed into a directory, or
-//! counts what they reach, or what COUNT rounds of tables of the seed are. With none of these, prints the script COUNT of
-//! the seed.
+//! generate SEED COUNT [DIRECTORY | --tally | --tables | --lists]: writes the scripts 0 to COUNT − 1 of a seed into a
+//! directory, or counts what they reach, or what COUNT rounds of tables of the seed are, or what COUNT rounds of lists to
+//! import and to export meet. With none of these, prints the script COUNT of the seed.
 
 use second::generate::script;
 use second::random::Random;
 use second::tally::Tally;
 use std::io::Write;
 
+const USAGE: &str = "generate SEED COUNT [DIRECTORY | --tally | --tables | --lists]";
+
 fn number(argument: Option<&String>) -> u64 {
-    argument.and_then(|digits| digits.parse().ok()).expect("generate SEED COUNT [DIRECTORY | --tally | --tables]")
+    argument.and_then(|digits| digits.parse().ok()).expect(USAGE)
+}
+
+/// What so many rounds of a seed are, by what counts one.
+fn print_rounds(seed: u64, rounds: u64, count_round: fn(&mut Tally, &mut Random)) {
+    let mut tally = Tally::default();
+    let mut random = Random::new(seed);
+    (0..rounds).for_each(|_| count_round(&mut tally, &mut random));
+    print!("{}", tally.text());
 }
 
 fn main() -> std::io::Result<()> {
@@ -23,12 +33,8 @@ fn main() -> std::io::Result<()> {
             }
             print!("{}", tally.text());
         }
-        Some("--tables") => {
-            let mut tally = Tally::default();
-            let mut random = Random::new(seed);
-            (0..count).for_each(|_| tally.count_round(&mut random));
-            print!("{}", tally.text());
-        }
+        Some("--tables") => print_rounds(seed, count, Tally::count_round),
+        Some("--lists") => print_rounds(seed, count, Tally::count_lists),
         Some(directory) => {
             for number in 0..count {
                 std::fs::write(format!("{directory}/{seed}-{number}.script"), script(seed, number).1)?;

@@ -1,15 +1,17 @@
-//! watch_stores SEED ROUNDS: makes calls on tables by seed, watches each store that they make to the two tables, and holds it
+//! watch_stores SEED ROUNDS: makes calls on tables and lists by seed, watches each store that they make to these, and holds it
 //! to what the call may store: nothing if it is refused, and of the links only those that differ, once each. The machines are
 //! the second one and, with the feature `proved`, the proved library; with the feature `other`, another crate of this shape.
-//! Of a machine's wrong calls it prints the one on the smallest tables found. Each kind of call is one that passed if it was
+//! Of a machine's wrong calls it prints the one on the smallest tables found, and the one on the shortest lists. Each kind of call is one that passed if it was
 //! met and never wrong. The last line is 'N passed, M failed'.
 
 use second::driver::{every_call, some_history, Call, Case, Library};
+use second::lists::{some_export, some_import, Lists};
 use second::machine::{IDLE, PHASE, SEAT_WORDS, TITLE, WITHDRAWN};
 use second::random::Random;
-use second::shrink::{case_text, shrink};
+use second::shrink::{case_text, shrink, shrink_lists};
 use second::stores::{Watcher, NOT_HERE};
 use second::storing::{judge, watched, KINDS, TAKEN_OUT_OF_REACHED};
+use second::storing_lists::{can_be_watched, judge_lists, watched_lists, LIST_KINDS};
 use second::tables::{any_words, damaged, full_lists, many_holders, sound_words, Tables, DAMAGES};
 use std::cell::RefCell;
 use std::collections::BTreeMap;
@@ -40,6 +42,8 @@ struct Watch {
     stores: u64,
     /// the wrong call on the smallest tables
     smallest_wrong: Option<Case>,
+    /// the first wrong call on lists
+    wrong_lists: Option<Lists>,
 }
 
 impl Watch {
@@ -54,7 +58,14 @@ impl Watch {
             links: 0,
             stores: 0,
             smallest_wrong: None,
+            wrong_lists: None,
         }
+    }
+
+    fn count_kind(&mut self, kind: &'static str, wrong: u64) {
+        let count = self.kinds.entry(kind).or_default();
+        count.met += 1;
+        count.wrong += wrong;
     }
 
     /// Makes a call, on tables reached from fresh ones or on others, and gives the tables that it leaves.
@@ -67,11 +78,7 @@ impl Watch {
         let wrong = u64::from(judged.wrong.is_some());
         self.all.met += 1;
         self.all.wrong += wrong;
-        for kind in judged.kinds {
-            let count = self.kinds.entry(kind).or_default();
-            count.met += 1;
-            count.wrong += wrong;
-        }
+        judged.kinds.into_iter().for_each(|kind| self.count_kind(kind, wrong));
         self.refused += u64::from(judged.refused);
         self.took_out += u64::from(judged.links > 0);
         self.links += judged.links as u64;
@@ -81,6 +88,28 @@ impl Watch {
             self.smallest_wrong = Some(case);
         }
         watched.tables
+    }
+
+    /// Moves a list, if it can be watched.
+    fn move_list(&mut self, lists: Lists) {
+        if !can_be_watched(&lists) {
+            return;
+        }
+        let watched = watched_lists(&mut self.watcher.borrow_mut(), &self.library, &lists);
+        let (kind, wrong) = judge_lists(&lists, &watched);
+        self.all.met += 1;
+        self.all.wrong += u64::from(wrong.is_some());
+        self.count_kind(kind, u64::from(wrong.is_some()));
+        self.refused += u64::from(watched.moved.0 != 0);
+        self.stores += watched.stores.len() as u64;
+        if wrong.is_some() && self.wrong_lists.is_none() {
+            self.wrong_lists = Some(lists);
+        }
+    }
+
+    fn lists(&mut self, random: &mut Random) {
+        self.move_list(some_import(random));
+        self.move_list(some_export(random));
     }
 
     fn history(&mut self, random: &mut Random) {
@@ -122,7 +151,7 @@ impl Watch {
             "{name}: {met} calls watched, {} refused, {} took marked nodes out; {} stores, {} links due; {wrong} calls wrong\n",
             self.refused, self.took_out, self.stores, self.links
         );
-        for kind in KINDS {
+        for kind in kinds() {
             let Count { met, wrong } = self.count(kind);
             let verdict = match (met, wrong) {
                 (0, _) => ": NEVER MET".to_string(),
@@ -139,12 +168,12 @@ impl Watch {
     }
 
     fn passed(&self) -> usize {
-        KINDS.iter().map(|kind| self.count(kind)).filter(|count| count.met > 0 && count.wrong == 0).count()
+        kinds().map(|kind| self.count(kind)).filter(|count| count.met > 0 && count.wrong == 0).count()
     }
 
     /// The kinds that did not pass; if a call was wrong and is of no kind, at least one.
     fn failed(&self) -> usize {
-        (KINDS.len() - self.passed()).max(usize::from(self.all.wrong > 0))
+        (kinds().count() - self.passed()).max(usize::from(self.all.wrong > 0))
     }
 
     /// The smallest tables found on which a call is wrong, from some on which one is.
@@ -158,6 +187,22 @@ impl Watch {
         text += &format!("stores  {}\n", stores.join("; "));
         text + &format!("wrong   {}\n", judge(&smallest, &watched).wrong.unwrap_or_default())
     }
+
+    /// The shortest lists found on which a call is wrong, from some on which one is.
+    fn wrong_lists_text(&self, lists: Lists) -> String {
+        let judged = |lists: &Lists| {
+            let watched = watched_lists(&mut self.watcher.borrow_mut(), &self.library, lists);
+            (watched.moved, judge_lists(lists, &watched).1)
+        };
+        let shortest = shrink_lists(lists, |lists| judged(lists).1.is_some());
+        let ((refusal, place), wrong) = judged(&shortest);
+        format!("wrong:\n{shortest:?}\nrefusal {refusal}, place {place}\nwrong   {}\n", wrong.unwrap_or_default())
+    }
+}
+
+/// Each must be met.
+fn kinds() -> impl Iterator<Item = &'static str> {
+    KINDS.into_iter().chain(LIST_KINDS)
 }
 
 fn size(case: &Case) -> usize {
@@ -195,6 +240,9 @@ const FAMILIES: [Family; 6] = [
     (1, Watch::damages),
 ];
 
+/// Lists of either way have numbers of their own, so that the tables of a seed are what they were before there were lists.
+const LISTS: u32 = 20;
+
 fn number(argument: Option<String>) -> u64 {
     argument.and_then(|digits| digits.parse().ok()).expect("watch_stores SEED ROUNDS")
 }
@@ -209,15 +257,19 @@ fn main() {
             exit(0);
         });
         let mut watch = Watch::new(watcher, *library);
-        let mut random = Random::new(seed);
+        let (mut random, mut of_lists) = (Random::new(seed), Random::new(!seed));
         for _ in 0..rounds {
             for (times, watch_some) in FAMILIES {
                 (0..times).for_each(|_| watch_some(&mut watch, &mut random));
             }
+            (0..LISTS).for_each(|_| watch.lists(&mut of_lists));
         }
         print!("{}", watch.text(name));
         if let Some(case) = watch.smallest_wrong.take() {
             print!("{}", watch.wrong_text(case));
+        }
+        if let Some(lists) = watch.wrong_lists.take() {
+            print!("{}", watch.wrong_lists_text(lists));
         }
         passed += watch.passed();
         failed += watch.failed();

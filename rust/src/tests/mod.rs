@@ -8,10 +8,12 @@ mod counts;
 mod covered;
 mod histories;
 mod layout;
+mod posix;
 mod scripts;
 mod shared;
 mod stores;
 mod storing;
+mod storing_lists;
 mod tables;
 mod title;
 
