@@ -17,8 +17,8 @@ use Rattle.rules.specs.Shape.{isKind}
 use Rattle.rules.specs.Locks.{Lock, lock, Taken, taken, bad, importLock, lengthOf, lockOf, exportClaim, each, recordWidth, locksIn, lockNumbers, claimsIn, claimNumbers, listed, moved, importLocks, exportClaims}
 use Rattle.rules.specs.declared.Moved.{Moved}
 use Rattle.rules.proofs.Laws.Locks.{exporting, import-never-0, export-never-0}
-use Rattle.posix.specs.Records.{lockAt, claimAt, putClaim, putLock, verdict, recordsFrom, putFrom, claimOr0, claimFor, lockFor, importedAs, refusalOf}
-use Rattle.posix.specs.declared.Imported.{Imported}
+use Rattle.posix.specs.Records.{lockAt, claimAt, putClaim, putLock, verdict, recordsFrom, putFrom, claimOr0, claimFor, lockFor, refusalOf}
+use Rattle.posix.specs.declared.Claimed.{Claimed}
 use Rattle.posix.proofs.Signs.{again}
 use Rattle.posix.proofs.Lists as lists
 use Rattle.posix.proofs.Lists.{LookedAt, StoredUpTo}
@@ -58,18 +58,26 @@ module _ (title : ℕ) (l : List ℤ) where
   pub no-claim-yet : (lent : List ℕ) → ClaimsStored lent 0 lent
   no-claim-yet lent = lists.stored-none putClaim (claimFor title l) _ (length l / recordWidth) lent refl
 
-  stored-claim : (x : Taken Claim) (r : Imported) → r ≡ importedAs x → claim (r .start) (r .end) (r .kind) ≡ claimOr0 x
-  stored-claim (taken c) r q = rw q
-  stored-claim (bad number) r q = rw q
-
-  pub claim-stored : (lent sofar after : List ℕ) (place : ℕ) (one : Imported) → ClaimsStored lent place sofar → place < length l / 3 → one ≡ importedAs (importLock title (lockAt l place))
+  pub claim-stored : (lent sofar after : List ℕ) (place : ℕ) (one : Claimed) → ClaimsStored lent place sofar → place < length l / 3
+      → taken (claim (one .start) (one .end) (one .kind)) ≡ importLock title (lockAt l place)
       → after ≡ putClaim sofar place (claim (one .start) (one .end) (one .kind)) → ClaimsStored lent (place + 1) after
   claim-stored lent sofar after place one inv h q e =
-      lists.stored-on putClaim (claimFor title l) _ (length l / recordWidth) place sofar after inv h (e ∙ ap (putClaim sofar place) (stored-claim (importLock title (lockAt l place)) one q))
+      lists.stored-on putClaim (claimFor title l) _ (length l / recordWidth) place sofar after inv h (e ∙ ap (λ x. putClaim sofar place (claimOr0 x)) q)
 
   pub claims-stored : (lent after : List ℕ) (place : ℕ) → ClaimsStored lent place after → length l / 3 ≤ place
       → after ≡ putFrom putClaim 0 (recordsFrom (claimFor title l) 0 (length l / recordWidth)) lent
   claims-stored lent after place inv h = lists.stored-all putClaim (claimFor title l) _ (length l / recordWidth) place after inv h
+
+  -- each lock passed, if all of them did
+  pub lock-passed-at : (place : ℕ) → moved 0 0 ≡ verdict (each (importLock title) (locksIn l)) → place < length l / 3 → refusalOf (importLock title (lockAt l place)) ≡ 0
+  lock-passed-at place q h = lists.each-passed lock (pos 0) (importLock title) (import-never-0 title) l (moved 0 0) q refl place h
+
+  pub all-locks-passed : (found : Moved) → found ≡ verdict (each (importLock title) (locksIn l)) → found .refusal ≡ 0 → moved 0 0 ≡ verdict (each (importLock title) (locksIn l))
+  all-locks-passed found q e =
+      sym
+      (ap verdict
+      (lists.each-taken lock (pos 0) (importLock title) (import-never-0 title) l found q (claimFor title l)
+      (λ j. is-claim (importLock title (lockAt l j)) (import-never-0 title (lockAt l j))) e))
 
 -- ---- export
 module _ (title : ℕ) (l : List ℕ) where
@@ -102,12 +110,11 @@ module _ (title : ℕ) (l : List ℕ) where
       → after ≡ putFrom putLock 0 (recordsFrom (lockFor title l) 0 (length l / recordWidth)) lent
   locks-stored lent after place inv h = lists.stored-all putLock (lockFor title l) _ (length l / recordWidth) place after inv h
 
-  -- each claim passed, if all of them did
-  pub passed-at : (place : ℕ) → moved 0 0 ≡ verdict (each (exportClaim title) (claimsIn l)) → place < length l / 3 → refusalOf (exportClaim title (claimAt l place)) ≡ 0
-  passed-at place q h = lists.each-passed claim 0 (exportClaim title) (export-never-0 title) l (moved 0 0) q refl place h
+  pub claim-passed-at : (place : ℕ) → moved 0 0 ≡ verdict (each (exportClaim title) (claimsIn l)) → place < length l / 3 → refusalOf (exportClaim title (claimAt l place)) ≡ 0
+  claim-passed-at place q h = lists.each-passed claim 0 (exportClaim title) (export-never-0 title) l (moved 0 0) q refl place h
 
-  pub all-passed : (found : Moved) → found ≡ verdict (each (exportClaim title) (claimsIn l)) → found .refusal ≡ 0 → moved 0 0 ≡ verdict (each (exportClaim title) (claimsIn l))
-  all-passed found q e = sym (ap verdict (lists.each-taken claim 0 (exportClaim title) (export-never-0 title) l found q (lockFor title l) (λ j. is-lock title (claimAt l j)) e))
+  pub all-claims-passed : (found : Moved) → found ≡ verdict (each (exportClaim title) (claimsIn l)) → found .refusal ≡ 0 → moved 0 0 ≡ verdict (each (exportClaim title) (claimsIn l))
+  all-claims-passed found q e = sym (ap verdict (lists.each-taken claim 0 (exportClaim title) (export-never-0 title) l found q (lockFor title l) (λ j. is-lock title (claimAt l j)) e))
 
 -- a claim that is not refused has a frame
 pub in-order : (title start end kind : ℕ) → refusalOf (exportClaim title (claim start end kind)) ≡ 0 → start ≤ end

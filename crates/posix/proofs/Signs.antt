@@ -6,20 +6,21 @@ use native.Mathlib.Omega.{arith}
 use lib.IntN.{ℤ, pos, negsuc, natAbs, _-ℤ_}
 use lib.Dec.{T}
 use lib.Signed.{ltZ, nonNeg}
-use mir.Syntax.{w64}
+use mir.Syntax.{w32, w64}
 use mir.Val.{SFits, Fits, ofZ, toZ}
 use mir.Facts.{toZ-ofZ}
 use borrow.Author.Tests.{ltb-true, le-ltb, ne-eqb}
 use Rattle.rules.specs.Shape.{isKind}
-use Rattle.posix.specs.Records.{below, above, kindOf}
+use Rattle.rules.specs.Locks.{isType}
+use Rattle.posix.specs.Records.{below, above, IsWord}
 
 abbrev pub again : ℤ → ℤ
 again z = toZ w64 (ofZ w64 z)
 
-not-negative : {A : Type 0} (n : ℕ) → ltZ (again (pos n)) (pos 0) ≡ true → SFits w64 (pos n) → A
+pub not-negative : {A : Type 0} (n : ℕ) → ltZ (again (pos n)) (pos 0) ≡ true → SFits w64 (pos n) → A
 not-negative n t f = absurd (let h = ltb-true n 0 (rw (toZ-ofZ f) at t) in omega arith)
 
-negative : {A : Type 0} (n : ℕ) → ltZ (again (negsuc n)) (pos 0) ≡ false → SFits w64 (negsuc n) → A
+pub negative : {A : Type 0} (n : ℕ) → ltZ (again (negsuc n)) (pos 0) ≡ false → SFits w64 (negsuc n) → A
 negative n t f = absurd (true≢false (rw (toZ-ofZ f) at t))
 
 -- ---- how far it lies above 0
@@ -89,15 +90,29 @@ below-none (pos n) t f = refl
 below-none (negsuc n) t f = negative n t f
 
 -- ---- a type
-pub reads-kind : (z : ℤ) → ofZ w64 z ≡ 1 → SFits w64 z → 1 ≡ kindOf z
-unfolding kindOf isKind
-reads-kind z e f = rw (sym (toZ-ofZ f) ∙ ap (toZ w64) e)
+pub is-1 : (z : ℤ) → ofZ w64 z ≡ 1 → SFits w64 z → true ≡ isType z
+unfolding isKind
+is-1 z e f = rw (sym (toZ-ofZ f) ∙ ap (toZ w64) e)
 
-pub writes-kind : (z : ℤ) → ofZ w64 z ≡ 2 → SFits w64 z → 2 ≡ kindOf z
-unfolding kindOf isKind
-writes-kind z e f = rw (sym (toZ-ofZ f) ∙ ap (toZ w64) e)
+pub is-2 : (z : ℤ) → ofZ w64 z ≡ 2 → SFits w64 z → true ≡ isType z
+unfolding isKind
+is-2 z e f = rw (sym (toZ-ofZ f) ∙ ap (toZ w64) e)
 
-pub no-kind : (z : ℤ) → (ofZ w64 z ≡ 1 → ⊥) → (ofZ w64 z ≡ 2 → ⊥) → 0 ≡ kindOf z
-unfolding kindOf isKind
-no-kind (pos n) a b = rw (ne-eqb n 1 a, ne-eqb n 2 b)
-no-kind (negsuc n) a b = refl
+pub is-neither : (z : ℤ) → (ofZ w64 z ≡ 1 → ⊥) → (ofZ w64 z ≡ 2 → ⊥) → false ≡ isType z
+unfolding isKind
+is-neither (pos n) a b = rw (ne-eqb n 1 a, ne-eqb n 2 b)
+is-neither (negsuc n) a b = refl
+
+-- ---- a number of 32 bits
+module _ (z : ℤ) (w : IsWord z) where
+  pub word-fits : SFits w64 z
+  word-fits = let h = w .small in rw (w .is) (record { sfits = omega arith })
+
+  pub word-sign : T (nonNeg (again z))
+  word-sign = rw (toZ-ofZ word-fits, w .is) tt
+
+  pub word-small : Fits w32 (natAbs (again z))
+  word-small = let h = w .small in rw (toZ-ofZ word-fits, w .is) (record { fits = omega arith })
+
+  pub word-is : pos (natAbs (again z)) ≡ z
+  word-is = rw (toZ-ofZ word-fits, w .is)

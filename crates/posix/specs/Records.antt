@@ -1,16 +1,15 @@
 -- What the code of this crate finds out of one record after the other.
-use Prim.Native.Nat.{ℕ, zero, suc, _+_, _-_, _*_}
-use mathlib.Core.Bool.{Bool}
+use Prim.Native.Nat.{ℕ, zero, suc, _+_, _*_, _≤_}
+use mathlib.Core.Bool.{Bool, not}
+use mathlib.Core.Path.{_≡_}
 use mathlib.Core.List.{List, [], _∷_}
 use lib.IntN.{ℤ, pos, negsuc}
 use lib.ListN.{getD, set}
-use Rattle.rules.specs.Notation.{if_then_else_, _is_, _≤?_, _<?_}
+use Rattle.rules.specs.Notation.{_≤?_, _<?_}
 use Rattle.rules.specs.Comparison.{Claim, claim}
-use Rattle.rules.specs.Shape.{isKind}
 use Rattle.rules.specs.Answers.{_when_, unless}
 use Rattle.rules.specs.Locks.{Lock, lock, lockOf, Taken, taken, bad, importLock, All, all, firstBad, recordWidth, moved}
 use Rattle.rules.specs.declared.Moved.{Moved}
-use Rattle.posix.specs.declared.Imported.{Imported}
 
 -- ---- a signed number as two that are not: how far it lies below 0, and how far above
 unfoldable pub below : ℤ → ℕ
@@ -21,33 +20,27 @@ unfoldable pub above : ℤ → ℕ
 above (pos n) = n
 above (negsuc n) = 0
 
--- the kind of a claim of this type, 0 if the type is unknown
-unfoldable pub kindOf : ℤ → ℕ
-kindOf (pos n) = if isKind n then n else 0
-kindOf (negsuc n) = 0
+-- it is a number of 32 bits
+pub record IsWord (z : ℤ) : Type 0 where
+  pub value : ℕ
+  pub is : z ≡ pos value
+  pub small : value ≤ 4294967295
 
--- a run of frames as a claim, its signs being known
-unfoldable pub takeRun : ℕ → ℕ → ℕ → ℕ → Taken Claim
-takeRun title first end kind =
-    unless bad
-    ((12 when end ≤? first)
-    ∷ (12 when 4294967295 <? end)
-    ∷ (13 when kind is 0)
-    ∷ (11 when title <? end)
-    ∷ [])
-    (taken (claim first end kind))
-
--- ---- a record as a struct: 0 and the claim, or the refusal and zeros
-abbrev pub imported : ℕ → ℕ → ℕ → ℕ → Imported
-imported refusal start end kind = record { refusal = refusal; start = start; end = end; kind = kind }
-
-abbrev pub importedAs : Taken Claim → Imported
-importedAs (taken c) = imported 0 (c .start) (c .end) (c .kind)
-importedAs (bad number) = imported number 0 0 0
-
+-- ---- the number of a refusal, 0 of a record that is taken
 abbrev pub refusalOf : {A : Type 0} → Taken A → ℕ
 refusalOf (taken a) = 0
 refusalOf (bad number) = number
+
+-- of a lock whose run does not start below 0
+unfoldable pub runRefusal : ℕ → ℕ → ℕ → Bool → ℕ
+runRefusal title first end known =
+    unless (λ number. number)
+    ((12 when end ≤? first)
+    ∷ (12 when 4294967295 <? end)
+    ∷ (13 when not known)
+    ∷ (11 when title <? end)
+    ∷ [])
+    0
 
 -- ---- the record at a place of a lent list, and three numbers stored there
 abbrev pub recordAt : {A B : Type 0} → (A → A → A → B) → A → List A → ℕ → B

@@ -6,13 +6,12 @@ ghost use Prim.Native.Nat.{_+_, _*_, _/_, _<_, _≤_};
 ghost use lib.ListN.{length};
 ghost use lib.IntN.{pos};
 ghost use Rattle.rules.specs.Comparison.{claim};
-ghost use Rattle.rules.specs.Locks.{lock, bad, importLock, exportClaim, each, locksIn, claimsIn, recordWidth, listed, moved, importLocks, exportClaims, lengthOf};
-ghost use Rattle.posix.specs.Records.{below, above, kindOf, takeRun, importedAs, lockAt, claimAt, putClaim, putLock, verdict, recordsFrom, putFrom, claimFor, lockFor, refusalOf};
+ghost use Rattle.rules.specs.Locks.{lock, isType, taken, importLock, exportClaim, each, locksIn, claimsIn, recordWidth, listed, moved, importLocks, exportClaims, lengthOf};
+ghost use Rattle.posix.specs.Records.{below, above, IsWord, runRefusal, lockAt, claimAt, putClaim, putLock, verdict, recordsFrom, putFrom, claimFor, lockFor, refusalOf};
 use rules::Moved;
 
-// A lock as a claim: the refusal, or 0 and begin's numbers.
-pub struct Imported {
-    pub refusal: u32,
+// A lock that is not refused, as begin's numbers.
+pub struct Claimed {
     pub start: u32,
     pub end: u32,
     pub kind: u32,
@@ -41,96 +40,121 @@ fn above_zero(number: i64) -> u64
     number as u64
 }
 
-// the kind of a claim of this type, 0 if the type is unknown
-fn kind_of(lock_type: i64) -> u32
-    ensures { λ r. ⌜ r ≡ kindOf «lock_type» ⌝ }
+fn is_type(number: i64) -> bool
+    ensures { λ r. ⌜ r ≡ isType number ⌝ }
 {
-    if lock_type == 1 {
-        return 1;
+    if number == 1 {
+        return true;
     }
-    if lock_type == 2 {
-        return 2;
+    if number == 2 {
+        return true;
     }
-    0
+    false
+}
+
+// a number of 32 bits as such
+fn word(number: i64) -> u32
+    requires { ⌜ IsWord number ⌝ }
+    ensures { λ r. ⌜ pos r ≡ number ⌝ }
+{
+    number as u32
 }
 
 // ---- one lock
 
-fn refused(number: u32) -> Imported
-    ensures { λ r. ⌜ r ≡ importedAs (bad number) ⌝ }
-{
-    Imported {
-        refusal: number,
-        start: 0,
-        end: 0,
-        kind: 0,
-    }
-}
-
-// the frames from first up to but not including end, of a kind that is 0 if the type is unknown
-fn take_run(title: u32, first: u64, end: u64, kind: u32) -> Imported
-    ensures { λ r. ⌜ r ≡ importedAs (takeRun title first end kind) ⌝ }
+// the refusal of a lock of the frames from first up to but not including end, 0 if it has none
+fn run_refusal(title: u32, first: u64, end: u64, known: bool) -> u32
+    ensures { λ r. ⌜ r ≡ runRefusal title first end known ⌝ }
 {
     if end <= first {
-        return refused(12);
+        return 12;
     }
     if end > 4294967295 {
-        return refused(12);
+        return 12;
     }
-    if kind == 0 {
-        return refused(13);
+    if known {
+        if (title as u64) < end {
+            return 11;
+        }
+        return 0;
     }
-    if (title as u64) < end {
-        return refused(11);
+    13
+}
+
+fn lock_refusal(title: u32, lock_type: i64, start: i64, span: i64) -> u32
+    ensures { λ r. ⌜ r ≡ refusalOf (importLock title (lock «lock_type» start span)) ⌝ }
+{
+    let known = is_type(lock_type);
+    if start < 0 {
+        return 12;
     }
-    Imported {
-        refusal: 0,
-        start: first as u32,
-        end: end as u32,
+    let from = above_zero(start);
+    if span < 0 {
+        let down = below_zero(span);
+        if from < down {
+            return 12;
+        }
+        return run_refusal(title, from - down, from, known);
+    }
+    let up = above_zero(span);
+    if up == 0 {
+        return run_refusal(title, from, title as u64, known);
+    }
+    run_refusal(title, from, from + up, known)
+}
+
+// The claim of a lock that is not refused. Its frames are numbers of 32 bits, so that its sums are too.
+fn claim_of(title: u32, lock_type: i64, start: i64, span: i64) -> Claimed
+    requires { ⌜ refusalOf (importLock title (lock «lock_type» start span)) ≡ 0 ⌝ }
+    ensures { λ r. ⌜ taken (claim (r .start) (r .end) (r .kind)) ≡ importLock title (lock «lock_type» start span) ⌝ }
+{
+    let kind = word(lock_type);
+    if span < 0 {
+        let first = start + span;
+        return Claimed {
+            start: word(first),
+            end: word(start),
+            kind: kind,
+        };
+    }
+    if span == 0 {
+        return Claimed {
+            start: word(start),
+            end: title,
+            kind: kind,
+        };
+    }
+    let end = start + span;
+    Claimed {
+        start: word(start),
+        end: word(end),
         kind: kind,
     }
 }
 
-fn import_lock(title: u32, lock_type: i64, start: i64, span: i64) -> Imported
-    ensures { λ r. ⌜ r ≡ importedAs (importLock title (lock «lock_type» start span)) ⌝ }
-{
-    let kind = kind_of(lock_type);
-    let short = below_zero(start);
-    let from = above_zero(start);
-    let down = below_zero(span);
-    let up = above_zero(span);
-    if short > 0 {
-        return refused(12);
-    }
-    if from < down {
-        return refused(12);
-    }
-    if down > 0 {
-        return take_run(title, from - down, from, kind);
-    }
-    if up > 0 {
-        return take_run(title, from, from + up, kind);
-    }
-    take_run(title, from, title as u64, kind)
-}
-
-fn import_at(title: u32, locks: &[i64], place: usize) -> Imported
-    requires { ⌜ recordWidth * place + 2 < length (now locks) ⌝ }
-    ensures { λ r. ⌜ r ≡ importedAs (importLock title (lockAt (now (locks .entry)) place)) ⌝ }
-{
-    let at = 3 * place;
-    let lock_type = locks[at];
-    let start = locks[at + 1];
-    let span = locks[at + 2];
-    import_lock(title, lock_type, start, span)
-}
+// ---- the lock at a place of a list
 
 fn lock_refusal_at(title: u32, locks: &[i64], place: usize) -> u32
     requires { ⌜ recordWidth * place + 2 < length (now locks) ⌝ }
     ensures { λ r. ⌜ r ≡ refusalOf (importLock title (lockAt (now (locks .entry)) place)) ⌝ }
 {
-    let one = import_at(title, locks, place);
-    one.refusal
+    let at = 3 * place;
+    let lock_type = locks[at];
+    let start = locks[at + 1];
+    let span = locks[at + 2];
+    lock_refusal(title, lock_type, start, span)
+}
+
+fn claim_at(title: u32, locks: &[i64], place: usize) -> Claimed
+    requires { ⌜ recordWidth * place + 2 < length (now locks) ⌝ }
+    requires { ⌜ refusalOf (importLock title (lockAt (now locks) place)) ≡ 0 ⌝ }
+    ensures { λ r. ⌜ taken (claim (r .start) (r .end) (r .kind)) ≡ importLock title (lockAt (now (locks .entry)) place) ⌝ }
+{
+    let at = 3 * place;
+    let lock_type = locks[at];
+    let start = locks[at + 1];
+    let span = locks[at + 2];
+    claim_of(title, lock_type, start, span)
 }
 
 // ---- a list of locks
@@ -156,7 +180,7 @@ fn first_bad_lock(title: u32, locks: &[i64]) -> Moved
     }
 }
 
-fn put_claim(claims: &mut [u32], place: usize, one: Imported)
+fn put_claim(claims: &mut [u32], place: usize, one: Claimed)
     requires { ⌜ recordWidth * place + 2 < length (now claims) ⌝ }
     ensures { λ r. ⌜ now (claims .exit) ≡ putClaim (now (claims .entry)) place (claim (one .start) (one .end) (one .kind)) ⌝ }
 {
@@ -168,12 +192,13 @@ fn put_claim(claims: &mut [u32], place: usize, one: Imported)
 
 fn put_claims(title: u32, locks: &[i64], claims: &mut [u32])
     requires { ⌜ length (now locks) / recordWidth ≤ length (now claims) / recordWidth ⌝ }
+    requires { ⌜ moved 0 0 ≡ verdict (each (importLock title) (locksIn (now locks))) ⌝ }
     ensures { λ r. ⌜ now (claims .exit) ≡ putFrom putClaim 0 (recordsFrom (claimFor title (now (locks .entry))) 0 (length (now (locks .entry)) / recordWidth)) (now (claims .entry)) ⌝ }
 {
     let count = locks.len() / 3;
     let mut place: usize = 0;
     while place < count {
-        let one = import_at(title, locks, place);
+        let one = claim_at(title, locks, place);
         put_claim(claims, place, one);
         place += 1;
     }

@@ -1,4 +1,4 @@
-use Rattle.posix.proofs.Calls.{export-no-title, export-refused, export-short, export-accepted, all-passed}
+use Rattle.posix.proofs.Calls.{export-no-title, export-refused, export-short, export-accepted, all-claims-passed}
 use borrow.Author.Needs.{needs}
 use Rattle.posix.proofs.export.Statement.{statement}
 use Rattle.posix.proofs.export.Tie as tie
@@ -25,7 +25,7 @@ returns-3 c = search export-short
 
 -- src/lib.rt:326:5
 put-locks-requires : tie.Need-put-locks-requires
-put-locks-requires c κs = (search needs, search all-passed)
+put-locks-requires c κs = (search needs, search all-claims-passed)
 
 -- src/lib.rt:307:1
 same-length : tie.Need-same-length

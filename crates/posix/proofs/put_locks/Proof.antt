@@ -1,4 +1,4 @@
-use Rattle.posix.proofs.Calls.{LocksStored, no-lock-stored, lock-stored-on, locks-stored, passed-at}
+use Rattle.posix.proofs.Calls.{LocksStored, no-lock-stored, lock-stored-on, locks-stored, claim-passed-at}
 use lib.ListN.{length}
 use Prim.Native.Nat.{_-_, _≤_, _/_}
 use mathlib.Core.Path.{_≡_, refl}
@@ -22,7 +22,7 @@ loop-holds c = (omega arith, refl, refl, search no-lock-stored)
 
 -- src/lib.rt:302:9
 export-at-requires : tie.Need-export-at-requires Inv-loop μ-loop
-export-at-requires c κs = (omega arith, (omega arith, search passed-at))
+export-at-requires c κs = (omega arith, (omega arith, search claim-passed-at))
 
 -- src/lib.rt:303:9
 add-place : tie.Need-add-place Inv-loop μ-loop
