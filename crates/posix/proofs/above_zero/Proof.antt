@@ -1,18 +1,14 @@
+-- `posix::above_zero` meets its promise.
 use Rattle.posix.proofs.Signs.{above-none, above-sign, above-fits, above-is}
 use Rattle.posix.proofs.above_zero.Statement.{statement}
 use Rattle.posix.proofs.above_zero.Tie as tie
-use Rattle.posix.proofs.above_zero.Reads as reads
-use Rattle.posix.proofs.above_zero.Lts as lts
 
--- src/lib.rt:39:9
 returns : tie.Need-returns
 returns c = search above-none
 
--- src/lib.rt:41:5
 cast-result : tie.Need-cast-result
 cast-result c = (search above-sign, search above-fits)
 
--- src/lib.rt:35:1
 returns-2 : tie.Need-returns-2
 returns-2 c = search above-is
 

@@ -1,52 +1,39 @@
+-- `posix::claim_at` meets its promise.
 use Rattle.posix.proofs.One.{passed-read, claim-read}
 use borrow.Author.Needs.{needs}
 use Rattle.posix.proofs.claim_at.Statement.{statement}
 use Rattle.posix.proofs.claim_at.Tie as tie
-use Rattle.posix.proofs.claim_at.Reads as reads
-use Rattle.posix.proofs.claim_at.Lts as lts
-use Rattle.posix.proofs.claim_of.Reads as claim-of-reads
 
--- src/lib.rt:153:14
 mul-at : tie.Need-mul-at
 mul-at c = search needs
 
--- src/lib.rt:154:21
 mul-lock-type : tie.Need-mul-lock-type
 mul-lock-type c = search needs
 
--- src/lib.rt:154:21
 shared-slice-copy-out-lock-type : tie.Need-shared-slice-copy-out-lock-type
 shared-slice-copy-out-lock-type c = search needs
 
--- src/lib.rt:155:23
 add-start : tie.Need-add-start
 add-start c = search needs
 
--- src/lib.rt:155:17
 mul-start : tie.Need-mul-start
 mul-start c = search needs
 
--- src/lib.rt:155:17
 shared-slice-copy-out-start : tie.Need-shared-slice-copy-out-start
 shared-slice-copy-out-start c = search needs
 
--- src/lib.rt:156:22
 add-span : tie.Need-add-span
 add-span c = search needs
 
--- src/lib.rt:156:16
 mul-span : tie.Need-mul-span
 mul-span c = search needs
 
--- src/lib.rt:156:16
 shared-slice-copy-out-span : tie.Need-shared-slice-copy-out-span
 shared-slice-copy-out-span c = search needs
 
--- src/lib.rt:157:5
 claim-of-requires : tie.Need-claim-of-requires
 claim-of-requires c κs = search passed-read
 
--- src/lib.rt:148:1
 returns : tie.Need-returns
 returns c = search claim-read
 

@@ -1,51 +1,38 @@
+-- `posix::claim_of` meets its promise.
 use Rattle.posix.proofs.One.{type-is-word, sum-fits-again, sum-again-is-word, start-is-word, claimed-back, claimed-to-the-end, claimed-on}
 use Rattle.posix.proofs.claim_of.Statement.{statement}
 use Rattle.posix.proofs.claim_of.Tie as tie
-use Rattle.posix.proofs.claim_of.Reads as reads
-use Rattle.posix.proofs.claim_of.Lts as lts
-use Rattle.posix.proofs.word.Reads as word-reads
 
--- src/lib.rt:111:9
 word-requires : tie.Need-word-requires
 word-requires c κs = search type-is-word
 
--- src/lib.rt:113:21
 add-first : tie.Need-add-first
 add-first c = search sum-fits-again
 
--- src/lib.rt:115:20
 word-requires-2 : tie.Need-word-requires-2
 word-requires-2 c κs = search sum-again-is-word
 
--- src/lib.rt:116:18
 word-requires-3 : tie.Need-word-requires-3
 word-requires-3 c κs = search start-is-word
 
--- src/lib.rt:114:9
 returns : tie.Need-returns
 returns c = search claimed-back
 
--- src/lib.rt:122:20
 word-requires-4 : tie.Need-word-requires-4
 word-requires-4 c κs = search start-is-word
 
--- src/lib.rt:121:9
 returns-2 : tie.Need-returns-2
 returns-2 c = search claimed-to-the-end
 
--- src/lib.rt:127:15
 add-end : tie.Need-add-end
 add-end c = search sum-fits-again
 
--- src/lib.rt:129:16
 word-requires-5 : tie.Need-word-requires-5
 word-requires-5 c κs = search start-is-word
 
--- src/lib.rt:130:14
 word-requires-6 : tie.Need-word-requires-6
 word-requires-6 c κs = search sum-again-is-word
 
--- src/lib.rt:107:1
 returns-3 : tie.Need-returns-3
 returns-3 c = search claimed-on
 

@@ -1,3 +1,4 @@
+-- `posix::first_bad_lock` meets its promise.
 use Rattle.posix.proofs.Calls.{LocksLookedAt, no-lock-yet, lock-passed, lock-bad, no-lock-left}
 use lib.ListN.{length}
 use Prim.Native.Nat.{_-_, _≤_, _/_}
@@ -5,9 +6,6 @@ use mathlib.Core.Path.{_≡_, refl}
 use native.Mathlib.Omega.{arith}
 use Rattle.posix.proofs.first_bad_lock.Statement.{statement}
 use Rattle.posix.proofs.first_bad_lock.Tie as tie
-use Rattle.posix.proofs.first_bad_lock.Reads as reads
-use Rattle.posix.proofs.first_bad_lock.Lts as lts
-use Rattle.posix.proofs.lock_refusal_at.Reads as lock-refusal-at-reads
 
 abbrev Inv-loop : tie.InvT-loop
 Inv-loop title locks count place₀ place = (place ≤ count) × (count ≡ length locks / 3) × LocksLookedAt title locks place
@@ -15,31 +13,24 @@ Inv-loop title locks count place₀ place = (place ≤ count) × (count ≡ leng
 abbrev μ-loop : tie.MeasureT-loop
 μ-loop title locks count place₀ place = count - place
 
--- src/lib.rt:143:5
 loop-holds : tie.Need-loop-holds Inv-loop μ-loop
 loop-holds c = (omega arith, refl, no-lock-yet _ _)
 
--- src/lib.rt:144:13
 lock-refusal-at-requires : tie.Need-lock-refusal-at-requires Inv-loop μ-loop
 lock-refusal-at-requires c κs = omega arith
 
--- src/lib.rt:146:13
 returns : tie.Need-returns Inv-loop μ-loop
 returns c = search lock-bad
 
--- src/lib.rt:151:9
 add-place : tie.Need-add-place Inv-loop μ-loop
 add-place c = omega arith
 
--- src/lib.rt:143:5
 loop-less : tie.Need-loop-less Inv-loop μ-loop
 loop-less c = omega arith
 
--- src/lib.rt:143:5
 loop-again : tie.Need-loop-again Inv-loop μ-loop
 loop-again c = (omega arith, refl, search lock-passed)
 
--- src/lib.rt:138:1
 returns-2 : tie.Need-returns-2 Inv-loop μ-loop
 returns-2 c = search no-lock-left
 

@@ -1,18 +1,14 @@
+-- `posix::is_type` meets its promise.
 use Rattle.posix.proofs.Signs.{is-1, is-2, is-neither}
 use Rattle.posix.proofs.is_type.Statement.{statement}
 use Rattle.posix.proofs.is_type.Tie as tie
-use Rattle.posix.proofs.is_type.Reads as reads
-use Rattle.posix.proofs.is_type.Lts as lts
 
--- src/lib.rt:47:9
 returns : tie.Need-returns
 returns c = search is-1
 
--- src/lib.rt:50:9
 returns-2 : tie.Need-returns-2
 returns-2 c = search is-2
 
--- src/lib.rt:43:1
 returns-3 : tie.Need-returns-3
 returns-3 c = search is-neither
 

@@ -1,63 +1,45 @@
+-- `posix::lock_refusal` meets its promise.
 use Rattle.posix.proofs.One.{lock-starts-below, lock-reaches-below, lock-back, lock-to-the-end, lock-on, sum-fits}
 use borrow.Author.Needs.{needs}
 use Rattle.posix.proofs.lock_refusal.Statement.{statement}
 use Rattle.posix.proofs.lock_refusal.Tie as tie
-use Rattle.posix.proofs.lock_refusal.Reads as reads
-use Rattle.posix.proofs.lock_refusal.Lts as lts
-use Rattle.posix.proofs.above_zero.Reads as above-zero-reads
-use Rattle.posix.proofs.below_zero.Reads as below-zero-reads
-use Rattle.posix.proofs.is_type.Reads as is-type-reads
-use Rattle.posix.proofs.run_refusal.Reads as run-refusal-reads
 
--- src/lib.rt:87:9
 is-type-requires : tie.Need-is-type-requires
 is-type-requires c κs = search needs
 
--- src/lib.rt:89:9
 returns : tie.Need-returns
 returns c = search lock-starts-below
 
--- src/lib.rt:91:9
 above-zero-requires : tie.Need-above-zero-requires
 above-zero-requires c κs = search needs
 
--- src/lib.rt:93:13
 below-zero-requires : tie.Need-below-zero-requires
 below-zero-requires c κs = search needs
 
--- src/lib.rt:95:13
 returns-2 : tie.Need-returns-2
 returns-2 c = search lock-reaches-below
 
--- src/lib.rt:97:9
 run-refusal-requires : tie.Need-run-refusal-requires
 run-refusal-requires c κs = search needs
 
--- src/lib.rt:97:9
 returns-3 : tie.Need-returns-3
 returns-3 c = search lock-back
 
--- src/lib.rt:99:9
 above-zero-requires-2 : tie.Need-above-zero-requires-2
 above-zero-requires-2 c κs = search needs
 
--- src/lib.rt:101:9
 run-refusal-requires-2 : tie.Need-run-refusal-requires-2
 run-refusal-requires-2 c κs = search needs
 
--- src/lib.rt:101:9
 returns-4 : tie.Need-returns-4
 returns-4 c = search lock-to-the-end
 
--- src/lib.rt:103:30
 add-run-refusal : tie.Need-add-run-refusal
 add-run-refusal c = search sum-fits
 
--- src/lib.rt:103:5
 run-refusal-requires-3 : tie.Need-run-refusal-requires-3
 run-refusal-requires-3 c κs = search needs
 
--- src/lib.rt:84:1
 returns-5 : tie.Need-returns-5
 returns-5 c = search lock-on
 

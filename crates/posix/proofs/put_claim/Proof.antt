@@ -1,53 +1,41 @@
+-- `posix::put_claim` meets its promise.
 use mathlib.Core.Path.{refl}
 use native.Mathlib.Omega.{arith}
 use lib.ListN.{length-set}
 use borrow.Author.Needs.{needs}
 use Rattle.posix.proofs.put_claim.Statement.{statement}
 use Rattle.posix.proofs.put_claim.Tie as tie
-use Rattle.posix.proofs.put_claim.Reads as reads
-use Rattle.posix.proofs.put_claim.Lts as lts
 
--- src/lib.rt:187:14
 mul-at : tie.Need-mul-at
 mul-at c = search needs
 
--- src/lib.rt:188:5
 mul-claims : tie.Need-mul-claims
 mul-claims c = search needs
 
--- src/lib.rt:188:5
 slice-write-claims : tie.Need-slice-write-claims
 slice-write-claims c = search needs
 
--- src/lib.rt:189:12
 add-claims : tie.Need-add-claims
 add-claims c = search needs
 
--- src/lib.rt:189:5
 mul-claims-2 : tie.Need-mul-claims-2
 mul-claims-2 c = search needs
 
--- src/lib.rt:189:5
 slice-write-claims-2 : tie.Need-slice-write-claims-2
 slice-write-claims-2 c = simp length-set (omega arith)
 
--- src/lib.rt:190:12
 add-claims-2 : tie.Need-add-claims-2
 add-claims-2 c = search needs
 
--- src/lib.rt:190:5
 mul-claims-3 : tie.Need-mul-claims-3
 mul-claims-3 c = search needs
 
--- src/lib.rt:190:5
 slice-write-claims-3 : tie.Need-slice-write-claims-3
 slice-write-claims-3 c = search needs
 
--- src/lib.rt:183:1
 same-length : tie.Need-same-length
 same-length c = search needs
 
--- src/lib.rt:183:1
 returns : tie.Need-returns
 returns c = refl
 

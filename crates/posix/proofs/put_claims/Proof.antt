@@ -1,3 +1,4 @@
+-- `posix::put_claims` meets its promise.
 use Rattle.posix.proofs.Calls.{ClaimsStored, no-claim-yet, claim-stored, claims-stored, lock-passed-at}
 use lib.ListN.{length}
 use Prim.Native.Nat.{_-_, _≤_, _/_}
@@ -6,10 +7,6 @@ use borrow.Author.Needs.{needs}
 use native.Mathlib.Omega.{arith}
 use Rattle.posix.proofs.put_claims.Statement.{statement}
 use Rattle.posix.proofs.put_claims.Tie as tie
-use Rattle.posix.proofs.put_claims.Reads as reads
-use Rattle.posix.proofs.put_claims.Lts as lts
-use Rattle.posix.proofs.claim_at.Reads as claim-at-reads
-use Rattle.posix.proofs.put_claim.Reads as put-claim-reads
 
 abbrev Inv-loop : tie.InvT-loop
 Inv-loop title locks claims₀ count place₀ claims place = (place ≤ count) × (count ≡ length locks / 3) × (length claims ≡ length claims₀) × ClaimsStored title locks claims₀ place claims
@@ -17,35 +14,27 @@ Inv-loop title locks claims₀ count place₀ claims place = (place ≤ count) �
 abbrev μ-loop : tie.MeasureT-loop
 μ-loop title locks claims₀ count place₀ claims place = count - place
 
--- src/lib.rt:200:5
 loop-holds : tie.Need-loop-holds Inv-loop μ-loop
 loop-holds c = (omega arith, refl, refl, search no-claim-yet)
 
--- src/lib.rt:201:13
 claim-at-requires : tie.Need-claim-at-requires Inv-loop μ-loop
 claim-at-requires c κs = (omega arith, search lock-passed-at)
 
--- src/lib.rt:202:9
 put-claim-requires : tie.Need-put-claim-requires Inv-loop μ-loop
 put-claim-requires c κs = omega arith
 
--- src/lib.rt:203:9
 add-place : tie.Need-add-place Inv-loop μ-loop
 add-place c = omega arith
 
--- src/lib.rt:200:5
 loop-less : tie.Need-loop-less Inv-loop μ-loop
 loop-less c = omega arith
 
--- src/lib.rt:200:5
 loop-again : tie.Need-loop-again Inv-loop μ-loop
 loop-again c = (omega arith, refl, search needs, search claim-stored)
 
--- src/lib.rt:193:1
 same-length : tie.Need-same-length Inv-loop μ-loop
 same-length c = search needs
 
--- src/lib.rt:193:1
 returns : tie.Need-returns Inv-loop μ-loop
 returns c = search claims-stored
 

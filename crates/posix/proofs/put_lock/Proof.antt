@@ -1,61 +1,47 @@
+-- `posix::put_lock` meets its promise.
 use Rattle.posix.proofs.One.{lock-stored}
 use native.Mathlib.Omega.{arith}
 use lib.ListN.{length-set}
 use borrow.Author.Needs.{needs}
 use Rattle.posix.proofs.put_lock.Statement.{statement}
 use Rattle.posix.proofs.put_lock.Tie as tie
-use Rattle.posix.proofs.put_lock.Reads as reads
-use Rattle.posix.proofs.put_lock.Lts as lts
 
--- src/lib.rt:263:14
 mul-at : tie.Need-mul-at
 mul-at c = search needs
 
--- src/lib.rt:264:21
 cast-lock-type : tie.Need-cast-lock-type
 cast-lock-type c = search needs
 
--- src/lib.rt:265:17
 cast-first : tie.Need-cast-first
 cast-first c = search needs
 
--- src/lib.rt:266:5
 mul-lock-type : tie.Need-mul-lock-type
 mul-lock-type c = search needs
 
--- src/lib.rt:266:5
 slice-set-from-lock-type : tie.Need-slice-set-from-lock-type
 slice-set-from-lock-type c = search needs
 
--- src/lib.rt:267:11
 add-first : tie.Need-add-first
 add-first c = search needs
 
--- src/lib.rt:267:5
 mul-first : tie.Need-mul-first
 mul-first c = search needs
 
--- src/lib.rt:267:5
 slice-set-from-first : tie.Need-slice-set-from-first
 slice-set-from-first c = simp length-set (omega arith)
 
--- src/lib.rt:268:11
 add-span : tie.Need-add-span
 add-span c = search needs
 
--- src/lib.rt:268:5
 mul-span : tie.Need-mul-span
 mul-span c = search needs
 
--- src/lib.rt:268:5
 slice-set-from-span : tie.Need-slice-set-from-span
 slice-set-from-span c = search needs
 
--- src/lib.rt:259:1
 same-length : tie.Need-same-length
 same-length c = search needs
 
--- src/lib.rt:259:1
 returns : tie.Need-returns
 returns c = search lock-stored
 

@@ -1,26 +1,20 @@
+-- `posix::run_refusal` meets its promise.
 use Rattle.posix.proofs.One.{run-empty, run-past, run-beyond, run-taken, run-unknown}
 use Rattle.posix.proofs.run_refusal.Statement.{statement}
 use Rattle.posix.proofs.run_refusal.Tie as tie
-use Rattle.posix.proofs.run_refusal.Reads as reads
-use Rattle.posix.proofs.run_refusal.Lts as lts
 
--- src/lib.rt:70:9
 returns : tie.Need-returns
 returns c = search run-empty
 
--- src/lib.rt:73:9
 returns-2 : tie.Need-returns-2
 returns-2 c = search run-past
 
--- src/lib.rt:77:13
 returns-3 : tie.Need-returns-3
 returns-3 c = search run-beyond
 
--- src/lib.rt:79:9
 returns-4 : tie.Need-returns-4
 returns-4 c = search run-taken
 
--- src/lib.rt:66:1
 returns-5 : tie.Need-returns-5
 returns-5 c = search run-unknown
 
