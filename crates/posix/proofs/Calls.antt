@@ -34,87 +34,37 @@ is-lock title c = exporting title (λ x. refusalOf x ≡ 0 → x ≡ taken (lock
     not-0 : {A : Type 0} (n : ℕ) → suc n ≡ 0 → A
     not-0 n q = absurd (omega arith)
 
--- ---- import
+-- ---- the locks of a list, and the claims: none is looked at yet, each passed if all did
 module _ (title : ℕ) (l : List ℤ) where
-  abbrev pub LocksLookedAt : ℕ → Type 0
-  LocksLookedAt place = LookedAt (importLock title) (lockAt l) (verdict (each (importLock title) (locksIn l))) (length l / recordWidth) place
-
-  pub no-lock-yet : LocksLookedAt 0
+  pub no-lock-yet : LookedAt (importLock title) (lockAt l) (verdict (each (importLock title) (locksIn l))) (length l / recordWidth) 0
   no-lock-yet = lists.looked-at-none lock (pos 0) (importLock title) (import-never-0 title) l _ refl
 
-  pub lock-passed : (place refusal : ℕ) → LocksLookedAt place → place < length l / 3 → refusal ≡ refusalOf (importLock title (lockAt l place)) → refusal ≡ 0 → LocksLookedAt (place + 1)
-  lock-passed place refusal inv h q e = lists.looked-on (importLock title) (lockAt l) _ (length l / recordWidth) place inv h (import-never-0 title (lockAt l place)) (sym q ∙ e)
+  pub lock-passed : (place : ℕ) → moved 0 0 ≡ verdict (each (importLock title) (locksIn l)) → place < length l / 3 → refusalOf (importLock title (lockAt l place)) ≡ 0
+  lock-passed place q h = lists.each-passed lock (pos 0) (importLock title) (import-never-0 title) l (moved 0 0) q refl place h
 
-  pub lock-bad : (place refusal : ℕ) → LocksLookedAt place → place < length l / 3 → refusal ≡ refusalOf (importLock title (lockAt l place)) → (refusal ≡ 0 → ⊥)
-      → moved refusal place ≡ verdict (each (importLock title) (locksIn l))
-  lock-bad place refusal inv h q d = rw q (lists.looked-bad (importLock title) (lockAt l) _ (length l / recordWidth) place inv h (λ e. d (q ∙ e)))
-
-  pub no-lock-left : (place : ℕ) → LocksLookedAt place → length l / 3 ≤ place → moved 0 0 ≡ verdict (each (importLock title) (locksIn l))
-  no-lock-left place inv h = lists.looked-at-all (importLock title) (lockAt l) _ (length l / recordWidth) place inv h
-
-  abbrev pub ClaimsStored : List ℕ → ℕ → List ℕ → Type 0
-  ClaimsStored lent place after = StoredUpTo putClaim (claimFor title l) (putFrom putClaim 0 (recordsFrom (claimFor title l) 0 (length l / recordWidth)) lent) (length l / recordWidth) place after
-
-  pub no-claim-yet : (lent : List ℕ) → ClaimsStored lent 0 lent
-  no-claim-yet lent = lists.stored-none putClaim (claimFor title l) _ (length l / recordWidth) lent refl
-
-  pub claim-stored : (lent sofar after : List ℕ) (place : ℕ) (one : Claimed) → ClaimsStored lent place sofar → place < length l / 3
-      → taken (claim (one .start) (one .end) (one .kind)) ≡ importLock title (lockAt l place)
-      → after ≡ putClaim sofar place (claim (one .start) (one .end) (one .kind)) → ClaimsStored lent (place + 1) after
-  claim-stored lent sofar after place one inv h q e =
-      lists.stored-on putClaim (claimFor title l) _ (length l / recordWidth) place sofar after inv h (e ∙ ap (λ x. putClaim sofar place (claimOr0 x)) q)
-
-  pub claims-stored : (lent after : List ℕ) (place : ℕ) → ClaimsStored lent place after → length l / 3 ≤ place
-      → after ≡ putFrom putClaim 0 (recordsFrom (claimFor title l) 0 (length l / recordWidth)) lent
-  claims-stored lent after place inv h = lists.stored-all putClaim (claimFor title l) _ (length l / recordWidth) place after inv h
-
-  -- each lock passed, if all of them did
-  pub lock-passed-at : (place : ℕ) → moved 0 0 ≡ verdict (each (importLock title) (locksIn l)) → place < length l / 3 → refusalOf (importLock title (lockAt l place)) ≡ 0
-  lock-passed-at place q h = lists.each-passed lock (pos 0) (importLock title) (import-never-0 title) l (moved 0 0) q refl place h
-
-  pub all-locks-passed : (found : Moved) → found ≡ verdict (each (importLock title) (locksIn l)) → found .refusal ≡ 0 → moved 0 0 ≡ verdict (each (importLock title) (locksIn l))
-  all-locks-passed found q e =
+  pub locks-passed : (found : Moved) → found ≡ verdict (each (importLock title) (locksIn l)) → found .refusal ≡ 0 → moved 0 0 ≡ verdict (each (importLock title) (locksIn l))
+  locks-passed found q e =
       sym
       (ap verdict
       (lists.each-taken lock (pos 0) (importLock title) (import-never-0 title) l found q (claimFor title l)
       (λ j. is-claim (importLock title (lockAt l j)) (import-never-0 title (lockAt l j))) e))
 
--- ---- export
 module _ (title : ℕ) (l : List ℕ) where
-  abbrev pub ClaimsLookedAt : ℕ → Type 0
-  ClaimsLookedAt place = LookedAt (exportClaim title) (claimAt l) (verdict (each (exportClaim title) (claimsIn l))) (length l / recordWidth) place
+  pub no-claim-yet : LookedAt (exportClaim title) (claimAt l) (verdict (each (exportClaim title) (claimsIn l))) (length l / recordWidth) 0
+  no-claim-yet = lists.looked-at-none claim 0 (exportClaim title) (export-never-0 title) l _ refl
 
-  pub no-claim-seen : ClaimsLookedAt 0
-  no-claim-seen = lists.looked-at-none claim 0 (exportClaim title) (export-never-0 title) l _ refl
+  pub claim-passed : (place : ℕ) → moved 0 0 ≡ verdict (each (exportClaim title) (claimsIn l)) → place < length l / 3 → refusalOf (exportClaim title (claimAt l place)) ≡ 0
+  claim-passed place q h = lists.each-passed claim 0 (exportClaim title) (export-never-0 title) l (moved 0 0) q refl place h
 
-  pub claim-passed : (place refusal : ℕ) → ClaimsLookedAt place → place < length l / 3 → refusal ≡ refusalOf (exportClaim title (claimAt l place)) → refusal ≡ 0 → ClaimsLookedAt (place + 1)
-  claim-passed place refusal inv h q e = lists.looked-on (exportClaim title) (claimAt l) _ (length l / recordWidth) place inv h (export-never-0 title (claimAt l place)) (sym q ∙ e)
+  pub claims-passed : (found : Moved) → found ≡ verdict (each (exportClaim title) (claimsIn l)) → found .refusal ≡ 0 → moved 0 0 ≡ verdict (each (exportClaim title) (claimsIn l))
+  claims-passed found q e = sym (ap verdict (lists.each-taken claim 0 (exportClaim title) (export-never-0 title) l found q (lockFor title l) (λ j. is-lock title (claimAt l j)) e))
 
-  pub claim-bad : (place refusal : ℕ) → ClaimsLookedAt place → place < length l / 3 → refusal ≡ refusalOf (exportClaim title (claimAt l place)) → (refusal ≡ 0 → ⊥)
-      → moved refusal place ≡ verdict (each (exportClaim title) (claimsIn l))
-  claim-bad place refusal inv h q d = rw q (lists.looked-bad (exportClaim title) (claimAt l) _ (length l / recordWidth) place inv h (λ e. d (q ∙ e)))
-
-  pub no-claim-left : (place : ℕ) → ClaimsLookedAt place → length l / 3 ≤ place → moved 0 0 ≡ verdict (each (exportClaim title) (claimsIn l))
-  no-claim-left place inv h = lists.looked-at-all (exportClaim title) (claimAt l) _ (length l / recordWidth) place inv h
-
-  abbrev pub LocksStored : List ℤ → ℕ → List ℤ → Type 0
-  LocksStored lent place after = StoredUpTo putLock (lockFor title l) (putFrom putLock 0 (recordsFrom (lockFor title l) 0 (length l / recordWidth)) lent) (length l / recordWidth) place after
-
-  pub no-lock-stored : (lent : List ℤ) → LocksStored lent 0 lent
-  no-lock-stored lent = lists.stored-none putLock (lockFor title l) _ (length l / recordWidth) lent refl
-
-  pub lock-stored-on : (lent sofar after : List ℤ) (place : ℕ) → LocksStored lent place sofar → place < length l / 3 → after ≡ putLock sofar place (lockFor title l place) → LocksStored lent (place + 1) after
-  lock-stored-on lent sofar after place inv h e = lists.stored-on putLock (lockFor title l) _ (length l / recordWidth) place sofar after inv h e
-
-  pub locks-stored : (lent after : List ℤ) (place : ℕ) → LocksStored lent place after → length l / 3 ≤ place
-      → after ≡ putFrom putLock 0 (recordsFrom (lockFor title l) 0 (length l / recordWidth)) lent
-  locks-stored lent after place inv h = lists.stored-all putLock (lockFor title l) _ (length l / recordWidth) place after inv h
-
-  pub claim-passed-at : (place : ℕ) → moved 0 0 ≡ verdict (each (exportClaim title) (claimsIn l)) → place < length l / 3 → refusalOf (exportClaim title (claimAt l place)) ≡ 0
-  claim-passed-at place q h = lists.each-passed claim 0 (exportClaim title) (export-never-0 title) l (moved 0 0) q refl place h
-
-  pub all-claims-passed : (found : Moved) → found ≡ verdict (each (exportClaim title) (claimsIn l)) → found .refusal ≡ 0 → moved 0 0 ≡ verdict (each (exportClaim title) (claimsIn l))
-  all-claims-passed found q e = sym (ap verdict (lists.each-taken claim 0 (exportClaim title) (export-never-0 title) l found q (lockFor title l) (λ j. is-lock title (claimAt l j)) e))
+-- ---- what is stored for one
+pub claim-stored : (title n place : ℕ) (l : List ℤ) (given sofar after : List ℕ) (one : Claimed) → StoredUpTo putClaim (claimFor title l) given n place sofar → place < n
+    → taken (claim (one .start) (one .end) (one .kind)) ≡ importLock title (lockAt l place)
+    → after ≡ putClaim sofar place (claim (one .start) (one .end) (one .kind)) → StoredUpTo putClaim (claimFor title l) given n (place + 1) after
+claim-stored title n place l given sofar after one inv h q e =
+    lists.stored-on putClaim (claimFor title l) given n place sofar after inv h (e ∙ ap (λ x. putClaim sofar place (claimOr0 x)) q)
 
 -- a claim that is not refused has a frame
 pub in-order : (title start end kind : ℕ) → refusalOf (exportClaim title (claim start end kind)) ≡ 0 → start ≤ end

@@ -85,11 +85,11 @@ module _ {A B : Type 0} (move : A → Taken B) (at : ℕ → A) (given : Moved) 
   unfolding judge recordsFrom
   next n i h = let e : n - i ≡ suc (n - (i + 1)) = omega arith in rw e
 
-  pub looked-on : (n i : ℕ) → LookedAt n i → i < n → move (at i) ≢ bad 0 → refusalOf (move (at i)) ≡ 0 → LookedAt n (i + 1)
-  looked-on n i inv h d e = sym (next n i h ∙ passed (move (at i)) i _ d e) ∙ inv
+  pub looked-on : (n i r : ℕ) → LookedAt n i → i < n → r ≡ refusalOf (move (at i)) → r ≡ 0 → move (at i) ≢ bad 0 → LookedAt n (i + 1)
+  looked-on n i r inv h q e d = sym (next n i h ∙ passed (move (at i)) i _ d (sym q ∙ e)) ∙ inv
 
-  pub looked-bad : (n i : ℕ) → LookedAt n i → i < n → (refusalOf (move (at i)) ≡ 0 → ⊥) → moved (refusalOf (move (at i))) i ≡ given
-  looked-bad n i inv h d = sym (next n i h ∙ stopped (move (at i)) i _ d) ∙ inv
+  pub looked-bad : (n i r : ℕ) → LookedAt n i → i < n → r ≡ refusalOf (move (at i)) → (r ≡ 0 → ⊥) → moved r i ≡ given
+  looked-bad n i r inv h q d = rw q (sym (next n i h ∙ stopped (move (at i)) i _ (λ e. d (q ∙ e))) ∙ inv)
 
   pub looked-at-all : (n i : ℕ) → LookedAt n i → n ≤ i → moved 0 0 ≡ given
   unfolding judge recordsFrom

@@ -1,5 +1,5 @@
 -- `posix::export` meets its promise.
-use Rattle.posix.proofs.Calls.{export-no-title, export-refused, export-short, export-accepted, all-claims-passed}
+use Rattle.posix.proofs.Calls.{export-no-title, export-refused, export-short, export-accepted, claims-passed}
 use borrow.Author.Needs.{needs}
 use Rattle.posix.proofs.export.Statement.{statement}
 use Rattle.posix.proofs.export.Tie as tie
@@ -17,7 +17,7 @@ returns-3 : tie.Need-returns-3
 returns-3 c = search export-short
 
 put-locks-requires : tie.Need-put-locks-requires
-put-locks-requires c κs = (search needs, search all-claims-passed)
+put-locks-requires c κs = (search needs, search claims-passed)
 
 same-length : tie.Need-same-length
 same-length c = search needs

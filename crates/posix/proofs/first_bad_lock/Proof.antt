@@ -1,5 +1,9 @@
 -- `posix::first_bad_lock` meets its promise.
-use Rattle.posix.proofs.Calls.{LocksLookedAt, no-lock-yet, lock-passed, lock-bad, no-lock-left}
+use Rattle.posix.proofs.Calls.{no-lock-yet}
+use Rattle.rules.specs.Locks.{importLock, each, locksIn}
+use Rattle.rules.proofs.Laws.Locks.{import-never-0}
+use Rattle.posix.specs.Records.{lockAt, verdict}
+use Rattle.posix.proofs.Lists.{LookedAt, looked-on, looked-bad, looked-at-all}
 use lib.ListN.{length}
 use Prim.Native.Nat.{_-_, _≤_, _/_}
 use mathlib.Core.Path.{_≡_, refl}
@@ -8,7 +12,7 @@ use Rattle.posix.proofs.first_bad_lock.Statement.{statement}
 use Rattle.posix.proofs.first_bad_lock.Tie as tie
 
 abbrev Inv-loop : tie.InvT-loop
-Inv-loop title locks count place₀ place = (place ≤ count) × (count ≡ length locks / 3) × LocksLookedAt title locks place
+Inv-loop title locks count place₀ place = (place ≤ count) × (count ≡ length locks / 3) × LookedAt (importLock title) (lockAt locks) (verdict (each (importLock title) (locksIn locks))) count place
 
 abbrev μ-loop : tie.MeasureT-loop
 μ-loop title locks count place₀ place = count - place
@@ -20,7 +24,7 @@ lock-refusal-at-requires : tie.Need-lock-refusal-at-requires Inv-loop μ-loop
 lock-refusal-at-requires c κs = omega arith
 
 returns : tie.Need-returns Inv-loop μ-loop
-returns c = search lock-bad
+returns c = search looked-bad
 
 add-place : tie.Need-add-place Inv-loop μ-loop
 add-place c = omega arith
@@ -29,10 +33,10 @@ loop-less : tie.Need-loop-less Inv-loop μ-loop
 loop-less c = omega arith
 
 loop-again : tie.Need-loop-again Inv-loop μ-loop
-loop-again c = (omega arith, refl, search lock-passed)
+loop-again c = (omega arith, refl, search (looked-on, import-never-0))
 
 returns-2 : tie.Need-returns-2 Inv-loop μ-loop
-returns-2 c = search no-lock-left
+returns-2 c = search looked-at-all
 
 pub first-bad-lock-spec : {M : Type 1} → statement M
 first-bad-lock-spec =

@@ -1,5 +1,5 @@
 -- `posix::import` meets its promise.
-use Rattle.posix.proofs.Calls.{import-no-title, import-refused, import-short, import-accepted, all-locks-passed}
+use Rattle.posix.proofs.Calls.{import-no-title, import-refused, import-short, import-accepted, locks-passed}
 use borrow.Author.Needs.{needs}
 use Rattle.posix.proofs.import.Statement.{statement}
 use Rattle.posix.proofs.import.Tie as tie
@@ -17,7 +17,7 @@ returns-3 : tie.Need-returns-3
 returns-3 c = search import-short
 
 put-claims-requires : tie.Need-put-claims-requires
-put-claims-requires c κs = (search needs, search all-locks-passed)
+put-claims-requires c κs = (search needs, search locks-passed)
 
 same-length : tie.Need-same-length
 same-length c = search needs
