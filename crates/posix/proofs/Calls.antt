@@ -82,21 +82,21 @@ lock-exported title place start end kind span claims locks after q e f a b c = q
 
 -- ---- the calls
 module _ (title : ℕ) (l : List ℤ) (lent : List ℕ) where
-  pub import-no-title : title ≡ 0 → listed (moved 3 0) lent ≡ importLocks title l lent
+  pub import-no-title : (x : Moved) → x ≡ moved 3 0 → title ≡ 0 → listed x lent ≡ importLocks title l lent
   unfolding importLocks
-  import-no-title e = rw (eq-eqb title 0 e)
+  import-no-title x p e = rw (p, eq-eqb title 0 e)
 
   module _ (found : Moved) (some : title ≡ 0 → ⊥) (q : found ≡ verdict (each (importLock title) (locksIn l))) where
     pub import-refused : (found .refusal ≡ 0 → ⊥) → listed found lent ≡ importLocks title l lent
     unfolding importLocks
     import-refused d = rw (ne-eqb title 0 some) (lists.call-refused claimNumbers (each (importLock title) (locksIn l)) found lent q d)
 
-    pub import-short : found .refusal ≡ 0 → length lent / 3 < length l / 3 → listed (moved 9 0) lent ≡ importLocks title l lent
+    pub import-short : (x : Moved) → x ≡ moved 9 0 → found .refusal ≡ 0 → length lent / 3 < length l / 3 → listed x lent ≡ importLocks title l lent
     unfolding importLocks
-    import-short e h =
+    import-short x p e h =
         rw (ne-eqb title 0 some)
         (lists.call-short lock (pos 0) (importLock title) (import-never-0 title) l found q (claimFor title l)
-        (λ j. is-claim (importLock title (lockAt l j)) (import-never-0 title (lockAt l j))) e (λ c. c .start) (λ c. c .end) (λ c. c .kind) lent h)
+        (λ j. is-claim (importLock title (lockAt l j)) (import-never-0 title (lockAt l j))) e (λ c. c .start) (λ c. c .end) (λ c. c .kind) lent x p h)
 
     pub import-accepted : (after : List ℕ) → found .refusal ≡ 0 → length l / 3 ≤ length lent / 3
         → after ≡ putFrom putClaim 0 (recordsFrom (claimFor title l) 0 (length l / recordWidth)) lent → listed found after ≡ importLocks title l lent
@@ -107,21 +107,21 @@ module _ (title : ℕ) (l : List ℤ) (lent : List ℕ) where
         (λ j. is-claim (importLock title (lockAt l j)) (import-never-0 title (lockAt l j))) e (λ c. c .start) (λ c. c .end) (λ c. c .kind) lent after h p)
 
 module _ (title : ℕ) (l : List ℕ) (lent : List ℤ) where
-  pub export-no-title : title ≡ 0 → listed (moved 3 0) lent ≡ exportClaims title l lent
+  pub export-no-title : (x : Moved) → x ≡ moved 3 0 → title ≡ 0 → listed x lent ≡ exportClaims title l lent
   unfolding exportClaims
-  export-no-title e = rw (eq-eqb title 0 e)
+  export-no-title x p e = rw (p, eq-eqb title 0 e)
 
   module _ (found : Moved) (some : title ≡ 0 → ⊥) (q : found ≡ verdict (each (exportClaim title) (claimsIn l))) where
     pub export-refused : (found .refusal ≡ 0 → ⊥) → listed found lent ≡ exportClaims title l lent
     unfolding exportClaims
     export-refused d = rw (ne-eqb title 0 some) (lists.call-refused lockNumbers (each (exportClaim title) (claimsIn l)) found lent q d)
 
-    pub export-short : found .refusal ≡ 0 → length lent / 3 < length l / 3 → listed (moved 9 0) lent ≡ exportClaims title l lent
+    pub export-short : (x : Moved) → x ≡ moved 9 0 → found .refusal ≡ 0 → length lent / 3 < length l / 3 → listed x lent ≡ exportClaims title l lent
     unfolding exportClaims
-    export-short e h =
+    export-short x p e h =
         rw (ne-eqb title 0 some)
         (lists.call-short claim 0 (exportClaim title) (export-never-0 title) l found q (lockFor title l)
-        (λ j. is-lock title (claimAt l j)) e (λ k. k .type) (λ k. k .start) (λ k. k .length) lent h)
+        (λ j. is-lock title (claimAt l j)) e (λ k. k .type) (λ k. k .start) (λ k. k .length) lent x p h)
 
     pub export-accepted : (after : List ℤ) → found .refusal ≡ 0 → length l / 3 ≤ length lent / 3
         → after ≡ putFrom putLock 0 (recordsFrom (lockFor title l) 0 (length l / recordWidth)) lent → listed found after ≡ exportClaims title l lent

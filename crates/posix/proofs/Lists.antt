@@ -88,12 +88,12 @@ module _ {A B : Type 0} (move : A → Taken B) (at : ℕ → A) (given : Moved) 
   pub looked-on : (n i r : ℕ) → LookedAt n i → i < n → r ≡ refusalOf (move (at i)) → r ≡ 0 → move (at i) ≢ bad 0 → LookedAt n (i + 1)
   looked-on n i r inv h q e d = sym (next n i h ∙ passed (move (at i)) i _ d (sym q ∙ e)) ∙ inv
 
-  pub looked-bad : (n i r : ℕ) → LookedAt n i → i < n → r ≡ refusalOf (move (at i)) → (r ≡ 0 → ⊥) → moved r i ≡ given
-  looked-bad n i r inv h q d = rw q (sym (next n i h ∙ stopped (move (at i)) i _ (λ e. d (q ∙ e))) ∙ inv)
+  pub looked-bad : (n i r : ℕ) (x : Moved) → x ≡ moved r i → LookedAt n i → i < n → r ≡ refusalOf (move (at i)) → (r ≡ 0 → ⊥) → x ≡ given
+  looked-bad n i r x p inv h q d = p ∙ rw q (sym (next n i h ∙ stopped (move (at i)) i _ (λ e. d (q ∙ e))) ∙ inv)
 
-  pub looked-at-all : (n i : ℕ) → LookedAt n i → n ≤ i → moved 0 0 ≡ given
+  pub looked-at-all : (n i : ℕ) (x : Moved) → x ≡ moved 0 0 → LookedAt n i → n ≤ i → x ≡ given
   unfolding judge recordsFrom
-  looked-at-all n i inv h = let e : n - i ≡ 0 = omega arith in rw e at inv
+  looked-at-all n i x p inv h = let e : n - i ≡ 0 = omega arith in p ∙ (rw e at inv)
 
 -- ---- if the verdict is no refusal, each record is taken
 module _ {A B : Type 0} (move : A → Taken B) (at : ℕ → A) (never-0 : (a : A) → move a ≢ bad 0) where
@@ -204,8 +204,8 @@ module _ {A B C : Type 0} (make : A → A → A → B) (none : A) (move : B → 
     each-taken = rw (records-at make none l) (taken-all move at f 0 count (λ j p h. is j (each-passed e j (omega arith))))
 
     module _ {D : Type 0} (first second third : C → D) (lent : List D) where
-      pub call-short : length lent / recordWidth < count → listed (moved 9 0) lent ≡ written (threes first second third) (each move (inThrees make l)) lent
-      call-short h = rw (each-taken, records-length f 0 count, lt-ltb (length lent / recordWidth) count h)
+      pub call-short : (x : Moved) → x ≡ moved 9 0 → length lent / recordWidth < count → listed x lent ≡ written (threes first second third) (each move (inThrees make l)) lent
+      call-short x p h = rw (p, each-taken, records-length f 0 count, lt-ltb (length lent / recordWidth) count h)
 
       pub call-accepted : (after : List D) → count ≤ length lent / recordWidth → after ≡ putFrom (put first second third) 0 (recordsFrom f 0 count) lent
           → listed found after ≡ written (threes first second third) (each move (inThrees make l)) lent

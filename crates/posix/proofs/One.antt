@@ -32,15 +32,15 @@ module _ (title first end : ℕ) (known : Bool) where
   unfolding runRefusal
   run-past h i = rw (lt-leb end first h, lt-ltb 4294967295 end i)
 
-  pub run-unknown : first < end → end ≤ 4294967295 → known ≡ false → 13 ≡ runRefusal title first end known
+  pub run-unknown : first < end → end ≤ 4294967295 → not known ≡ true → 13 ≡ runRefusal title first end known
   unfolding runRefusal
   run-unknown h i k = rw (lt-leb end first h, le-ltb 4294967295 end i, k)
 
-  pub run-beyond : first < end → end ≤ 4294967295 → known ≡ true → title < end → 11 ≡ runRefusal title first end known
+  pub run-beyond : first < end → end ≤ 4294967295 → not known ≡ false → title < end → 11 ≡ runRefusal title first end known
   unfolding runRefusal
   run-beyond h i k b = rw (lt-leb end first h, le-ltb 4294967295 end i, k, lt-ltb title end b)
 
-  pub run-taken : first < end → end ≤ 4294967295 → known ≡ true → end ≤ title → 0 ≡ runRefusal title first end known
+  pub run-taken : first < end → end ≤ 4294967295 → not known ≡ false → end ≤ title → 0 ≡ runRefusal title first end known
   unfolding runRefusal
   run-taken h i k b = rw (lt-leb end first h, le-ltb 4294967295 end i, k, le-ltb title end b)
 

@@ -17,6 +17,15 @@ pub struct Claimed {
     pub kind: u32,
 }
 
+fn answer(refusal: u32, place: usize) -> Moved
+    ensures { λ r. ⌜ r ≡ moved refusal place ⌝ }
+{
+    Moved {
+        refusal: refusal,
+        place: place,
+    }
+}
+
 // ---- the signed numbers of a lock
 
 // how far a number lies below 0, and 0 if it does not
@@ -72,13 +81,13 @@ fn run_refusal(title: u32, first: u64, end: u64, known: bool) -> u32
     if end > 4294967295 {
         return 12;
     }
-    if known {
-        if (title as u64) < end {
-            return 11;
-        }
-        return 0;
+    if !known {
+        return 13;
     }
-    13
+    if (title as u64) < end {
+        return 11;
+    }
+    0
 }
 
 fn lock_refusal(title: u32, lock_type: i64, start: i64, span: i64) -> u32
@@ -165,19 +174,13 @@ fn first_bad_lock(title: u32, locks: &[i64]) -> Moved
     let count = locks.len() / 3;
     let mut place: usize = 0;
     while place < count {
-        let refusal = lock_refusal_at(title, locks, place);
-        if refusal != 0 {
-            return Moved {
-                refusal: refusal,
-                place: place,
-            };
+        let of_lock = lock_refusal_at(title, locks, place);
+        if of_lock != 0 {
+            return answer(of_lock, place);
         }
         place += 1;
     }
-    Moved {
-        refusal: 0,
-        place: 0,
-    }
+    answer(0, 0)
 }
 
 fn put_claim(claims: &mut [u32], place: usize, one: Claimed)
@@ -208,23 +211,17 @@ pub fn import(title: u32, locks: &[i64], claims: &mut [u32]) -> Moved
     ensures { λ r. ⌜ listed r (now (claims .exit)) ≡ importLocks title (now (locks .entry)) (now (claims .entry)) ⌝ }
 {
     if title == 0 {
-        return Moved {
-            refusal: 3,
-            place: 0,
-        };
+        return answer(3, 0);
     }
-    let found = first_bad_lock(title, locks);
-    if found.refusal != 0 {
-        return found;
+    let bad_lock = first_bad_lock(title, locks);
+    if bad_lock.refusal != 0 {
+        return bad_lock;
     }
     if claims.len() / 3 < locks.len() / 3 {
-        return Moved {
-            refusal: 9,
-            place: 0,
-        };
+        return answer(9, 0);
     }
     put_claims(title, locks, claims);
-    found
+    bad_lock
 }
 
 // ---- one claim
@@ -274,19 +271,13 @@ fn first_bad_claim(title: u32, claims: &[u32]) -> Moved
     let count = claims.len() / 3;
     let mut place: usize = 0;
     while place < count {
-        let refusal = claim_refusal_at(title, claims, place);
-        if refusal != 0 {
-            return Moved {
-                refusal: refusal,
-                place: place,
-            };
+        let of_claim = claim_refusal_at(title, claims, place);
+        if of_claim != 0 {
+            return answer(of_claim, place);
         }
         place += 1;
     }
-    Moved {
-        refusal: 0,
-        place: 0,
-    }
+    answer(0, 0)
 }
 
 fn put_lock(locks: &mut [i64], place: usize, kind: u32, start: u32, span: i64)
@@ -333,21 +324,15 @@ pub fn export(title: u32, claims: &[u32], locks: &mut [i64]) -> Moved
     ensures { λ r. ⌜ listed r (now (locks .exit)) ≡ exportClaims title (now (claims .entry)) (now (locks .entry)) ⌝ }
 {
     if title == 0 {
-        return Moved {
-            refusal: 3,
-            place: 0,
-        };
+        return answer(3, 0);
     }
-    let found = first_bad_claim(title, claims);
-    if found.refusal != 0 {
-        return found;
+    let bad_claim = first_bad_claim(title, claims);
+    if bad_claim.refusal != 0 {
+        return bad_claim;
     }
     if locks.len() / 3 < claims.len() / 3 {
-        return Moved {
-            refusal: 9,
-            place: 0,
-        };
+        return answer(9, 0);
     }
     put_locks(title, claims, locks);
-    found
+    bad_claim
 }

@@ -10,16 +10,16 @@ add-first : tie.Need-add-first
 add-first c = search sum-fits-again
 
 word-requires-2 : tie.Need-word-requires-2
-word-requires-2 c κs = search sum-again-is-word
+word-requires-2 c κs = search (start-is-word, sum-again-is-word)
 
 word-requires-3 : tie.Need-word-requires-3
-word-requires-3 c κs = search start-is-word
+word-requires-3 c κs = search (start-is-word, sum-again-is-word)
 
 returns : tie.Need-returns
 returns c = search claimed-back
 
 word-requires-4 : tie.Need-word-requires-4
-word-requires-4 c κs = search start-is-word
+word-requires-4 c κs = search (start-is-word, sum-again-is-word)
 
 returns-2 : tie.Need-returns-2
 returns-2 c = search claimed-to-the-end
@@ -28,10 +28,10 @@ add-end : tie.Need-add-end
 add-end c = search sum-fits-again
 
 word-requires-5 : tie.Need-word-requires-5
-word-requires-5 c κs = search start-is-word
+word-requires-5 c κs = search (start-is-word, sum-again-is-word)
 
 word-requires-6 : tie.Need-word-requires-6
-word-requires-6 c κs = search sum-again-is-word
+word-requires-6 c κs = search (start-is-word, sum-again-is-word)
 
 returns-3 : tie.Need-returns-3
 returns-3 c = search claimed-on

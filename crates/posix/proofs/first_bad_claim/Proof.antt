@@ -1,12 +1,13 @@
 -- `posix::first_bad_claim` meets its promise.
-use Rattle.rules.specs.Locks.{exportClaim, each, claimsIn}
-use Rattle.rules.proofs.Laws.Locks.{export-never-0}
-use Rattle.posix.specs.Records.{claimAt, verdict}
-use Rattle.posix.proofs.Lists.{LookedAt, looked-on, looked-bad, looked-at-all}
 use Rattle.posix.proofs.Calls.{no-claim-yet}
+use Rattle.posix.proofs.Lists.{LookedAt, looked-on, looked-bad, looked-at-all}
+use Rattle.posix.specs.Records.{claimAt, verdict}
+use Rattle.rules.proofs.Laws.Locks.{export-never-0}
+use Rattle.rules.specs.Locks.{exportClaim, each, claimsIn}
 use lib.ListN.{length}
 use Prim.Native.Nat.{_-_, _≤_, _/_}
 use mathlib.Core.Path.{_≡_, refl}
+use borrow.Author.Needs.{needs}
 use native.Mathlib.Omega.{arith}
 use Rattle.posix.proofs.first_bad_claim.Statement.{statement}
 use Rattle.posix.proofs.first_bad_claim.Tie as tie
@@ -23,6 +24,9 @@ loop-holds c = (omega arith, refl, no-claim-yet _ _)
 claim-refusal-at-requires : tie.Need-claim-refusal-at-requires Inv-loop μ-loop
 claim-refusal-at-requires c κs = omega arith
 
+answer-requires : tie.Need-answer-requires Inv-loop μ-loop
+answer-requires c κs = search needs
+
 returns : tie.Need-returns Inv-loop μ-loop
 returns c = search looked-bad
 
@@ -35,6 +39,9 @@ loop-less c = omega arith
 loop-again : tie.Need-loop-again Inv-loop μ-loop
 loop-again c = (omega arith, refl, search (looked-on, export-never-0))
 
+answer-requires-2 : tie.Need-answer-requires-2 Inv-loop μ-loop
+answer-requires-2 c κs = search needs
+
 returns-2 : tie.Need-returns-2 Inv-loop μ-loop
 returns-2 c = search looked-at-all
 
@@ -46,8 +53,10 @@ first-bad-claim-spec =
     μ-loop
     loop-holds
     claim-refusal-at-requires
+    answer-requires
     returns
     add-place
     loop-less
     loop-again
+    answer-requires-2
     returns-2)

@@ -1,12 +1,13 @@
 -- `posix::first_bad_lock` meets its promise.
 use Rattle.posix.proofs.Calls.{no-lock-yet}
-use Rattle.rules.specs.Locks.{importLock, each, locksIn}
-use Rattle.rules.proofs.Laws.Locks.{import-never-0}
-use Rattle.posix.specs.Records.{lockAt, verdict}
 use Rattle.posix.proofs.Lists.{LookedAt, looked-on, looked-bad, looked-at-all}
+use Rattle.posix.specs.Records.{lockAt, verdict}
+use Rattle.rules.proofs.Laws.Locks.{import-never-0}
+use Rattle.rules.specs.Locks.{importLock, each, locksIn}
 use lib.ListN.{length}
 use Prim.Native.Nat.{_-_, _≤_, _/_}
 use mathlib.Core.Path.{_≡_, refl}
+use borrow.Author.Needs.{needs}
 use native.Mathlib.Omega.{arith}
 use Rattle.posix.proofs.first_bad_lock.Statement.{statement}
 use Rattle.posix.proofs.first_bad_lock.Tie as tie
@@ -23,6 +24,9 @@ loop-holds c = (omega arith, refl, no-lock-yet _ _)
 lock-refusal-at-requires : tie.Need-lock-refusal-at-requires Inv-loop μ-loop
 lock-refusal-at-requires c κs = omega arith
 
+answer-requires : tie.Need-answer-requires Inv-loop μ-loop
+answer-requires c κs = search needs
+
 returns : tie.Need-returns Inv-loop μ-loop
 returns c = search looked-bad
 
@@ -35,6 +39,9 @@ loop-less c = omega arith
 loop-again : tie.Need-loop-again Inv-loop μ-loop
 loop-again c = (omega arith, refl, search (looked-on, import-never-0))
 
+answer-requires-2 : tie.Need-answer-requires-2 Inv-loop μ-loop
+answer-requires-2 c κs = search needs
+
 returns-2 : tie.Need-returns-2 Inv-loop μ-loop
 returns-2 c = search looked-at-all
 
@@ -46,8 +53,10 @@ first-bad-lock-spec =
     μ-loop
     loop-holds
     lock-refusal-at-requires
+    answer-requires
     returns
     add-place
     loop-less
     loop-again
+    answer-requires-2
     returns-2)

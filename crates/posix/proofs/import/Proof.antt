@@ -4,6 +4,9 @@ use borrow.Author.Needs.{needs}
 use Rattle.posix.proofs.import.Statement.{statement}
 use Rattle.posix.proofs.import.Tie as tie
 
+answer-requires : tie.Need-answer-requires
+answer-requires c κs = search needs
+
 returns : tie.Need-returns
 returns c = search import-no-title
 
@@ -12,6 +15,9 @@ first-bad-lock-requires c κs = search needs
 
 returns-2 : tie.Need-returns-2
 returns-2 c = search import-refused
+
+answer-requires-2 : tie.Need-answer-requires-2
+answer-requires-2 c κs = search needs
 
 returns-3 : tie.Need-returns-3
 returns-3 c = search import-short
@@ -29,9 +35,11 @@ pub import-spec : {M : Type 1} → statement M
 import-spec =
     tie.close
     (tie.spec
+    answer-requires
     returns
     first-bad-lock-requires
     returns-2
+    answer-requires-2
     returns-3
     put-claims-requires
     same-length

@@ -10,13 +10,13 @@ returns-2 : tie.Need-returns-2
 returns-2 c = search run-past
 
 returns-3 : tie.Need-returns-3
-returns-3 c = search run-beyond
+returns-3 c = search run-unknown
 
 returns-4 : tie.Need-returns-4
-returns-4 c = search run-taken
+returns-4 c = search run-beyond
 
 returns-5 : tie.Need-returns-5
-returns-5 c = search run-unknown
+returns-5 c = search run-taken
 
 pub run-refusal-spec : {M : Type 1} → statement M
 run-refusal-spec = tie.close (tie.spec returns returns-2 returns-3 returns-4 returns-5)
