@@ -1,6 +1,6 @@
-// Locks of the archive's file system as claims, and claims as such locks: lent lists of three numbers to a record. All records are looked at
-// before the first number is stored, so that a refusal stores nothing. No signed sum is made: how far a number lies below 0 and how far above
-// are two unsigned ones, and those never overflow, whatever the start and the length.
+// Locks of the archive's file system as claims, and claims as such locks, on lent lists of three numbers to a record. Every record is looked at before
+// the first number is stored, so that a refusal stores nothing. A lock is looked at without a signed sum: how far its numbers lie above 0 or below are
+// unsigned numbers of 64 bits, and so is every sum of two of them that is made. Of a lock that has passed, the sums are numbers of 32 bits.
 ghost use mathlib.Core.Path.{_≡_};
 ghost use Prim.Native.Nat.{_+_, _*_, _/_, _<_, _≤_};
 ghost use lib.ListN.{length};
@@ -28,7 +28,7 @@ fn answer(refusal: u32, place: usize) -> Moved
 
 // ---- the signed numbers of a lock
 
-// how far a number lies below 0, and 0 if it does not
+// how far a number lies below 0, and 0 if it does not; by way of -1 - number, for the lowest number has no opposite
 fn below_zero(number: i64) -> u64
     ensures { λ r. ⌜ r ≡ below number ⌝ }
 {

@@ -35,7 +35,7 @@ infix 2 _when_
 abbrev pub _when_ : ℕ → Bool → Refusal
 number when test = record { number = number; holds = test }
 
--- the first reason that holds makes what is given back of its number; what is given back if none does
+-- what is made of the number of the first reason that holds, or what there is if none does
 abbrev pub unless : {A : Type 0} → (ℕ → A) → List Refusal → A → A
 unless say [] accepted = accepted
 unless say (reason ∷ more) accepted =

@@ -1,5 +1,5 @@
--- Locks from the archive's file system, 02 (vi): advisory record locks of POSIX as claims, and claims as such locks. Numbers of locks are integers, so
--- that "sums are exact for every signed 64-bit start and length".
+-- Locks from the archive's file system, 02 (vi): advisory record locks of POSIX as claims, and claims as such locks. The numbers of a lock are integers,
+-- and so are their sums: "exact for every signed 64-bit start and length", and no case is made of one that 64 bits would not hold.
 use Prim.Native.Nat.{ℕ, zero, suc, _+_, _-_, _*_, _/_}
 use mathlib.Core.Bool.{Bool, false, not, _||_}
 use mathlib.Core.List.{List, [], _∷_, _++_}
@@ -9,7 +9,7 @@ use lib.Signed.{ltZ, leZ}
 use Rattle.rules.specs.Notation.{if_then_else_, _is_, _≤?_, _<?_}
 use Rattle.rules.specs.Comparison.{Claim, claim}
 use Rattle.rules.specs.Shape.{isKind}
-use Rattle.rules.specs.Answers.{Refusal, _when_, unless}
+use Rattle.rules.specs.Answers.{_when_, unless}
 use Rattle.rules.specs.declared.Moved.{Moved}
 
 -- ---- one lock
@@ -23,7 +23,7 @@ pub record Lock : Type 0 where
 abbrev pub lock : ℤ → ℤ → ℤ → Lock
 lock type start length = record { type = type; start = start; length = length }
 
--- what is chosen where a length is negative, 0 and positive
+-- one of three, by a length that is negative, 0 or positive
 abbrev pub bySign : {A : Type 0} → ℤ → A → A → A → A
 bySign (negsuc n) negative none positive = negative
 bySign (pos zero) negative none positive = none
@@ -52,7 +52,7 @@ isType (negsuc n) = false
 
 -- ---- one record
 
--- it is moved, or it is bad, with the number of its refusal
+-- it is taken for what it is moved to, or it is bad, by the number of its refusal
 pub data Taken (A : Type 0) : Type 0 where
   taken : A → Taken A
   bad : ℕ → Taken A
@@ -84,7 +84,7 @@ exportClaim title c =
     ∷ [])
     (taken (lockOf title c))
 
--- ---- several records: "refuses all of them for the first bad one and gives its place from 0"
+-- ---- several records: all of them are moved, or none, for the first bad one, whose place from 0 is told beside its number
 pub data All (A : Type 0) : Type 0 where
   all : List A → All A
   firstBad : ℕ → ℕ → All A
@@ -147,7 +147,7 @@ written numbers (all records) lent =
     if length lent / recordWidth <? length records then listed (moved 9 0) lent
     else listed (moved 0 0) (numbers records ++ drop (recordWidth * length records) lent)
 
--- "3 if the title's count is 0", whatever the records
+-- "3 if the title's count is 0", whatever the records. This refusal and 9 belong to no record, and come with the place 0
 abbrev pub moveAll : {A B C : Type 0} → ℕ → (A → Taken B) → (List B → List C) → List A → List C → Listed C
 moveAll title move numbers records lent =
     if title is 0 then listed (moved 3 0) lent
