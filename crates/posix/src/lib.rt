@@ -90,6 +90,7 @@ fn run_refusal(title: u32, first: u64, end: u64, known: bool) -> u32
     0
 }
 
+// span is the lock's length
 fn lock_refusal(title: u32, lock_type: i64, start: i64, span: i64) -> u32
     ensures { λ r. ⌜ r ≡ refusalOf (importLock title (lock «lock_type» start span)) ⌝ }
 {

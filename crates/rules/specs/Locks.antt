@@ -84,7 +84,7 @@ exportClaim title c =
     ∷ [])
     (taken (lockOf title c))
 
--- ---- several records: all of them are moved, or none, for the first bad one, whose place from 0 is told beside its number
+-- ---- several: "A call over several records .. refuses all of them for the first bad one and gives its place from 0."
 pub data All (A : Type 0) : Type 0 where
   all : List A → All A
   firstBad : ℕ → ℕ → All A

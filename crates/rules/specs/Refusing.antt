@@ -108,7 +108,7 @@ pub data ClaimRefuses (frames : ℕ) (c : Claim) : ℕ → Type 0 where
   claim-beyond : c .start < c .end → frames < c .end → ClaimRefuses frames c 11
   claim-of-no-kind : c .start < c .end → c .end ≤ frames → c .kind ≢ 1 → c .kind ≢ 2 → ClaimRefuses frames c 4
 
--- of several records, the first bad one with its place from 0, and 9 last, where there is room for fewer: 3 of the title and 9 belong to no record,
+-- of several records, "for the first bad one .. its place from 0", and 9 last, where there is room for fewer: 3 of the title and 9 belong to no record,
 -- and come with the place 0
 pub data NoneRefused {A : Type 0} (Refused : A → ℕ → Type 0) : List A → Type 0 where
   no-record : NoneRefused Refused []
