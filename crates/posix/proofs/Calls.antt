@@ -10,11 +10,9 @@ use lib.ListN.{length, getD}
 use mir.Syntax.{w64}
 use mir.Val.{SFits}
 use mir.Facts.{toZ-ofZ}
-use borrow.Author.Tests.{ne-eqb, leb-false, eq-eqb}
-use Rattle.rules.specs.Notation.{if_then_else_, _≤?_, _<?_}
+use borrow.Author.Tests.{ne-eqb, eq-eqb}
 use Rattle.rules.specs.Comparison.{Claim, claim}
-use Rattle.rules.specs.Shape.{isKind}
-use Rattle.rules.specs.Locks.{Lock, lock, Taken, taken, bad, importLock, lengthOf, lockOf, exportClaim, each, recordWidth, locksIn, lockNumbers, claimsIn, claimNumbers, listed, moved, importLocks, exportClaims}
+use Rattle.rules.specs.Locks.{lock, Taken, taken, bad, importLock, lengthOf, lockOf, exportClaim, each, recordWidth, locksIn, lockNumbers, claimsIn, claimNumbers, listed, moved, importLocks, exportClaims}
 use Rattle.rules.specs.declared.Moved.{Moved}
 use Rattle.rules.proofs.Laws.Locks.{exporting, import-never-0, export-never-0}
 use Rattle.posix.specs.Records.{lockAt, claimAt, putClaim, putLock, verdict, recordsFrom, putFrom, claimOr0, claimFor, lockFor, refusalOf}

@@ -4,7 +4,7 @@ use mathlib.Core.Path.{_≡_, refl, sym, ap, _∙_}
 use mathlib.Core.List.{List, [], _∷_, _++_, append-assoc}
 use mathlib.Core.Logic.{_≢_}
 use native.Mathlib.Omega.{arith}
-use lib.ListN.{length, drop, set, getD, length-append}
+use lib.ListN.{length, drop, set, length-append}
 use borrow.Author.Tests.{lt-ltb, le-ltb}
 use Rattle.rules.proofs.Ground.Deciding.{if-same}
 use Rattle.rules.specs.Locks.{Taken, taken, bad, All, all, firstBad, behind, andThen, each, recordWidth, inThrees, threes, listed, moved, written}

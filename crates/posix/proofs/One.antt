@@ -15,7 +15,7 @@ use borrow.Author.Tests.{lt-ltb, le-ltb, le-leb, lt-leb, eq-eqb, ne-eqb, ltb-tru
 use Rattle.rules.specs.Notation.{if_then_else_, _≤?_, _<?_}
 use Rattle.rules.specs.Comparison.{Claim, claim}
 use Rattle.rules.specs.Shape.{isKind}
-use Rattle.rules.specs.Locks.{Lock, lock, bySign, firstFrame, endFrame, lengthOf, isType, Taken, taken, bad, importLock, exportClaim, recordWidth}
+use Rattle.rules.specs.Locks.{Lock, lock, bySign, firstFrame, lengthOf, isType, Taken, taken, bad, importLock, exportClaim, recordWidth}
 use Rattle.rules.proofs.Laws.Shape.{is-kind}
 use Rattle.rules.proofs.Laws.Locks.{end-is, importRun, starts-below, reaches-below, run-back, run-to-the-end, run-on, Imports, imports, import-never-0}
 use Rattle.posix.specs.Records.{below, above, IsWord, runRefusal, refusalOf, lockAt, put3, putLock}

@@ -11,10 +11,10 @@ ghost use Rattle.posix.specs.Records.{below, above, IsWord, runRefusal, 
 use rules::Moved;
 
 // A lock that is not refused, as begin's numbers.
-pub struct Claimed {
-    pub start: u32,
-    pub end: u32,
-    pub kind: u32,
+struct Claimed {
+    start: u32,
+    end: u32,
+    kind: u32,
 }
 
 fn answer(refusal: u32, place: usize) -> Moved

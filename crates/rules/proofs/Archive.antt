@@ -14,8 +14,8 @@ use Rattle.rules.specs.Tables.{Tables, title, phase}
 use Rattle.rules.specs.Comparison.{Claim, claim}
 use Rattle.rules.specs.Shape.{sound}
 use Rattle.rules.specs.Play.{beginCall}
-use Rattle.rules.specs.Locks.{Lock, lock, lockOf, Taken, taken, bad, importLock, exportClaim, all, each, recordWidth, locksIn, listed, moved, importLocks, exportClaims}
-use Rattle.rules.specs.Refusing.{Proper, Refuses}
+use Rattle.rules.specs.Locks.{Lock, lock, lockOf, taken, bad, importLock, exportClaim, all, each, recordWidth, locksIn, listed, moved, importLocks, exportClaims}
+use Rattle.rules.specs.Refusing.{Refuses}
 use Rattle.rules.specs.Apart.{Covers, claimOfSeat}
 use Rattle.rules.specs.Archive.{LockCovers, SameFrames, Pairwise, OutAgain, recordNumbers}
 use Rattle.rules.proofs.Laws.Opened.{rules}

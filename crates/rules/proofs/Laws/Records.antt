@@ -1,5 +1,5 @@
 -- Lists of records: where the first bad one stands, and numbers read back as the records that they were written for. Of records of any kind.
-use Prim.Native.Nat.{ℕ, zero, suc, _+_, _*_, _/_, _≤_, _<_}
+use Prim.Native.Nat.{ℕ, suc, _+_, _*_, _/_, _≤_, _<_}
 use mathlib.Core.Path.{_≡_, refl, sym, ap, subst, _∙_}
 use mathlib.Core.List.{List, [], _∷_, _++_}
 use mathlib.Core.Logic.{_≢_}
@@ -7,7 +7,6 @@ use native.Mathlib.Omega.{arith}
 use native.Mathlib.Decide.{decLe}
 use lib.ListN.{length, take, drop}
 use borrow.Author.Tests.{lt-ltb, le-ltb, eq-eqb, ne-eqb}
-use Rattle.rules.specs.Notation.{if_then_else_}
 use Rattle.rules.specs.Locks.{Taken, taken, bad, All, all, firstBad, behind, andThen, each, recordWidth, inThrees, threes, Listed, listed, moved, written, moveAll}
 use Rattle.rules.specs.Refusing.{NoneRefused, no-record, not-this, RecordsRefuse, no-title, bad-record, no-room}
 use Rattle.rules.specs.Archive.{recordNumbers}

@@ -1,20 +1,20 @@
 -- A lock and its claim cover the same frames; what goes out comes in again as it was, and what comes in goes out with the same frames: one record,
 -- several, and whole lists as they are lent.
-use Prim.Native.Nat.{ℕ, zero, suc, _+_, _-_, _*_, _/_, _≤_, _<_}
+use Prim.Native.Nat.{ℕ, zero, _+_, _-_, _*_, _/_, _≤_, _<_}
 use mathlib.Core.Path.{_≡_, refl, sym, ap, subst, _∙_}
 use mathlib.Core.List.{List, [], _∷_, _++_}
 use mathlib.Core.Bool.{true}
 use mathlib.Core.Logic.{_≢_, _⊎_, inl, inr, ⊎-elim}
 use native.Mathlib.Omega.{arith}
 use lib.Dec.{leb→le, le→leb, lt→ltb}
-use lib.IntN.{ℤ, pos, negsuc, _-ℤ_, +ℤ-negℤ-cancel}
+use lib.IntN.{ℤ, pos, _-ℤ_}
 use lib.ListN.{length, take, drop}
 use lib.Signed.{_≤ℤ_, _<ℤ_, leZ-yes, ltZ-yes}
 use borrow.Author.Tests.{le-ltb, eq-eqb, ne-eqb}
 use Rattle.rules.specs.Tables.{Tables, title, phase, own, kind}
 use Rattle.rules.specs.Comparison.{Claim, claim}
 use Rattle.rules.specs.Shape.{sound}
-use Rattle.rules.specs.Locks.{Lock, lock, firstFrame, lastFrame, endFrame, lockOf, Taken, taken, importLock, exportClaim, All, all, each, recordWidth, locksIn, lockNumbers, claimsIn, claimNumbers, listed, moved, importLocks, exportClaims}
+use Rattle.rules.specs.Locks.{Lock, lock, lastFrame, lockOf, taken, importLock, exportClaim, all, each, recordWidth, locksIn, lockNumbers, claimsIn, claimNumbers, listed, moved, importLocks, exportClaims}
 use Rattle.rules.specs.Play.{beginCall}
 use Rattle.rules.specs.Refusing.{Refuses, damaged, no-seat, no-frames, beyond-title, no-kind, not-idle, none-to-begin}
 use Rattle.rules.specs.Apart.{Covers, claimOfSeat}
