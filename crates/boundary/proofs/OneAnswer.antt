@@ -12,8 +12,8 @@ use Rattle.playing.proofs.OneAnswer.{one-text}
 use Rattle.boundary.specs.Encoded.{Halves, halvesOf, StepTold, stepTold, Told, told, ReadAs, readAs}
 use Rattle.boundary.proofs.soodhiqune_clear.Reads as clear
 use Rattle.boundary.proofs.soodhiqune_clear.Kinds as clear-kinds
-use Rattle.boundary.proofs.soodhiqune_begin.Reads as begin
-use Rattle.boundary.proofs.soodhiqune_begin.Kinds as begin-kinds
+use Rattle.boundary.proofs.soodhiqune_reserve.Reads as reserve
+use Rattle.boundary.proofs.soodhiqune_reserve.Kinds as reserve-kinds
 use Rattle.boundary.proofs.soodhiqune_step.Reads as step
 use Rattle.boundary.proofs.soodhiqune_step.Kinds as step-kinds
 use Rattle.boundary.proofs.soodhiqune_release.Reads as release
@@ -66,8 +66,8 @@ one-read-number promised a b m n p q =
 pub one-clear : Settles clear-kinds.ps clear-kinds.r clear.Post (λ κs s. tables (now (s .0)) (now (s .1 .0)))
 one-clear κs args a b s t = one-result _ a b _ _
 
-pub one-begin : Settles begin-kinds.ps begin-kinds.r begin.Post (λ κs s. tables (now (s .0)) (now (s .1 .0)))
-one-begin κs args a b s t = one-number _ a b _ _
+pub one-reserve : Settles reserve-kinds.ps reserve-kinds.r reserve.Post (λ κs s. tables (now (s .0)) (now (s .1 .0)))
+one-reserve κs args a b s t = one-number _ a b _ _
 
 -- the tables, and the two words for the shared run
 pub one-step : Settles step-kinds.ps step-kinds.r {B = Tables × List ℕ} step.Post (λ κs s. (tables (now (s .0)) (now (s .1 .0)), now (s .1 .1 .1 .0)))

@@ -15,12 +15,12 @@ use Rattle.rules.specs.Board.{Boarded, Shown, shown, boardNumbers}
 use Rattle.rules.specs.Calls as call
 use Rattle.rules.specs.Run as running
 use Rattle.rules.specs.declared.Ran.{Ran}
-use Rattle.rules.proofs.Rules.Accepting.{begin-answers, release-answers}
+use Rattle.rules.proofs.Rules.Accepting.{reserve-answers, release-answers}
 use Rattle.replies.specs.Codes.{answerBy}
 use Rattle.boundary.specs.Encoded.{Halves, halvesOf, encode, encodeCount, encodeRan, encoded, encodedRun, StepTold, stepTold, sharedAfter, tellStep, Told, told, tellAnswer, tell}
 use Rattle.boundary.specs.Decoded.{decode, decodeStep, decodeCount, decodeRan, decodeBoard}
-use Rattle.boundary.proofs.soodhiqune_begin.Reads as begin
-use Rattle.boundary.proofs.soodhiqune_begin.Kinds as begin-kinds
+use Rattle.boundary.proofs.soodhiqune_reserve.Reads as reserve
+use Rattle.boundary.proofs.soodhiqune_reserve.Kinds as reserve-kinds
 use Rattle.boundary.proofs.soodhiqune_step.Reads as step
 use Rattle.boundary.proofs.soodhiqune_step.Kinds as step-kinds
 use Rattle.boundary.proofs.soodhiqune_release.Reads as release
@@ -54,13 +54,13 @@ answer-back lent (refused number) = refl
 pub answers-apart : (lent : List ℕ) (a b : Answer) → encode a ≡ encode b → sharedAfter lent a ≡ sharedAfter lent b → a ≡ b
 answers-apart lent a b e f = sym (answer-back lent a) ∙ rw (e, f) (answer-back lent b)
 
--- those of begin and release, which are no waits, from the halves alone
+-- those of reserve, enter and release, which are no waits, from the halves alone
 abbrev ReadBack : Answer → Type 0
 ReadBack a = decode (encode a) ≡ a
 
-begin-back : (t : Tables) (s : ℕ) (c : Claim) → ReadBack (call.begin t s c .answer)
+reserve-back : (t : Tables) (s : ℕ) (c : Claim) → ReadBack (call.reserve t s c .answer)
 unfolding answerBy
-begin-back t s c = begin-answers t s c ReadBack (λ n. refl) (λ number. refl)
+reserve-back t s c = reserve-answers t s c ReadBack (λ n. refl) (λ number. refl)
 
 release-back : (t : Tables) (s : ℕ) → ReadBack (call.release t s .answer)
 unfolding answerBy
@@ -101,10 +101,10 @@ told-back d lent r covered rows p =
     ∙ ap (shown (d .answer)) (rows-back lent (d .answer) (d .board))
 
 -- ---- the calls
-pub begin-told : Tells begin-kinds.ps begin-kinds.r begin.Post
-    (λ κs args. call.begin (tables (now (args .0)) (now (args .1 .0))) (args .1 .1 .0) (claim (args .1 .1 .1 .0) (args .1 .1 .1 .1 .0) (args .1 .1 .1 .1 .1 .0)))
+pub reserve-told : Tells reserve-kinds.ps reserve-kinds.r reserve.Post
+    (λ κs args. call.reserve (tables (now (args .0)) (now (args .1 .0))) (args .1 .1 .0) (claim (args .1 .1 .1 .0) (args .1 .1 .1 .1 .0) (args .1 .1 .1 .1 .1 .0)))
     (λ κs r s. done (decode (halvesOf r)) (tables (now (s .0)) (now (s .1 .0))))
-begin-told κs args r s = done-back _ (begin-back _ _ _) r _
+reserve-told κs args r s = done-back _ (reserve-back _ _ _) r _
 
 pub step-told : Tells step-kinds.ps step-kinds.r step.Post
     (λ κs args. call.step (tables (now (args .0)) (now (args .1 .0))) (args .1 .1 .0))

@@ -15,7 +15,7 @@ use Rattle.rules.specs.declared.Script.{Script}
 use Rattle.replies.specs.Codes.{said, saidPlainly, answerBy}
 use Rattle.boundary.specs.Encoded.{Halves, rowAt}
 
--- begin and release, which never answer `wait`
+-- reserve, enter and release, which never answer `wait`
 abbrev pub decode : Halves → Answer
 decode h = answerBy (saidPlainly (h .upper) (h .lower))
 

@@ -71,7 +71,7 @@ pub extern "C" fn soodhiqune_clear(nodes: &mut [u32], seats: &mut [u32], title: 
 }
 
 #[no_mangle]
-pub extern "C" fn soodhiqune_begin(
+pub extern "C" fn soodhiqune_reserve(
     nodes: &mut [u32],
     seats: &mut [u32],
     seat: u32,
@@ -79,9 +79,9 @@ pub extern "C" fn soodhiqune_begin(
     end: u32,
     kind: u32,
 ) -> u64
-    ensures { λ r. ⌜ done (halvesOf r) (tables (now (nodes .exit)) (now (seats .exit))) ≡ encoded (call.begin (tables (now (nodes .entry)) (now (seats .entry))) seat (claim start end kind)) ⌝ }
+    ensures { λ r. ⌜ done (halvesOf r) (tables (now (nodes .exit)) (now (seats .exit))) ≡ encoded (call.reserve (tables (now (nodes .entry)) (now (seats .entry))) seat (claim start end kind)) ⌝ }
 {
-    let reply = claims::begin(nodes, seats, seat, start, end, kind);
+    let reply = claims::reserve(nodes, seats, seat, start, end, kind);
     number_of(reply)
 }
 

@@ -5,8 +5,8 @@ use Rattle.rules.specs.Tables.{tables}
 use Rattle.rules.proofs.Laws.OneAnswer.{Settles, SettlesAnswer, one-result, one-reply, one-count}
 use Rattle.claims.proofs.clear.Reads as clear
 use Rattle.claims.proofs.clear.Kinds as clear-kinds
-use Rattle.claims.proofs.begin.Reads as begin
-use Rattle.claims.proofs.begin.Kinds as begin-kinds
+use Rattle.claims.proofs.reserve.Reads as reserve
+use Rattle.claims.proofs.reserve.Kinds as reserve-kinds
 use Rattle.claims.proofs.step.Reads as step
 use Rattle.claims.proofs.step.Kinds as step-kinds
 use Rattle.claims.proofs.release.Reads as release
@@ -17,8 +17,8 @@ use Rattle.claims.proofs.free_count.Kinds as free-count-kinds
 pub one-clear : Settles clear-kinds.ps clear-kinds.r clear.Post (λ κs s. tables (now (s .0)) (now (s .1 .0)))
 one-clear κs args a b s t = one-result _ a b _ _
 
-pub one-begin : Settles begin-kinds.ps begin-kinds.r begin.Post (λ κs s. tables (now (s .0)) (now (s .1 .0)))
-one-begin κs args a b s t = one-reply _ a b _ _
+pub one-reserve : Settles reserve-kinds.ps reserve-kinds.r reserve.Post (λ κs s. tables (now (s .0)) (now (s .1 .0)))
+one-reserve κs args a b s t = one-reply _ a b _ _
 
 pub one-step : Settles step-kinds.ps step-kinds.r step.Post (λ κs s. tables (now (s .0)) (now (s .1 .0)))
 one-step κs args a b s t = one-reply _ a b _ _

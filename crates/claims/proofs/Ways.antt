@@ -17,7 +17,7 @@ use Rattle.rules.specs.Reach.{countFree}
 use Rattle.rules.specs.Fetch.{fetched, fetch}
 use Rattle.rules.specs.Answers.{Answer, node, out, refused, done, answerOf}
 use Rattle.rules.specs.Steps.{leave}
-use Rattle.rules.specs.Calls.{clear, begun, begin, step, release}
+use Rattle.rules.specs.Calls.{clear, reserved, reserve, step, release}
 use Rattle.rules.specs.Run.{refusalOf}
 use Rattle.rules.specs.FreeCount.{Counted, freeCount}
 use Rattle.rules.proofs.Laws.Words.{same-seat-count}
@@ -27,7 +27,7 @@ use Rattle.rules.proofs.Rules.Accepting.{answers-from-phase, step-has-seat}
 use Rattle.phases.specs.Parts.{unanswered}
 use Rattle.phases.proofs.Ways.{its-refusal, its-tables}
 use Rattle.fetch.proofs.Ways.{none-kept}
-use Rattle.claims.specs.Parts.{beginFetching, beginClaim, releaseSeat}
+use Rattle.claims.specs.Parts.{reserveFetching, reserveClaim, releaseSeat}
 
 -- ---- zeros
 pub record ZeroBelow (l : List ℕ) (i : ℕ) : Type 0 where
@@ -72,33 +72,33 @@ module _ (n t : List ℕ) (z : ℕ) (b : Bool) (fits : b ≡ lengthsFit (tables 
 
 -- ---- fetch's answer
 module _ (n t n′ t′ : List ℕ) (s x y k a : ℕ) (isFetched : fetched a (tables n′ t′) ≡ fetch (tables n t) s (claim x y k)) where
-  pub begin-none : a ≡ 0 → done (refused 8) (tables n′ t′) ≡ beginFetching (tables n t) s (claim x y k)
-  unfolding begun
-  begin-none e = rw (none-kept n t n′ t′ s a (claim x y k) isFetched e, ← isFetched, e)
+  pub reserve-none : a ≡ 0 → done (refused 8) (tables n′ t′) ≡ reserveFetching (tables n t) s (claim x y k)
+  unfolding reserved
+  reserve-none e = rw (none-kept n t n′ t′ s a (claim x y k) isFetched e, ← isFetched, e)
 
-  pub begin-node : a ≢ 0 → done (node a) (tables n′ t′) ≡ beginFetching (tables n t) s (claim x y k)
-  unfolding begun
-  begin-node d = rw (← isFetched, ne-eqb a 0 d)
+  pub reserve-node : a ≢ 0 → done (node a) (tables n′ t′) ≡ reserveFetching (tables n t) s (claim x y k)
+  unfolding reserved
+  reserve-node d = rw (← isFetched, ne-eqb a 0 d)
 
--- ---- begin, past 2
+-- ---- reserve, past 2
 module _ (n t : List ℕ) (s x y k : ℕ) where
-  pub begin-empty : y ≤ x → done (refused 3) (tables n t) ≡ beginClaim (tables n t) s (claim x y k)
-  begin-empty h = rw (le-leb y x h)
+  pub reserve-empty : y ≤ x → done (refused 3) (tables n t) ≡ reserveClaim (tables n t) s (claim x y k)
+  reserve-empty h = rw (le-leb y x h)
 
   module _ (z : ℕ) (isTitle : z ≡ title (tables n [])) (some : x < y) where
-    pub begin-beyond : z < y → done (refused 11) (tables n t) ≡ beginClaim (tables n t) s (claim x y k)
-    begin-beyond h = rw (lt-leb y x some, ← isTitle, lt-ltb z y h)
+    pub reserve-beyond : z < y → done (refused 11) (tables n t) ≡ reserveClaim (tables n t) s (claim x y k)
+    reserve-beyond h = rw (lt-leb y x some, ← isTitle, lt-ltb z y h)
 
     module _ (b : Bool) (isKindOf : b ≡ isKind k) (within : y ≤ z) where
-      pub begin-kind : not b ≡ true → done (refused 4) (tables n t) ≡ beginClaim (tables n t) s (claim x y k)
-      begin-kind e = rw (lt-leb y x some, ← isTitle, le-ltb z y within, sym isKindOf ∙ not-true b e)
+      pub reserve-kind : not b ≡ true → done (refused 4) (tables n t) ≡ reserveClaim (tables n t) s (claim x y k)
+      reserve-kind e = rw (lt-leb y x some, ← isTitle, le-ltb z y within, sym isKindOf ∙ not-true b e)
 
       module _ (p : ℕ) (isPhase : p ≡ seatWord t s phaseAt) where
-        pub begin-busy : p ≢ 0 → not b ≡ false → done (refused 5) (tables n t) ≡ beginClaim (tables n t) s (claim x y k)
-        begin-busy d e = rw (lt-leb y x some, ← isTitle, le-ltb z y within, sym isKindOf ∙ not-false b e, ne-eqb (seatWord t s phaseAt) 0 (λ q. d (isPhase ∙ q)))
+        pub reserve-busy : p ≢ 0 → not b ≡ false → done (refused 5) (tables n t) ≡ reserveClaim (tables n t) s (claim x y k)
+        reserve-busy d e = rw (lt-leb y x some, ← isTitle, le-ltb z y within, sym isKindOf ∙ not-false b e, ne-eqb (seatWord t s phaseAt) 0 (λ q. d (isPhase ∙ q)))
 
-        pub begin-idle : (n′ t′ : List ℕ) (r : Answer) → done r (tables n′ t′) ≡ beginFetching (tables n t) s (claim x y k) → p ≡ 0 → not b ≡ false → done r (tables n′ t′) ≡ beginClaim (tables n t) s (claim x y k)
-        begin-idle n′ t′ r w q e = rw (lt-leb y x some, ← isTitle, le-ltb z y within, sym isKindOf ∙ not-false b e, eq-eqb (seatWord t s phaseAt) 0 (sym isPhase ∙ q)) w
+        pub reserve-idle : (n′ t′ : List ℕ) (r : Answer) → done r (tables n′ t′) ≡ reserveFetching (tables n t) s (claim x y k) → p ≡ 0 → not b ≡ false → done r (tables n′ t′) ≡ reserveClaim (tables n t) s (claim x y k)
+        reserve-idle n′ t′ r w q e = rw (lt-leb y x some, ← isTitle, le-ltb z y within, sym isKindOf ∙ not-false b e, eq-eqb (seatWord t s phaseAt) 0 (sym isPhase ∙ q)) w
 
 -- ---- release, past 2
 module _ (n t : List ℕ) (s p : ℕ) (isPhase : p ≡ seatWord t s phaseAt) where
@@ -111,9 +111,9 @@ module _ (n t : List ℕ) (s p : ℕ) (isPhase : p ≡ seatWord t s phaseAt) whe
 -- ---- refusals 1 and 2, the same in each call
 module _ (n t : List ℕ) (s : ℕ) where
   module _ (b : Bool) (isSound : b ≡ sound (tables n t)) where
-    pub begin-damaged : (x y k : ℕ) → b ≡ false → done (refused 1) (tables n t) ≡ begin (tables n t) s (claim x y k)
-    unfolding begin
-    begin-damaged x y k e = rw (sym isSound ∙ e)
+    pub reserve-damaged : (x y k : ℕ) → b ≡ false → done (refused 1) (tables n t) ≡ reserve (tables n t) s (claim x y k)
+    unfolding reserve
+    reserve-damaged x y k e = rw (sym isSound ∙ e)
 
     pub step-damaged : b ≡ false → done (refused 1) (tables n t) ≡ step (tables n t) s
     unfolding step
@@ -123,13 +123,13 @@ module _ (n t : List ℕ) (s : ℕ) where
     unfolding release
     release-damaged e = rw (sym isSound ∙ e)
 
-    pub begin-past : (x y k c : ℕ) → c ≡ seatCountOf t → c ≤ s → b ≡ true → done (refused 2) (tables n t) ≡ begin (tables n t) s (claim x y k)
-    unfolding begin
-    begin-past x y k c p h e = rw (sym isSound ∙ e, ← p, le-leb c s h)
+    pub reserve-past : (x y k c : ℕ) → c ≡ seatCountOf t → c ≤ s → b ≡ true → done (refused 2) (tables n t) ≡ reserve (tables n t) s (claim x y k)
+    unfolding reserve
+    reserve-past x y k c p h e = rw (sym isSound ∙ e, ← p, le-leb c s h)
 
-    pub begin-seat : (n′ t′ : List ℕ) (r : Answer) (x y k c : ℕ) → done r (tables n′ t′) ≡ beginClaim (tables n t) s (claim x y k) → c ≡ seatCountOf t → s < c → b ≡ true → done r (tables n′ t′) ≡ begin (tables n t) s (claim x y k)
-    unfolding begin
-    begin-seat n′ t′ r x y k c w p h e = rw (sym isSound ∙ e, ← p, lt-leb c s h) w
+    pub reserve-seat : (n′ t′ : List ℕ) (r : Answer) (x y k c : ℕ) → done r (tables n′ t′) ≡ reserveClaim (tables n t) s (claim x y k) → c ≡ seatCountOf t → s < c → b ≡ true → done r (tables n′ t′) ≡ reserve (tables n t) s (claim x y k)
+    unfolding reserve
+    reserve-seat n′ t′ r x y k c w p h e = rw (sym isSound ∙ e, ← p, lt-leb c s h) w
 
     pub release-past : (c : ℕ) → c ≡ seatCountOf t → c ≤ s → b ≡ true → done (refused 2) (tables n t) ≡ release (tables n t) s
     unfolding release

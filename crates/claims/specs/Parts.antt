@@ -9,18 +9,18 @@ use Rattle.rules.specs.Shape.{isKind}
 use Rattle.rules.specs.Fetch.{fetch}
 use Rattle.rules.specs.Answers.{Answer, out, refused, Done, done, _when_, refusing}
 use Rattle.rules.specs.Steps.{leave}
-use Rattle.rules.specs.Calls.{begun}
+use Rattle.rules.specs.Calls.{reserved}
 
--- of begin, past 5 and past 2
-abbrev pub beginFetching : Tables → ℕ → Claim → Done Answer
-beginFetching t s c = begun t (fetch t s c)
+-- of reserve, past 5 and past 2
+abbrev pub reserveFetching : Tables → ℕ → Claim → Done Answer
+reserveFetching t s c = reserved t (fetch t s c)
 
-abbrev pub beginClaim : Tables → ℕ → Claim → Done Answer
-beginClaim t s c =
+abbrev pub reserveClaim : Tables → ℕ → Claim → Done Answer
+reserveClaim t s c =
     refusing refused
     ((3 when c .end ≤? c .start) ∷ (11 when title t <? c .end) ∷ (4 when not (isKind (c .kind))) ∷ (5 when not (phase t s is 0)) ∷ [])
     t
-    (beginFetching t s c)
+    (reserveFetching t s c)
 
 -- of release, past 2
 abbrev pub releaseSeat : Tables → ℕ → Done Answer

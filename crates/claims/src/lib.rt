@@ -45,10 +45,10 @@ pub fn clear(nodes: &mut [u32], seats: &mut [u32], title: u32) -> u32
     0
 }
 
-// ---- begin
+// ---- reserve
 
 // of an idle seat
-fn begin_fetching(
+fn reserve_fetching(
     nodes: &mut [u32],
     seats: &mut [u32],
     s: u32,
@@ -58,7 +58,7 @@ fn begin_fetching(
 ) -> Reply
     requires { ⌜ sound (tables (now nodes) (now seats)) ≡ true ⌝ }
     requires { ⌜ phase (tables (now nodes) (now seats)) s ≡ 0 ⌝ }
-    ensures { λ r. ⌜ done (means r) (tables (now (nodes .exit)) (now (seats .exit))) ≡ part.beginFetching (tables (now (nodes .entry)) (now (seats .entry))) s (claim start end kind) ⌝ }
+    ensures { λ r. ⌜ done (means r) (tables (now (nodes .exit)) (now (seats .exit))) ≡ part.reserveFetching (tables (now (nodes .entry)) (now (seats .entry))) s (claim start end kind) ⌝ }
 {
     let a = fetch::fetch(nodes, seats, s, start, end, kind);
     if a == 0 {
@@ -67,7 +67,7 @@ fn begin_fetching(
     Reply::Node(a)
 }
 
-fn begin_claim(
+fn reserve_claim(
     nodes: &mut [u32],
     seats: &mut [u32],
     s: u32,
@@ -76,7 +76,7 @@ fn begin_claim(
     kind: u32,
 ) -> Reply
     requires { ⌜ sound (tables (now nodes) (now seats)) ≡ true ⌝ }
-    ensures { λ r. ⌜ done (means r) (tables (now (nodes .exit)) (now (seats .exit))) ≡ part.beginClaim (tables (now (nodes .entry)) (now (seats .entry))) s (claim start end kind) ⌝ }
+    ensures { λ r. ⌜ done (means r) (tables (now (nodes .exit)) (now (seats .exit))) ≡ part.reserveClaim (tables (now (nodes .entry)) (now (seats .entry))) s (claim start end kind) ⌝ }
 {
     // 3, then 11, then 4: what they look at is read first, so that each is one test, and their order is that of the lines
     let title = words::title(nodes);
@@ -92,17 +92,17 @@ fn begin_claim(
     }
     let phase = words::seat_word(seats, s, words::PHASE);
     match phase {
-        0 => begin_fetching(nodes, seats, s, start, end, kind),
+        0 => reserve_fetching(nodes, seats, s, start, end, kind),
         1..=4294967295 => Reply::Refused(5),
     }
 }
 
-pub fn begin(nodes: &mut [u32], seats: &mut [u32], s: u32, start: u32, end: u32, kind: u32) -> Reply
-    ensures { λ r. ⌜ done (means r) (tables (now (nodes .exit)) (now (seats .exit))) ≡ call.begin (tables (now (nodes .entry)) (now (seats .entry))) s (claim start end kind) ⌝ }
+pub fn reserve(nodes: &mut [u32], seats: &mut [u32], s: u32, start: u32, end: u32, kind: u32) -> Reply
+    ensures { λ r. ⌜ done (means r) (tables (now (nodes .exit)) (now (seats .exit))) ≡ call.reserve (tables (now (nodes .entry)) (now (seats .entry))) s (claim start end kind) ⌝ }
 {
     if shape::is_sound(nodes, seats) {
         if (s as usize) < words::seat_count(seats) {
-            return begin_claim(nodes, seats, s, start, end, kind);
+            return reserve_claim(nodes, seats, s, start, end, kind);
         }
         return Reply::Refused(2);
     }

@@ -15,7 +15,7 @@ use Rattle.rules.specs.Reach.{listOf}
 use Rattle.rules.specs.Answers.{Answer, node, wait, refused, Done, done}
 use Rattle.rules.specs.FreeCount.{Counted}
 use Rattle.rules.specs.Board.{Boarded, Shown, rowWidth, holders, coveredBy}
-use Rattle.rules.specs.Play.{Call, beginCall, stepCall, call, seatOf}
+use Rattle.rules.specs.Play.{Call, reserveCall, stepCall, call, seatOf}
 use Rattle.rules.specs.Reached.{Request}
 use Rattle.rules.specs.Run.{ran}
 use Rattle.rules.specs.Locks.{recordWidth, locksIn, claimsIn, Listed, listed, moved, importLocks, exportClaims}
@@ -137,9 +137,9 @@ pub as-cleared : {t u v : Tables} {frames : ℕ} {requests : List Request} → C
 as-cleared m more = title-stays more ∙ clear-remembers m .0
 
 -- whoever is told a node began a claim that ends within it
-pub begun-within : {t u : Tables} {s n : ℕ} {c : Claim} → CallMade t (beginCall s c) (node n) u → WithinTitle t c
+pub reserved-within : {t u : Tables} {s n : ℕ} {c : Claim} → CallMade t (reserveCall s c) (node n) u → WithinTitle t c
 unfolding call
-begun-within {t} {s = s} {n} {c} m = titled.begun-within t s n c (sym (ap (λ (x : Done Answer). x .answer) (made-call m)))
+reserved-within {t} {s = s} {n} {c} m = titled.reserved-within t s n c (sym (ap (λ (x : Done Answer). x .answer) (made-call m)))
 
 -- and a board that is accepted covers no more frames than the title has: at most 100 per cent
 pub board-within : {t : Tables} {rows after : List ℕ} {n covered : ℕ} → BoardMade t rows (Boarded.filled n covered) after → covered ≤ title t

@@ -14,14 +14,14 @@ use Rattle.rules.specs.Answers.{Answer}
 use Rattle.rules.specs.FreeCount.{Counted}
 use Rattle.rules.specs.Board.{Boarded}
 use Rattle.rules.specs.Means.{means, meansCount, meansBoard}
-use Rattle.rules.specs.Play.{Call, beginCall, stepCall, releaseCall}
+use Rattle.rules.specs.Play.{Call, reserveCall, stepCall, releaseCall}
 use Rattle.rules.specs.Reached.{Request, single, running}
 use Rattle.rules.specs.declared.Moved.{Moved}
 use Rattle.rules.specs.declared.Ran.{Ran}
 use Rattle.claims.proofs.clear.Reads as clearing
 use Rattle.claims.proofs.clear.Kinds as clear-kinds
-use Rattle.claims.proofs.begin.Reads as beginning
-use Rattle.claims.proofs.begin.Kinds as begin-kinds
+use Rattle.claims.proofs.reserve.Reads as reserving
+use Rattle.claims.proofs.reserve.Kinds as reserve-kinds
 use Rattle.claims.proofs.step.Reads as stepping
 use Rattle.claims.proofs.step.Kinds as step-kinds
 use Rattle.claims.proofs.release.Reads as releasing
@@ -43,12 +43,12 @@ pub data ClearMade : Tables → ℕ → ℕ → Tables → Type 0 where
       → clearing.Post κs args r end
       → ClearMade (tables (now (args .0)) (now (args .1 .0))) (args .1 .1 .0) r (tables (now (end .0)) (now (end .1 .0)))
 
--- begin, step or release: the tables before, the call with its numbers, the answer, the tables after
+-- reserve, enter, step or release: the tables before, the call with its numbers, the answer, the tables after
 pub data CallMade : Tables → Call → Answer → Tables → Type 0 where
-  begin-made : (κs : Lfts 2) (args : Dens κs begin-kinds.ps) (r : resT begin-kinds.r κs .Denot) (end : AtExit (endedOf 2 begin-kinds.ps begin-kinds.r) κs)
-      → beginning.Post κs args r end
+  reserve-made : (κs : Lfts 2) (args : Dens κs reserve-kinds.ps) (r : resT reserve-kinds.r κs .Denot) (end : AtExit (endedOf 2 reserve-kinds.ps reserve-kinds.r) κs)
+      → reserving.Post κs args r end
       → CallMade (tables (now (args .0)) (now (args .1 .0)))
-      (beginCall (args .1 .1 .0) (claim (args .1 .1 .1 .0) (args .1 .1 .1 .1 .0) (args .1 .1 .1 .1 .1 .0)))
+      (reserveCall (args .1 .1 .0) (claim (args .1 .1 .1 .0) (args .1 .1 .1 .1 .0) (args .1 .1 .1 .1 .1 .0)))
       (means r) (tables (now (end .0)) (now (end .1 .0)))
   step-made : (κs : Lfts 2) (args : Dens κs step-kinds.ps) (r : resT step-kinds.r κs .Denot) (end : AtExit (endedOf 2 step-kinds.ps step-kinds.r) κs)
       → stepping.Post κs args r end

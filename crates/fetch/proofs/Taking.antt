@@ -108,8 +108,8 @@ less zero P l f = absurd (omega arith)
 less (suc k) P l f = let y : suc k - 1 ≡ k = omega arith in rw y (f k refl)
 
 -- a list that begins with x is x and what is left without it
-begins : {x : Store} {xs ys : List Store} → xs ≡ x ∷ ys → xs ≡ x ∷ drop 1 xs
-begins e = rw e
+reserves : {x : Store} {xs ys : List Store} → xs ≡ x ∷ ys → xs ≡ x ∷ drop 1 xs
+reserves e = rw e
 
 module _ {whole : Tables} {nodes : List ℕ} {h prev at-prev cur : ℕ} (g : Taking whole (tables nodes []) h prev at-prev cur) where
   abbrev t : Tables
@@ -141,11 +141,11 @@ module _ {whole : Tables} {nodes : List ℕ} {h prev at-prev cur : ℕ} (g : Tak
       read-next d = (
         g .ends,
         less h (λ k. stores t ≡ store prev cur ∷ drop 1 (stores t)) (taking-left h g z)
-            (λ k y. begins (taking-next k (rw y at g) z unmarked d)),
+            (λ k y. reserves (taking-next k (rw y at g) z unmarked d)),
       )
 
   pub read-last : cur ≡ 0 → at-prev ≢ 0 → ListEnds t × (stores t ≡ store prev 0 ∷ drop 1 (stores t))
-  read-last z d = (g .ends, begins (taking-last h g z d))
+  read-last z d = (g .ends, reserves (taking-last h g z d))
 
   pub read-ended : cur ≡ 0 → at-prev ≡ 0 → (nodes ≡ whole .nodes) × (stores t ≡ [])
   read-ended z i = let w = taking-ended h g z i in (ap (λ (u : Tables). u .nodes) (w .0), w .1)

@@ -8,7 +8,7 @@ use lib.ListN.{length, getD, take, drop, length-map, drop-of-length-le}
 use lib.Seq.{drop-cons, getD-take, length-take-le}
 use borrow.Author.Tests.{eq-eqb, ne-eqb}
 use Rattle.rules.specs.Comparison.{claim}
-use Rattle.rules.specs.Calls.{begin, step, release}
+use Rattle.rules.specs.Calls.{reserve, step, release}
 use Rattle.rules.specs.Answers.{Answer, Done, done}
 use Rattle.rules.specs.Means.{means}
 use Rattle.rules.specs.Tables.{Tables, tables}
@@ -28,9 +28,9 @@ use Rattle.playing.specs.Played.{Played, played, playFrom}
 
 -- ---- the call of a line: one law for each way through make_call
 module _ (line : Line) (t : Tables) (d : Done Answer) where
-  pub call-begins : line .code ≡ 1 → d ≡ begin t (line .seat) (claim (line .start) (line .end) (line .kind)) → d ≡ call t (callOf line)
+  pub call-reserves : line .code ≡ 1 → d ≡ reserve t (line .seat) (claim (line .start) (line .end) (line .kind)) → d ≡ call t (callOf line)
   unfolding call callOf
-  call-begins h e = rw (eq-eqb (line .code) 1 h) e
+  call-reserves h e = rw (eq-eqb (line .code) 1 h) e
 
   pub call-steps : (line .code ≡ 1 → ⊥) → line .code ≡ 2 → d ≡ step t (line .seat) → d ≡ call t (callOf line)
   unfolding call callOf

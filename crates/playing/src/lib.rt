@@ -29,7 +29,7 @@ fn make_call(nodes: &mut [u32], seats: &mut [u32], line: Line) -> Reply
 {
     let code = line.code;
     if code == 1 {
-        return claims::begin(nodes, seats, line.seat, line.start, line.end, line.kind);
+        return claims::reserve(nodes, seats, line.seat, line.start, line.end, line.kind);
     }
     if code == 2 {
         return claims::step(nodes, seats, line.seat);

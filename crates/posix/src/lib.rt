@@ -10,7 +10,7 @@ ghost use Rattle.rules.specs.Locks.{lock, isType, taken, importLock, exportClai
 ghost use Rattle.posix.specs.Records.{below, above, IsWord, runRefusal, lockAt, claimAt, putClaim, putLock, verdict, recordsFrom, putFrom, claimFor, lockFor, refusalOf};
 use rules::Moved;
 
-// A lock that is not refused, as begin's numbers.
+// A lock that is not refused, as reserve's numbers.
 struct Claimed {
     start: u32,
     end: u32,

@@ -12,7 +12,7 @@ use Rattle.rules.specs.Shape.{sound}
 use Rattle.rules.specs.Reach.{listOf}
 use Rattle.rules.specs.Answers.{refused}
 use Rattle.rules.specs.Steps.{kindOf}
-use Rattle.rules.specs.Calls.{begin, step, release}
+use Rattle.rules.specs.Calls.{reserve, step, release}
 use Rattle.rules.specs.Run.{run}
 use Rattle.rules.specs.Play.{Call, call, afterAll, seatOf}
 use Rattle.rules.specs.Reached.{Request, afterRequest, afterRequests, Reached, asked}
@@ -26,7 +26,7 @@ use Rattle.rules.proofs.Laws.RunSteps.{run-is-its-steps, sound-run-stop
 use Rattle.rules.proofs.Soundness.SoundReached.{reached-sound}
 use Rattle.rules.proofs.Soundness.Refusals.{sound-never-damaged, run-not-1}
 use Rattle.rules.proofs.Frames.SeatFrames.{other-seats-kept}
-use Rattle.rules.proofs.Frames.NodeFrames.{step-1-kept, step-2-kept, step-3-kept, step-4-kept, step-5-kept, step-6-kept, begin-kept, release-kept}
+use Rattle.rules.proofs.Frames.NodeFrames.{step-1-kept, step-2-kept, step-3-kept, step-4-kept, step-5-kept, step-6-kept, reserve-kept, release-kept}
 use Rattle.rules.proofs.Frames.ClaimFrames as frames
 
 -- ---- two seats that hold share a frame only if both read
@@ -92,9 +92,9 @@ run-never-damaged = run-not-1
 pub touches-one-seat : (t : Tables) (c : Call) → OtherSeatsKept (seatOf c) t (call t c .after)
 touches-one-seat = other-seats-kept
 
--- of the nodes, by its rule: begin, the node that it takes
-pub begin-touches : (t : Tables) (s : ℕ) (c : Claim) → FetchKept s t (begin t s c .after)
-begin-touches = begin-kept
+-- of the nodes, by its rule: reserve, the node that it takes
+pub reserve-touches : (t : Tables) (s : ℕ) (c : Claim) → FetchKept s t (reserve t s c .after)
+reserve-touches = reserve-kept
 
 -- release, the mark of own and the count of its kind
 pub release-touches : (t : Tables) (s : ℕ) → NodesKept NoNode (λ a. a ≡ own t s) NoNode (λ i. i ≡ countAt (kindOf t s)) t (release t s .after)

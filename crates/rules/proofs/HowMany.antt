@@ -51,7 +51,7 @@ cleared = frames.clear-words
 pub cleared-right : (t : Tables) (count : ℕ) → clear t count .answer ≡ 0 → CountsRight (clear t count .after)
 cleared-right t count e = laws.as-right (frames.clear-counts t count e)
 
--- ".. step and release keep them", and begin: one that is accepted leaves them right, whatever sound tables it finds; one that is refused leaves
+-- ".. step and release keep them", and so do reserve and enter: one that is accepted leaves them right, whatever sound tables it finds; one that is refused leaves
 -- them as found
 pub stay-right : (t : Tables) (c : Call) → CountsRight t → CountsRight (call t c .after)
 stay-right t c w = laws.as-right (frames.counts-kept t c (laws.from-right w))

@@ -24,7 +24,7 @@ use Rattle.rules.proofs.Laws.LocksRefused.{lock-only, lock-there, claim
 use Rattle.rules.proofs.Rules.Accepting.{refusal-tells}
 use Rattle.rules.proofs.Rules.RefusedExactly as exact
 
--- ---- begin, step and release are refused only as the table says
+-- ---- reserve, enter, step and release are refused only as the table says
 pub refused-only : (t : Tables) (c : Call) (k : ℕ) → call t c .answer ≡ refused k → Refuses t c k
 refused-only = exact.call-by-table
 

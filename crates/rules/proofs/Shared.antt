@@ -35,7 +35,7 @@ pub none : (c o : Claim) → NoneShared c o → shared c o ≡ sharedRun 0 0
 none = runs.shared-none
 
 -- ---- "The comparison shall give, when it gives 0, the first shared frame and the end of the shared run": where it gives 0 there are such frames, of
--- claims as begin takes them; and nowhere else do two claims clash
+-- claims as reserve takes them; and nowhere else do two claims clash
 pub zero-is-a-clash : {c o : Claim} → Proper c → Proper o → compare c o ≡ pos 0 → Clash c o
 zero-is-a-clash = runs.zero-clashes
 

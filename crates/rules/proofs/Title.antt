@@ -10,14 +10,14 @@ use Rattle.rules.specs.Tables.{Tables, title, fresh}
 use Rattle.rules.specs.Comparison.{Claim}
 use Rattle.rules.specs.Shape.{sound}
 use Rattle.rules.specs.Answers.{node, refused, done}
-use Rattle.rules.specs.Calls.{clear, begin}
+use Rattle.rules.specs.Calls.{clear, reserve}
 use Rattle.rules.specs.Board.{holders, coveredBy}
 use Rattle.rules.specs.Play.{Call, call}
 use Rattle.rules.specs.Reached.{Request, afterRequests, Reached}
 use Rattle.rules.specs.Refusing.{WithinTitle}
 use Rattle.rules.specs.Apart.{claimOfSeat}
 use Rattle.rules.specs.Covered.{HolderCovers}
-use Rattle.rules.specs.Title.{AllWithin, BeginsBeyond, perCent}
+use Rattle.rules.specs.Title.{AllWithin, ReservesBeyond, perCent}
 use Rattle.rules.proofs.Laws.Words.{fresh-title}
 use Rattle.rules.proofs.Laws.Shape.{is-sound}
 use Rattle.rules.proofs.Rules.RefusedExactly.{clear-accepted}
@@ -46,11 +46,11 @@ as-cleared N S count requests = requests-never-change (fresh N S count) requests
 
 -- ---- "A claim may end at it and not beyond"
 -- whoever is told a node began a claim that ends within the title
-pub begun-within : (t : Tables) (s n : ℕ) (c : Claim) → begin t s c .answer ≡ node n → WithinTitle t c
-begun-within = frames.node-within
+pub reserved-within : (t : Tables) (s n : ℕ) (c : Claim) → reserve t s c .answer ≡ node n → WithinTitle t c
+reserved-within = frames.node-within
 
--- only a begin is ever refused 11, and only where its claim ends beyond the title; exactly when is said in Refusing
-pub refused-beyond-only : (t : Tables) (c : Call) → call t c .answer ≡ refused 11 → BeginsBeyond t c
+-- only a reserve is ever refused 11, and only where its claim ends beyond the title; exactly when is said in Refusing
+pub refused-beyond-only : (t : Tables) (c : Call) → call t c .answer ≡ refused 11 → ReservesBeyond t c
 refused-beyond-only = frames.refused-11
 
 -- ---- so every claim ends within the title: in every table that is reached, and in every sound one

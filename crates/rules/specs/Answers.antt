@@ -7,8 +7,8 @@ use Rattle.rules.specs.Tables.{Tables, phase, own, cur}
 use Rattle.rules.specs.Comparison.{claimOf, shared}
 use Rattle.rules.specs.declared.SharedRun.{SharedRun}
 
--- "Begin: `node n`. Release: `out`. Step .. `wait n` .. `held` .. `back` .. `on`", or the number of the refusal. With `wait n`, by 02 (v), "the first
--- shared frame and the end of the shared run": "`wait` carries both"
+-- 02 (vii): "Reserve answers `node n`, enter `on`". "Release: `out`. Step .. `wait n` .. `held` .. `back` .. `on`", or the number of the refusal. With
+-- `wait n`, by 02 (v), "the first shared frame and the end of the shared run": "`wait` carries both"
 pub data Answer : Type 0 where
   node : ℕ → Answer
   out : Answer

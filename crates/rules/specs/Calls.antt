@@ -7,8 +7,8 @@ use Rattle.rules.specs.Tables.{Tables, nodeCount, seatCount, title, phas
 use Rattle.rules.specs.Comparison.{Claim}
 use Rattle.rules.specs.Shape.{lengthsFit, sound, isKind}
 use Rattle.rules.specs.Fetch.{Fetched, fetch}
-use Rattle.rules.specs.Answers.{Answer, node, out, refused, Done, done, Refusal, _when_, refusing}
-use Rattle.rules.specs.Steps.{leave, stepByPhase}
+use Rattle.rules.specs.Answers.{Answer, node, out, refused, Done, done, Refusal, _when_, refusing, answered}
+use Rattle.rules.specs.Steps.{entering, leave, stepByPhase}
 
 -- | 1 | tables damaged |
 abbrev pub damaged : Tables → Bool
@@ -25,15 +25,15 @@ clear t frames =
     refusing (λ number. number) ((1 when not (lengthsFit t)) ∷ (3 when frames is 0) ∷ []) t
     (done 0 (fresh (nodeCount t) (seatCount t) frames))
 
--- ---- begin: "Begin: `node n`." "A claim may end at it" (the title's frame count) "and not beyond": "11, end beyond the title, stands after 3 and
--- before 4"
-unfoldable pub begun : Tables → Fetched → Done Answer
-begun t f =
+-- ---- reserve: 02 (vii): "reserve takes a node for a range and kind", "Reserve answers `node n`", "reserve has begin's" refusals, "in begin's order".
+-- "A claim may end at it" (the title's frame count) "and not beyond": "11, end beyond the title, stands after 3 and before 4"
+unfoldable pub reserved : Tables → Fetched → Done Answer
+reserved t f =
     if f .node is 0 then done (refused 8) t
     else done (node (f .node)) (f .after)
 
-unfoldable pub begin : Tables → ℕ → Claim → Done Answer
-begin t s c =
+unfoldable pub reserve : Tables → ℕ → Claim → Done Answer
+reserve t s c =
     refusing refused
     ((1 when damaged t)
     ∷ (2 when noSeat t s)
@@ -43,7 +43,13 @@ begin t s c =
     ∷ (5 when not (phase t s is 0))
     ∷ [])
     t
-    (begun t (fetch t s c))
+    (reserved t (fetch t s c))
+
+-- ---- enter: 02 (vii): "enter `on`"; "enter in any phase but 7 is 14, after 7". An idle seat is in phase 0, so it too is refused 14
+unfoldable pub enter : Tables → ℕ → Done Answer
+enter t s =
+    refusing refused ((1 when damaged t) ∷ (2 when noSeat t s) ∷ (14 when not (phase t s is 7)) ∷ []) t
+    (answered (entering t s) s)
 
 -- ---- step
 unfoldable pub step : Tables → ℕ → Done Answer

@@ -32,12 +32,12 @@ unfoldable pub writeClaim : Tables → ℕ → Claim → Tables
 writeClaim t a c =
     setMark (setLink (setNode kindAt (setNode endAt (setNode startAt t a (c .start)) a (c .end)) a (c .kind)) a 0) a 0
 
--- "the seat gets phase 1, own, prev 0, cur = head."
-unfoldable pub enterAtHead : Tables → ℕ → ℕ → Tables
-enterAtHead t s a = setCur (setPrev (setOwn (setPhase t s 1) s a) s 0) s (head t)
+-- 02 (vii): "puts the seat in a new phase 7, prev and cur 0"; the node is its own
+unfoldable pub reserveFor : Tables → ℕ → ℕ → Tables
+reserveFor t s a = setCur (setPrev (setOwn (setPhase t s 7) s a) s 0) s 0
 
 unfoldable pub takeNode : Tables → ℕ → ℕ → Claim → Tables
-takeNode t s a c = enterAtHead (writeClaim t a c) s a
+takeNode t s a c = reserveFor (writeClaim t a c) s a
 
 -- the node taken, or 0 if none was free, and the tables afterwards
 pub record Fetched : Type 0 where

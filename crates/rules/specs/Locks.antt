@@ -57,7 +57,7 @@ pub data Taken (A : Type 0) : Type 0 where
   taken : A → Taken A
   bad : ℕ → Taken A
 
--- "Import gives begin's numbers"; "import 12 .., 13 .., 11"
+-- "Import gives begin's numbers", which are reserve's since (vii); "import 12 .., 13 .., 11"
 unfoldable pub importLock : ℕ → Lock → Taken Claim
 importLock title l =
     unless bad

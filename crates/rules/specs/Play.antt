@@ -9,7 +9,7 @@ use Rattle.rules.specs.Notation.{if_then_else_, _is_, _<?_}
 use Rattle.rules.specs.Tables.{Tables, fresh}
 use Rattle.rules.specs.Comparison.{Claim, claim}
 use Rattle.rules.specs.Answers.{Answer, node, out, on, wait, held, back, refused, Done}
-use Rattle.rules.specs.Calls.{begin, step, release}
+use Rattle.rules.specs.Calls.{reserve, enter, step, release}
 use Rattle.rules.specs.Reach.{listOf}
 use Rattle.rules.specs.Board.{holders, coveredBy}
 use Rattle.rules.specs.Script.{readScript}
@@ -19,25 +19,29 @@ use Rattle.rules.specs.declared.Script.{Script}
 
 -- ---- the calls that a script makes
 pub data Call : Type 0 where
-  beginCall : ℕ → Claim → Call
+  reserveCall : ℕ → Claim → Call
+  enterCall : ℕ → Call
   stepCall : ℕ → Call
   releaseCall : ℕ → Call
 
 unfoldable pub call : Tables → Call → Done Answer
-call t (beginCall s c) = begin t s c
+call t (reserveCall s c) = reserve t s c
+call t (enterCall s) = enter t s
 call t (stepCall s) = step t s
 call t (releaseCall s) = release t s
 
 abbrev pub seatOf : Call → ℕ
-seatOf (beginCall s c) = s
+seatOf (reserveCall s c) = s
+seatOf (enterCall s) = s
 seatOf (stepCall s) = s
 seatOf (releaseCall s) = s
 
 unfoldable pub callOf : Line → Call
 callOf l =
-    if l .code is 1 then beginCall (l .seat) (claim (l .start) (l .end) (l .kind))
+    if l .code is 1 then reserveCall (l .seat) (claim (l .start) (l .end) (l .kind))
     else if l .code is 2 then stepCall (l .seat)
-    else releaseCall (l .seat)
+    else if l .code is 3 then releaseCall (l .seat)
+    else enterCall (l .seat)
 
 unfoldable pub callsOf : Script → List Call
 callsOf script = map callOf (take (script .k) (script .rows))

@@ -17,7 +17,7 @@ use Rattle.rules.specs.Fetch.{takenOut}
 use Rattle.rules.specs.Board.{holders}
 use Rattle.rules.specs.Script.{nowhere, contentsOf, bodyAt}
 use Rattle.rules.specs.Locks.{Lock, firstFrame, endFrame}
-use Rattle.rules.specs.Play.{Call, beginCall, stepCall, releaseCall, seatOf}
+use Rattle.rules.specs.Play.{Call, reserveCall, enterCall, stepCall, releaseCall, seatOf}
 
 -- the tables are sound and have the seat
 pub record HasSeat (t : Tables) (s : ℕ) : Type 0 where
@@ -38,26 +38,28 @@ pub record NoNodeFree (t : Tables) (s : ℕ) : Type 0 where
 abbrev pub WithinTitle : Tables → Claim → Type 0
 WithinTitle t c = c .end ≤ title t
 
--- ---- begin, step and release: | no | when |
+-- ---- reserve, enter, step and release: | no | when |; 02 (vii): "reserve has begin's, in begin's order"
 pub data Refuses (t : Tables) : Call → ℕ → Type 0 where
   -- "1: tables damaged"
   damaged : {call : Call} → sound t ≡ false → Refuses t call 1
   -- "2: seat number not below S"
   no-seat : {call : Call} → sound t ≡ true → seatCount t ≤ seatOf call → Refuses t call 2
   -- "3: begin: start ≥ end"
-  no-frames : {s : ℕ} {c : Claim} → HasSeat t s → c .end ≤ c .start → Refuses t (beginCall s c) 3
+  no-frames : {s : ℕ} {c : Claim} → HasSeat t s → c .end ≤ c .start → Refuses t (reserveCall s c) 3
   -- "11, end beyond the title, stands after 3 and before 4"
-  beyond-title : {s : ℕ} {c : Claim} → HasSeat t s → c .start < c .end → title t < c .end → Refuses t (beginCall s c) 11
+  beyond-title : {s : ℕ} {c : Claim} → HasSeat t s → c .start < c .end → title t < c .end → Refuses t (reserveCall s c) 11
   -- "4: begin: kind not 1 or 2"
-  no-kind : {s : ℕ} {c : Claim} → HasSeat t s → c .start < c .end → WithinTitle t c → c .kind ≢ 1 → c .kind ≢ 2 → Refuses t (beginCall s c) 4
+  no-kind : {s : ℕ} {c : Claim} → HasSeat t s → c .start < c .end → WithinTitle t c → c .kind ≢ 1 → c .kind ≢ 2 → Refuses t (reserveCall s c) 4
   -- "5: begin: seat not idle"
-  not-idle : {s : ℕ} {c : Claim} → HasSeat t s → Proper c → WithinTitle t c → phase t s ≢ 0 → Refuses t (beginCall s c) 5
+  not-idle : {s : ℕ} {c : Claim} → HasSeat t s → Proper c → WithinTitle t c → phase t s ≢ 0 → Refuses t (reserveCall s c) 5
   -- "6: step: seat idle"
   idle : {s : ℕ} → HasSeat t s → phase t s ≡ 0 → Refuses t (stepCall s) 6
   -- "7: release: phase not 5"
   not-holding : {s : ℕ} → HasSeat t s → phase t s ≢ 5 → Refuses t (releaseCall s) 7
+  -- "enter in any phase but 7 is 14, after 7"
+  not-reserved : {s : ℕ} → HasSeat t s → phase t s ≢ 7 → Refuses t (enterCall s) 14
   -- "8: begin, or step in phase 6: fetch found none"
-  none-to-begin : {s : ℕ} {c : Claim} → HasSeat t s → Proper c → WithinTitle t c → phase t s ≡ 0 → NoNodeFree t s → Refuses t (beginCall s c) 8
+  none-to-reserve : {s : ℕ} {c : Claim} → HasSeat t s → Proper c → WithinTitle t c → phase t s ≡ 0 → NoNodeFree t s → Refuses t (reserveCall s c) 8
   none-again : {s : ℕ} → HasSeat t s → phase t s ≡ 6 → NoNodeFree t s → Refuses t (stepCall s) 8
 
 -- ---- clear, given the title's frame count: "1: .. for clear: only lengths wrong", then "clear with count 0 is refused 3"

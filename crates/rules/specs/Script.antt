@@ -81,12 +81,13 @@ contentsOf src =
       next = if inBounds (n .value) (s .value) (k .value) (title .value) then lineEnd src (title .next) else nowhere src;
     }
 
--- ---- "Then K bodies: `b seat start end kind`, `s seat`, `r seat`." "each a code (b 1, s 2, r 3) and four numbers"
+-- ---- "Then K bodies: .. `s seat`, `r seat`." 02 (vii): "`v`, fields as in `b`, and `e seat` replace `b`", which was `b seat start end kind`. "each a code
+-- (b 1, s 2, r 3) and four numbers": `v` has b's code, and `e` the next, 4
 abbrev pub body : Line → ℕ → Body
 body line next = record { line = line; next = next }
 
-unfoldable pub beginLine : List ℕ → ℕ → Body
-beginLine src at =
+unfoldable pub reserveLine : List ℕ → ℕ → Body
+reserveLine src at =
     let seat = fieldAt src at in
     let start = fieldAt src (seat .next) in
     let end = fieldAt src (start .next) in
@@ -101,12 +102,13 @@ seatLine src code at =
 abbrev pub noLine : Line
 noLine = line 0 0 0 0 0
 
--- 98 is `b`, 115 is `s`, 114 is `r`
+-- 118 is `v`, 115 is `s`, 114 is `r`, 101 is `e`
 unfoldable pub bodyAt : List ℕ → ℕ → Body
 bodyAt src at =
-    if byteAt src at is 98 then beginLine src (at + 1)
+    if byteAt src at is 118 then reserveLine src (at + 1)
     else if byteAt src at is 115 then seatLine src 2 (at + 1)
     else if byteAt src at is 114 then seatLine src 3 (at + 1)
+    else if byteAt src at is 101 then seatLine src 4 (at + 1)
     else body noLine (nowhere src)
 
 -- ---- the whole: "gives N, S, K and 1,000 rows by value .. what a script does not fill is 0"; the title's frame count stands after K, as on line 1

@@ -33,9 +33,9 @@ names t a = a is 0 || a ≤? nodeCount t && isKind (kind t a)
 unfoldable pub nodeSound : Tables → ℕ → Bool
 nodeSound t a = (zeroNode t a || claimNode t a) && names t (next t a)
 
--- "phase is 0 to 6"
+-- "phase is 0 to 6", and 02 (vii): "sound shape allows 7 like 6"
 unfoldable pub isPhase : Tables → ℕ → Bool
-isPhase t s = phase t s ≤? 6
+isPhase t s = phase t s ≤? 7
 
 -- "an idle seat (0) has zeros in all four words, any other has own nonzero"
 unfoldable pub zeroSeat : Tables → ℕ → Bool
@@ -44,9 +44,9 @@ zeroSeat t s = all seatWidth (λ field. seatWord (t .seats) s field is 0)
 unfoldable pub idleOrOwning : Tables → ℕ → Bool
 idleOrOwning t s = if phase t s is 0 then zeroSeat t s else not (own t s is 0)
 
--- "in phases 5 and 6 prev and cur are 0"
+-- "in phases 5 and 6 prev and cur are 0", and in 7 like 6
 unfoldable pub restingAtZero : Tables → ℕ → Bool
-restingAtZero t s = not (phase t s is 5 || phase t s is 6) || prev t s is 0 && cur t s is 0
+restingAtZero t s = not (phase t s is 5 || phase t s is 6 || phase t s is 7) || prev t s is 0 && cur t s is 0
 
 -- "in 2 and 4 cur is nonzero"
 unfoldable pub waitingAtCur : Tables → ℕ → Bool

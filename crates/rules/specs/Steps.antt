@@ -106,7 +106,7 @@ readerWaiting t s =
     if marked t (cur t s) then setPhase t s 3
     else t
 
--- | 6 withdrawn | fetch again with the same claim | and "8: .. step in phase 6: fetch found none"
+-- | 6 withdrawn | fetch again with the same claim |, 02 (vii): "phase 6 fetches, goes to 7 and answers `on`", and "8: .. step in phase 6: fetch found none"
 unfoldable pub refetched : Tables → ℕ → Fetched → Done Answer
 refetched t s f =
     if f .node is 0 then done (refused 8) t
@@ -115,7 +115,11 @@ refetched t s f =
 unfoldable pub withdrawn : Tables → ℕ → Done Answer
 withdrawn t s = refetched t s (fetch t s (claimOf t (own t s)))
 
--- | 5 holding | nothing |, and no other phase is stepped
+-- 02 (vii): "enter reads the head and goes to phase 1". In phase 7 prev is 0, where a walk starts
+unfoldable pub entering : Tables → ℕ → Tables
+entering t s = setCur (setPhase t s 1) s (head t)
+
+-- 02 (vii): "a step in phase 7 enters". | 5 holding | nothing |, and no other phase is stepped
 unfoldable pub stepByPhase : Tables → ℕ → Done Answer
 stepByPhase t s =
     if phase t s is 1 then answered (walking t s) s
@@ -123,4 +127,5 @@ stepByPhase t s =
     else if phase t s is 3 then answered (validating t s) s
     else if phase t s is 4 then answered (readerWaiting t s) s
     else if phase t s is 6 then withdrawn t s
+    else if phase t s is 7 then answered (entering t s) s
     else answered t s

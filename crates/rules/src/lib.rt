@@ -55,7 +55,7 @@ pub struct SharedRun {
     pub end: u32,
 }
 
-// What begin, step and release answer. A wait has the node waited at, and the first frame and the end of the shared run.
+// What reserve, enter, step and release answer. A wait has the node waited at, and the first frame and the end of the shared run.
 pub enum Reply {
     Node(u32),
     Out,

@@ -13,7 +13,7 @@ use Rattle.rules.specs.declared.Script.{Script}
 use Rattle.rules.specs.declared.Found.{Found}
 use Rattle.rules.specs.declared.Body.{Body}
 use Rattle.rules.specs.declared.Contents.{Contents}
-use Rattle.rules.specs.Script.{found, body, nowhere, byteAt, isDigit, digitAt, digitsFrom, numberAt, fieldAt, lineEnd, beginLine, seatLine, bodyAt, inBounds, contentsOf, noLine, noLines, badAt, goodScript, bodiesFrom, readScript}
+use Rattle.rules.specs.Script.{found, body, nowhere, byteAt, isDigit, digitAt, digitsFrom, numberAt, fieldAt, lineEnd, reserveLine, seatLine, bodyAt, inBounds, contentsOf, noLine, noLines, badAt, goodScript, bodiesFrom, readScript}
 use Rattle.rules.proofs.Ground.Logic.{not-of, and-right}
 use Rattle.script.specs.Digit.{digitOrTen}
 
@@ -62,9 +62,9 @@ module _ (src : List ℕ) (at b : ℕ) (isByte : b ≡ byteAt src at) where
   unfolding lineEnd
   end-none w e h = rw (← isByte, ne-eqb b 10 h) e
 
-  pub body-begin : (r : Body) → b ≡ 98 → r ≡ beginLine src (at + 1) → r ≡ bodyAt src at
+  pub body-reserve : (r : Body) → b ≡ 98 → r ≡ reserveLine src (at + 1) → r ≡ bodyAt src at
   unfolding bodyAt
-  body-begin r h e = rw (← isByte, eq-eqb b 98 h) e
+  body-reserve r h e = rw (← isByte, eq-eqb b 98 h) e
 
   pub body-step : (r : Body) → (b ≡ 98 → ⊥) → b ≡ 115 → r ≡ seatLine src 2 (at + 1) → r ≡ bodyAt src at
   unfolding bodyAt

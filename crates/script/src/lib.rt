@@ -1,7 +1,7 @@
 // Reading a script: a call of the library, proved for every string of bytes.
 ghost use mathlib.Core.Path.{_≡_};
 ghost use Prim.Native.Nat.{_≤_};
-ghost use Rattle.rules.specs.Script.{byteAt, digitsFrom, numberAt, fieldAt, beginLine, seatLine, bodyAt, inBounds, contentsOf, noLine, noLines, badAt, bodiesFrom, readScript};
+ghost use Rattle.rules.specs.Script.{byteAt, digitsFrom, numberAt, fieldAt, reserveLine, seatLine, bodyAt, inBounds, contentsOf, noLine, noLines, badAt, bodiesFrom, readScript};
 ghost use Rattle.rules.specs.Script.{lineEnd as Script·lineEnd, nowhere as Script·nowhere};
 ghost use Rattle.script.specs.Digit.{digitOrTen};
 use rules::Body;
@@ -103,8 +103,8 @@ fn line_end(src: &[u8], at: usize) -> usize
     nowhere(src)
 }
 
-fn begin_line(src: &[u8], at: usize) -> Body
-    ensures { λ r. ⌜ r ≡ beginLine (now (src .entry)) at ⌝ }
+fn reserve_line(src: &[u8], at: usize) -> Body
+    ensures { λ r. ⌜ r ≡ reserveLine (now (src .entry)) at ⌝ }
 {
     let seat = field(src, at);
     let start = field(src, seat.next);
@@ -157,7 +157,7 @@ fn body_line(src: &[u8], at: usize) -> Body
 {
     let letter = byte(src, at);
     if letter == b'b' {
-        return begin_line(src, at + 1);
+        return reserve_line(src, at + 1);
     }
     if letter == b's' {
         return seat_line(src, 2, at + 1);

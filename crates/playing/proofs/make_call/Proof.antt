@@ -1,11 +1,11 @@
 -- `playing::make_call` meets its contract: by the line's code, one of the three calls.
-use Rattle.playing.proofs.Turns.{call-begins, call-steps, call-releases}
+use Rattle.playing.proofs.Turns.{call-reserves, call-steps, call-releases}
 use borrow.Author.Needs.{needs}
 use Rattle.playing.proofs.make_call.Statement.{statement}
 use Rattle.playing.proofs.make_call.Tie as tie
 
-begin-requires : tie.Need-begin-requires
-begin-requires c κs = search needs
+reserve-requires : tie.Need-reserve-requires
+reserve-requires c κs = search needs
 
 same-length : tie.Need-same-length
 same-length c = search needs
@@ -14,7 +14,7 @@ same-length-2 : tie.Need-same-length-2
 same-length-2 c = search needs
 
 returns : tie.Need-returns
-returns c = search call-begins
+returns c = search call-reserves
 
 step-requires : tie.Need-step-requires
 step-requires c κs = search needs
@@ -44,7 +44,7 @@ pub make-call-spec : {M : Type 1} → statement M
 make-call-spec =
     tie.close
     (tie.spec
-    begin-requires
+    reserve-requires
     same-length
     same-length-2
     returns

@@ -14,8 +14,8 @@ use Rattle.rules.specs.Steps.{linkIn, hold, refetched}
 use Rattle.rules.specs.Calls.{step}
 use Rattle.rules.proofs.Ground.Logic.{branch}
 use Rattle.rules.proofs.Rules.Effects.{Room, Seated}
-use Rattle.rules.proofs.Rules.RuleEffects.{phase-stored, cur-stored, place-stored, pass-stored, start-stored, hold-stored, withdraw-stored, enter-stored}
-use Rattle.rules.proofs.Rules.Reasons.{Unlinking, takes-out, goes-past, as-reader, as-writer, links-in, restarts, rereads, Walking, inserts, unlinks, passes, waits, Waking, wakes, stays, reader-holds, reader-unlinks, reader-passes, reader-waits, writer-holds, writer-unlinks, writer-passes, withdraws, Validating, validates-reader, validates-writer, Fetching, found, found-then, none, Stepping, in-1, in-2, in-3, in-4, in-6, at-rest}
+use Rattle.rules.proofs.Rules.RuleEffects.{phase-stored, cur-stored, place-stored, pass-stored, start-stored, hold-stored, withdraw-stored, enter-stored, reserve-stored}
+use Rattle.rules.proofs.Rules.Reasons.{Unlinking, takes-out, goes-past, as-reader, as-writer, links-in, restarts, rereads, Walking, inserts, unlinks, passes, waits, Waking, wakes, stays, reader-holds, reader-unlinks, reader-passes, reader-waits, writer-holds, writer-unlinks, writer-passes, withdraws, Validating, validates-reader, validates-writer, Fetching, found, found-then, none, Stepping, in-1, in-2, in-3, in-4, in-6, at-rest, in-7}
 use Rattle.rules.proofs.Rules.Accepting.{Stepped, step-refused, step-accepted, stepped}
 use Rattle.rules.proofs.Frames.SeatFrames.{sound-room}
 use Rattle.rules.proofs.Laws.NodesAlone.{taken-out-seats}
@@ -97,7 +97,7 @@ module _ (t : Tables) (s : ℕ) (r : Room t s) where
 
   taking-leaves : {from : Tables} (a : ℕ) (c : Claim) → Left from (takeNode t s a c) s
   unfolding takeNode writeClaim
-  taking-leaves a c = moved (enter-stored (writeClaim t a c) s r a) (omega arith) (omega arith) (omega arith) (omega arith)
+  taking-leaves a c = moved (reserve-stored (writeClaim t a c) s r a) (omega arith) (omega arith) (omega arith) (omega arith)
 
 fetching-leaves : {t : Tables} {s : ℕ} {c : Claim} {f : Fetched} → Room t s → phase t s ≡ 6 → Fetching t s c f → Left t (f .after) s
 fetching-leaves {t} {s} {c} r p (found a e z) = taking-leaves t s r a c
@@ -116,7 +116,8 @@ module _ (t : Tables) (s : ℕ) where
   stepping-leaves r b (in-3 e w) = validating-leaves t s r e w
   stepping-leaves r b (in-4 e w) = waking-leaves t s r b (omega arith) (omega arith) (omega arith) (omega arith) w
   stepping-leaves r b (in-6 {f = f} e w) = refetched-leaves f e (fetching-leaves r e w)
-  stepping-leaves r b (at-rest d₁ d₂ d₃ d₄ d₆) = not-waiting b d₂ d₄ (λ p. inl refl)
+  stepping-leaves r b (in-7 e) = moved (enter-stored t s r) (omega arith) (omega arith) (omega arith) (omega arith)
+  stepping-leaves r b (at-rest d₁ d₂ d₃ d₄ d₆ d₇) = not-waiting b d₂ d₄ (λ p. inl refl)
 
   stepped-busy : {d : Done Answer} → phase t s ≢ 0 → Stepped t s d → phase (d .after) s ≢ 0
   stepped-busy b (step-refused k r) = b

@@ -15,8 +15,8 @@ use Rattle.rules.specs.Reach.{met, listed, othersReach, free, lowestFree
 use Rattle.rules.specs.Fetch.{Fetched, takenOut}
 use Rattle.rules.specs.Answers.{Answer, Done}
 use Rattle.rules.specs.Steps.{refetched}
-use Rattle.rules.specs.Calls.{begun, step}
-use Rattle.rules.specs.Play.{Call, beginCall, stepCall, releaseCall, call, seatOf}
+use Rattle.rules.specs.Calls.{reserved, step}
+use Rattle.rules.specs.Play.{Call, reserveCall, stepCall, releaseCall, call, seatOf, enterCall}
 use Rattle.rules.specs.Apart.{claimOfSeat}
 use Rattle.rules.proofs.Ground.Logic.{branch, or-neither, not-true, clash}
 use Rattle.rules.proofs.Ground.Deciding.{if-same}
@@ -27,9 +27,9 @@ use Rattle.rules.proofs.Laws.NodesAlone.{taken-out-seats}
 use Rattle.rules.proofs.Laws.Listed.{met-here}
 use Rattle.rules.proofs.Laws.Free.{others-miss}
 use Rattle.rules.proofs.Rules.Reasons.{by-phase-6, by-no-phase, Fetching, found, found-then, none, fetching as fetching-of}
-use Rattle.rules.proofs.Rules.Accepting.{Beginning, begin-refused, begin-accepted, beginning, step-or-same}
+use Rattle.rules.proofs.Rules.Accepting.{Reserving, reserve-refused, reserve-accepted, reserving, step-or-same, step-enters}
 use Rattle.rules.proofs.Frames.SeatFrames.{other-seats-kept}
-use Rattle.rules.proofs.Frames.NodeFrames.{taking-out, fetching, step-1-kept, step-2-kept, step-3-kept, step-4-kept, step-6-kept, begin-kept, release-kept}
+use Rattle.rules.proofs.Frames.NodeFrames.{taking-out, fetching, step-1-kept, step-2-kept, step-3-kept, step-4-kept, step-6-kept, reserve-kept, release-kept, enter-kept}
 
 -- ---- only fetch changes a claim
 module _ (t : Tables) (s a : ℕ) where
@@ -41,11 +41,13 @@ module _ (t : Tables) (s a : ℕ) where
       if-same (phase t s) 3 (λ e. step-3-kept t s e .claim-of a (λ z. z)) (λ d₃.
       if-same (phase t s) 4 (λ e. step-4-kept t s e .claim-of a (λ z. z)) (λ d₄.
       if-same (phase t s) 6 fetched (λ d₆.
-      step-or-same t s (λ u. claimOf u a ≡ claimOf t a) refl (λ e h b. rw (by-no-phase t s d₁ d₂ d₃ d₄ d₆)))))))
+      if-same (phase t s) 7 (λ e. rw (step-enters t s e) (enter-kept t s .claim-of a (λ z. z))) (λ d₇.
+      step-or-same t s (λ u. claimOf u a ≡ claimOf t a) refl (λ e h b. rw (by-no-phase t s d₁ d₂ d₃ d₄ d₆ d₇))))))))
 
 pub claims-kept : (t : Tables) (c : Call) (a : ℕ) → a ≢ own (call t c .after) (seatOf c) → claimOf (call t c .after) a ≡ claimOf t a
 unfolding call
-claims-kept t (beginCall s c) a d = begin-kept t s c .claim-of a d
+claims-kept t (reserveCall s c) a d = reserve-kept t s c .claim-of a d
+claims-kept t (enterCall s) a d = enter-kept t s .claim-of a (λ z. z)
 claims-kept t (stepCall s) a d = step-claims t s a (λ e. step-6-kept t s e .claim-of a d)
 claims-kept t (releaseCall s) a d = release-kept t s .claim-of a (λ z. z)
 
@@ -81,10 +83,10 @@ module _ (t : Tables) (s r : ℕ) (d : r ≢ s) where
   abbrev Keeps : Done Answer → Type 0
   Keeps x = claimOf (x .after) (own t r) ≡ claimOf t (own t r)
 
-  begun-keeps : (c : Claim) {x : Done Answer} → Beginning t s c x → Keeps x
-  unfolding begun
-  begun-keeps c (begin-refused k q) = refl
-  begun-keeps c (begin-accepted {f = f} e h p i z w) = branch Keeps (f .node is 0) (λ q. refl) (λ q. taken-keeps t e s r d w (eqb-false (f .node) 0 q))
+  reserved-keeps : (c : Claim) {x : Done Answer} → Reserving t s c x → Keeps x
+  unfolding reserved
+  reserved-keeps c (reserve-refused k q) = refl
+  reserved-keeps c (reserve-accepted {f = f} e h p i z w) = branch Keeps (f .node is 0) (λ q. refl) (λ q. taken-keeps t e s r d w (eqb-false (f .node) 0 q))
 
   refetched-keeps : sound t ≡ true → {c : Claim} {f : Fetched} → Fetching t s c f → Keeps (refetched t s f)
   unfolding refetched
@@ -100,6 +102,7 @@ unfolding call
 others-claims-kept t c r d = rw (other-seats-kept t c .word r ownAt d (omega arith)) (kept c d)
   where
     kept : (c : Call) → r ≢ seatOf c → claimOf (call t c .after) (own t r) ≡ claimOf t (own t r)
-    kept (beginCall s c) d = begun-keeps t s r d c (beginning t s c)
+    kept (reserveCall s c) d = reserved-keeps t s r d c (reserving t s c)
+    kept (enterCall s) d = enter-kept t s .claim-of (own t r) (λ z. z)
     kept (stepCall s) d = stepped-keeps t s r d
     kept (releaseCall s) d = release-kept t s .claim-of (own t r) (λ z. z)

@@ -15,9 +15,9 @@ use Rattle.rules.specs.Comparison.{Claim}
 use Rattle.rules.specs.Shape.{holdsWith, holdersOfKind, sound}
 use Rattle.rules.specs.Fetch.{Fetched, writeClaim, takeNode, takenOut}
 use Rattle.rules.specs.Answers.{Answer, refused, Done, done}
-use Rattle.rules.specs.Steps.{moveTo, kindOf, hold, leave, refetched}
-use Rattle.rules.specs.Calls.{clear, begun}
-use Rattle.rules.specs.Play.{Call, beginCall, stepCall, releaseCall, call, seatOf}
+use Rattle.rules.specs.Steps.{moveTo, kindOf, hold, leave, refetched, entering}
+use Rattle.rules.specs.Calls.{clear, reserved}
+use Rattle.rules.specs.Play.{Call, reserveCall, stepCall, releaseCall, call, seatOf, enterCall}
 use Rattle.rules.specs.Run.{run}
 use Rattle.rules.specs.Reached.{Reached}
 use Rattle.rules.specs.Refusing.{damaged}
@@ -32,12 +32,12 @@ use Rattle.rules.proofs.Laws.Counts.{wrong-damaged, kinds-apart, own-ki
 use Rattle.rules.proofs.Laws.NodesAlone.{taken-out-seats}
 use Rattle.rules.proofs.Laws.RunSteps.{run-keeps, reached-has}
 use Rattle.rules.proofs.Rules.Effects.{Room}
-use Rattle.rules.proofs.Rules.RuleEffects.{hold-stored, leave-stored, enter-stored}
-use Rattle.rules.proofs.Rules.Reasons.{Fetching, found, found-then, none, Stepping, in-1, in-2, in-3, in-4, in-6, at-rest}
-use Rattle.rules.proofs.Rules.Accepting.{Beginning, begin-refused, begin-accepted, beginning, Stepped, step-refused, step-accepted, stepped, Releasing, release-refused, release-accepted, releasing}
+use Rattle.rules.proofs.Rules.RuleEffects.{hold-stored, leave-stored, enter-stored, reserve-stored}
+use Rattle.rules.proofs.Rules.Reasons.{Fetching, found, found-then, none, Stepping, in-1, in-2, in-3, in-4, in-6, at-rest, in-7}
+use Rattle.rules.proofs.Rules.Accepting.{Reserving, reserve-refused, reserve-accepted, reserving, Stepped, step-refused, step-accepted, stepped, Releasing, release-refused, release-accepted, releasing, Entering, enter-refused, enter-accepted, enters}
 use Rattle.rules.proofs.Rules.RefusedExactly.{table-refused, clear-accepted}
 use Rattle.rules.proofs.Frames.SeatFrames.{sound-room, other-seats-kept}
-use Rattle.rules.proofs.Frames.NodeFrames.{walking, waking, unless-held, fetching}
+use Rattle.rules.proofs.Frames.NodeFrames.{walking, waking, unless-held, fetching, entering-kept}
 use Rattle.rules.proofs.Frames.ClaimFrames.{others-claims-kept}
 use Rattle.rules.proofs.Frames.AfterStep.{Left, stepping-leaves}
 
@@ -63,19 +63,23 @@ left-outcome a l b d (inl e) = comes-to-hold a b d e
 left-outcome {u = u} {s} a l b d (inr f) =
     if-same (phase u s) 5 (λ p. elim (l .holding p) [ inl e ↦ unchanged e | inr e ↦ comes-to-hold a b d e ]) (λ p. moves-on a d p f)
 
-taken-walks : (t : Tables) (s a : ℕ) (c : Claim) → Room t s → phase (takeNode t s a c) s ≢ 5
+taken-not-held : (t : Tables) (s a : ℕ) (c : Claim) → Room t s → phase (takeNode t s a c) s ≢ 5
 unfolding takeNode writeClaim
-taken-walks t s a c r = rw (enter-stored (writeClaim t a c) s r a .at-s phaseAt (omega arith)) (omega arith)
+taken-not-held t s a c r = rw (reserve-stored (writeClaim t a c) s r a .at-s phaseAt (omega arith)) (omega arith)
 
 fetch-outcome : {t : Tables} {s : ℕ} {c : Claim} {f : Fetched} → Accepting t s → phase t s ≢ 5 → Fetching t s c f → Outcome t s (f .after)
-fetch-outcome {t} {s} {c} y d (found a e z) = moves-on y d (taken-walks t s a c (sound-room t s (y .0) (y .1))) (words-stay (fetching (found a e z)))
+fetch-outcome {t} {s} {c} y d (found a e z) = moves-on y d (taken-not-held t s a c (sound-room t s (y .0) (y .1))) (words-stay (fetching (found a e z)))
 fetch-outcome {t} {s} {c} y d (found-then a e e′ z) =
-    moves-on y d (taken-walks (takenOut t) s a c (rw (taken-out-seats t) (sound-room t s (y .0) (y .1)))) (words-stay (fetching (found-then a e e′ z)))
+    moves-on y d (taken-not-held (takenOut t) s a c (rw (taken-out-seats t) (sound-room t s (y .0) (y .1)))) (words-stay (fetching (found-then a e e′ z)))
 fetch-outcome y d (none e e′) = unchanged refl
 
 module _ (t : Tables) (s : ℕ) where
   leaves : {d : Done Answer} → Accepting t s → phase t s ≢ 0 → Stepping t s d → Left t (d .after) s
   leaves a b w = stepping-leaves t s (sound-room t s (a .0) (a .1)) b w
+
+  entering-outcome : Accepting t s → phase t s ≡ 7 → Outcome t s (entering t s)
+  entering-outcome a e =
+      moves-on a (omega arith) (rw (enter-stored t s (sound-room t s (a .0) (a .1)) .at-s phaseAt (omega arith)) (omega arith)) (words-stay (entering-kept t s))
 
   stepping-outcome : {d : Done Answer} → Accepting t s → phase t s ≢ 0 → Stepping t s d → Outcome t s (d .after)
   unfolding refetched
@@ -87,18 +91,23 @@ module _ (t : Tables) (s : ℕ) where
   stepping-outcome a b (in-6 {f = f} e w) =
       branch (λ (d : Done Answer). Outcome t s (d .after)) (f .node is 0)
       (λ z. unchanged refl) (λ z. fetch-outcome a (omega arith) w)
-  stepping-outcome a b (at-rest d₁ d₂ d₃ d₄ d₆) = unchanged refl
+  stepping-outcome a b (in-7 e) = entering-outcome a e
+  stepping-outcome a b (at-rest d₁ d₂ d₃ d₄ d₆ d₇) = unchanged refl
 
   stepped-outcome : {d : Done Answer} → Stepped t s d → Outcome t s (d .after)
   stepped-outcome (step-refused k x) = unchanged refl
   stepped-outcome (step-accepted e h b w) = stepping-outcome (e, h) b w
 
-  begun-outcome : {c : Claim} {d : Done Answer} → Beginning t s c d → Outcome t s (d .after)
-  unfolding begun
-  begun-outcome (begin-refused k x) = unchanged refl
-  begun-outcome (begin-accepted {f = f} e h p i z w) =
+  reserved-outcome : {c : Claim} {d : Done Answer} → Reserving t s c d → Outcome t s (d .after)
+  unfolding reserved
+  reserved-outcome (reserve-refused k x) = unchanged refl
+  reserved-outcome (reserve-accepted {f = f} e h p i z w) =
       branch (λ (d : Done Answer). Outcome t s (d .after)) (f .node is 0)
       (λ q. unchanged refl) (λ q. fetch-outcome (e, h) (omega arith) w)
+
+  entered-outcome : {d : Done Answer} → Entering t s d → Outcome t s (d .after)
+  entered-outcome (enter-refused k x) = unchanged refl
+  entered-outcome (enter-accepted e h p) = entering-outcome (e, h) p
 
   released-outcome : {d : Done Answer} → Releasing t s d → Outcome t s (d .after)
   released-outcome (release-refused k x) = unchanged refl
@@ -106,7 +115,8 @@ module _ (t : Tables) (s : ℕ) where
 
 call-outcome : (t : Tables) (c : Call) → Outcome t (seatOf c) (call t c .after)
 unfolding call
-call-outcome t (beginCall s c) = begun-outcome t s (beginning t s c)
+call-outcome t (reserveCall s c) = reserved-outcome t s (reserving t s c)
+call-outcome t (enterCall s) = entered-outcome t s (enters t s)
 call-outcome t (stepCall s) = stepped-outcome t s (stepped t s)
 call-outcome t (releaseCall s) = released-outcome t s (releasing t s)
 

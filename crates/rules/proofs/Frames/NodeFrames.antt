@@ -10,20 +10,20 @@ use Rattle.rules.specs.Notation.{_is_}
 use Rattle.rules.specs.Tables.{Tables, tables, countAt, nodeWidth, nodeCount, startAt, endAt, kindAt, markAt, nextAt, ownAt, nodeWord, marked, next, head, phase, own, prev, cur, setCount, setNode, setLink, setMark, clearSeat}
 use Rattle.rules.specs.Comparison.{Claim, claimOf}
 use Rattle.rules.specs.Reach.{met, listed}
-use Rattle.rules.specs.Fetch.{Fetched, fetch, keptFrom, kept, linkThrough, takenOut, writeClaim, enterAtHead, takeNode}
+use Rattle.rules.specs.Fetch.{Fetched, fetch, keptFrom, kept, linkThrough, takenOut, writeClaim, takeNode, reserveFor}
 use Rattle.rules.specs.Answers.{Answer, Done}
-use Rattle.rules.specs.Steps.{moveTo, linkIn, pass, kindOf, hold, withdraw, leave, refetched}
-use Rattle.rules.specs.Calls.{begun, begin, step, release}
+use Rattle.rules.specs.Steps.{moveTo, linkIn, pass, kindOf, hold, withdraw, leave, refetched, entering}
+use Rattle.rules.specs.Calls.{reserved, reserve, step, release, enter}
 use Rattle.rules.specs.Apart.{Stands, NodesKept, NoNode, NoPlace, FetchKept}
 use Rattle.rules.proofs.Ground.Logic.{branch, or-left, or-right}
 use Rattle.rules.proofs.Laws.Words.{node-put-field, node-put-node, node-put-link, link-put-field, link-put-other, top-put-node, top-put-link, top-put-other, node-put-top, link-put-top, count-low, count-not-head, put-node-length, put-link-length, put-top-length}
 use Rattle.rules.proofs.Laws.Listed.{met-first}
 use Rattle.rules.proofs.Rules.Effects.{Room}
-use Rattle.rules.proofs.Rules.RuleEffects.{enter-stored}
+use Rattle.rules.proofs.Rules.RuleEffects.{reserve-stored}
 use Rattle.rules.proofs.Laws.NodesAlone.{taken-out-seats}
 use Rattle.rules.proofs.Frames.SeatFrames.{sound-room}
 use Rattle.rules.proofs.Rules.Reasons.{Unlinking, takes-out, goes-past, as-reader, as-writer, Inserting, links-in, restarts, rereads, Walking, inserts, unlinks, passes, waits, walks, Waking, wakes, stays, wakes-to-walk, wakes-to-validate, reader-holds, reader-unlinks, reader-passes, reader-waits, writer-holds, writer-unlinks, writer-passes, withdraws, Validating, validates-reader, validates-writer, validates, by-phase-1, by-phase-2, by-phase-3, by-phase-4, by-phase-5, by-phase-6, Fetching, found, found-then, none, fetching as fetching-of}
-use Rattle.rules.proofs.Rules.Accepting.{Beginning, begin-refused, begin-accepted, beginning, step-or-same, Releasing, release-refused, release-accepted, releasing}
+use Rattle.rules.proofs.Rules.Accepting.{Reserving, reserve-refused, reserve-accepted, reserving, step-or-same, Releasing, release-refused, release-accepted, releasing, Entering, enter-refused, enter-accepted, enters, step-enters}
 
 -- ---- keeping, in general
 pub kept-same : {L M C P : ℕ → Type 0} (t : Tables) → NodesKept L M C P t t
@@ -203,7 +203,7 @@ module _ (t : Tables) (a : ℕ) (c : Claim) where
       (kept-but (λ b z. absurd z) (λ b z. z) (λ b z. absurd z) (λ i x. x) (mark-kept t₄ a 0)))))
 
   pub taking : (s : ℕ) → NodesKept (Just a) (Just a) (Just a) NoPlace t (takeNode t s a c)
-  unfolding takeNode enterAtHead
+  unfolding takeNode reserveFor
   taking s = seats-aside writing
 
 data Among (x : ℕ) : List ℕ → Type 0 where
@@ -267,7 +267,7 @@ fetching {t} (none e e′) = kept-same t
 -- the node taken is the seat's own afterwards
 taken-own : (t : Tables) (s a : ℕ) (c : Claim) → Room t s → own (takeNode t s a c) s ≡ a
 unfolding takeNode writeClaim
-taken-own t s a c r = enter-stored (writeClaim t a c) s r a .at-s ownAt (omega arith)
+taken-own t s a c r = reserve-stored (writeClaim t a c) s r a .at-s ownAt (omega arith)
 
 fetched-own : {t : Tables} {s : ℕ} {c : Claim} {f : Fetched} → Room t s → Fetching t s c f → f .node ≢ 0 → own (f .after) s ≡ f .node
 fetched-own {t} {s} {c} r (found a e z) d = taken-own t s a c r
@@ -304,12 +304,27 @@ module _ (t : Tables) (s : ℕ) where
       (λ q. kept-same t)
       (λ q. fetched-kept (sound-room t s e h) (fetching-of t s c) (eqb-false (fetch t s c .node) 0 q))))
 
-  pub begin-kept : (c : Claim) → FetchKept s t (begin t s c .after)
-  begin-kept c = begun-kept (beginning t s c)
+  -- enter reads the head, and leaves every word of the nodes as it is
+  pub entering-kept : NodesKept NoNode NoNode NoNode NoPlace t (entering t s)
+  unfolding entering
+  entering-kept = only-seats
+
+  pub enter-kept : NodesKept NoNode NoNode NoNode NoPlace t (enter t s .after)
+  enter-kept = entered (enters t s)
     where
-      begun-kept : {d : Done Answer} → Beginning t s c d → FetchKept s t (d .after)
-      begun-kept (begin-refused k r) = kept-same t
-      begun-kept (begin-accepted {f = f} e h p i z w) = unfold begun in
+      entered : {d : Done Answer} → Entering t s d → NodesKept NoNode NoNode NoNode NoPlace t (d .after)
+      entered (enter-refused k r) = kept-same t
+      entered (enter-accepted e h p) = entering-kept
+
+  pub step-7-kept : phase t s ≡ 7 → NodesKept NoNode NoNode NoNode NoPlace t (step t s .after)
+  step-7-kept e = rw (step-enters t s e) enter-kept
+
+  pub reserve-kept : (c : Claim) → FetchKept s t (reserve t s c .after)
+  reserve-kept c = reserved-kept (reserving t s c)
+    where
+      reserved-kept : {d : Done Answer} → Reserving t s c d → FetchKept s t (d .after)
+      reserved-kept (reserve-refused k r) = kept-same t
+      reserved-kept (reserve-accepted {f = f} e h p i z w) = unfold reserved in
           branch (λ (d : Done Answer). FetchKept s t (d .after)) (f .node is 0)
           (λ q. kept-same t) (λ q. fetched-kept (sound-room t s e h) w (eqb-false (f .node) 0 q))
 

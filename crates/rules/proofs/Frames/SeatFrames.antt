@@ -13,16 +13,16 @@ use Rattle.rules.specs.Shape.{sound}
 use Rattle.rules.specs.Fetch.{Fetched, writeClaim, takeNode, takenOut}
 use Rattle.rules.specs.Answers.{Answer, Done}
 use Rattle.rules.specs.Steps.{refetched, linkIn}
-use Rattle.rules.specs.Calls.{begun}
-use Rattle.rules.specs.Play.{Call, beginCall, stepCall, releaseCall, call, seatOf}
+use Rattle.rules.specs.Calls.{reserved}
+use Rattle.rules.specs.Play.{Call, reserveCall, stepCall, releaseCall, call, seatOf, enterCall}
 use Rattle.rules.specs.Apart.{OtherSeatsKept}
 use Rattle.rules.proofs.Ground.Logic.{branch}
 use Rattle.rules.proofs.Laws.Words.{seat-within}
 use Rattle.rules.proofs.Laws.Shape.{is-sound}
 use Rattle.rules.proofs.Rules.Effects.{Room, Seated}
-use Rattle.rules.proofs.Rules.RuleEffects.{phase-stored, cur-stored, place-stored, pass-stored, start-stored, hold-stored, withdraw-stored, leave-stored, enter-stored}
-use Rattle.rules.proofs.Rules.Reasons.{Unlinking, takes-out, goes-past, Starting, as-reader, as-writer, Inserting, links-in, restarts, rereads, Walking, inserts, unlinks, passes, waits, Waking, wakes, stays, ReaderValidating, reader-holds, reader-unlinks, reader-passes, reader-waits, WriterValidating, writer-holds, writer-unlinks, writer-passes, withdraws, Validating, validates-reader, validates-writer, Fetching, found, found-then, none, Stepping, in-1, in-2, in-3, in-4, in-6, at-rest}
-use Rattle.rules.proofs.Rules.Accepting.{Beginning, begin-refused, begin-accepted, beginning, Stepped, step-refused, step-accepted, stepped, Releasing, release-refused, release-accepted, releasing}
+use Rattle.rules.proofs.Rules.RuleEffects.{phase-stored, cur-stored, place-stored, pass-stored, start-stored, hold-stored, withdraw-stored, leave-stored, enter-stored, reserve-stored}
+use Rattle.rules.proofs.Rules.Reasons.{Unlinking, takes-out, goes-past, Starting, as-reader, as-writer, Inserting, links-in, restarts, rereads, Walking, inserts, unlinks, passes, waits, Waking, wakes, stays, ReaderValidating, reader-holds, reader-unlinks, reader-passes, reader-waits, WriterValidating, writer-holds, writer-unlinks, writer-passes, withdraws, Validating, validates-reader, validates-writer, Fetching, found, found-then, none, Stepping, in-1, in-2, in-3, in-4, in-6, at-rest, in-7}
+use Rattle.rules.proofs.Rules.Accepting.{Reserving, reserve-refused, reserve-accepted, reserving, Stepped, step-refused, step-accepted, stepped, Releasing, release-refused, release-accepted, releasing, Entering, enter-refused, enter-accepted, enters}
 use Rattle.rules.proofs.Laws.NodesAlone.{taken-out-seats}
 
 pub sound-room : (t : Tables) (s : ℕ) → sound t ≡ true → s < seatCount t → Room t s
@@ -77,7 +77,7 @@ module _ (t : Tables) (s : ℕ) (r : Room t s) where
 
   taking : (a : ℕ) (c : Claim) → OtherSeatsKept s t (takeNode t s a c)
   unfolding takeNode writeClaim
-  taking a c = others (enter-stored (writeClaim t a c) s r a)
+  taking a c = others (reserve-stored (writeClaim t a c) s r a)
 
 taking-then : (t : Tables) (s : ℕ) → Room t s → (a : ℕ) (c : Claim) → OtherSeatsKept s t (takeNode (takenOut t) s a c)
 taking-then t s r a c =
@@ -95,9 +95,9 @@ module _ (t : Tables) (s : ℕ) where
   unfolding refetched
   refetching f w = branch (λ (d : Done Answer). OtherSeatsKept s t (d .after)) (f .node is 0) (λ e. same s t) (λ e. w)
 
-  begun-keeps : (f : Fetched) → OtherSeatsKept s t (f .after) → OtherSeatsKept s t (begun t f .after)
-  unfolding begun
-  begun-keeps f w = branch (λ (d : Done Answer). OtherSeatsKept s t (d .after)) (f .node is 0) (λ e. same s t) (λ e. w)
+  reserved-keeps : (f : Fetched) → OtherSeatsKept s t (f .after) → OtherSeatsKept s t (reserved t f .after)
+  unfolding reserved
+  reserved-keeps f w = branch (λ (d : Done Answer). OtherSeatsKept s t (d .after)) (f .node is 0) (λ e. same s t) (λ e. w)
 
   stepping : {d : Done Answer} → Room t s → Stepping t s d → OtherSeatsKept s t (d .after)
   stepping r (in-1 e w) = walking t s r w
@@ -105,15 +105,20 @@ module _ (t : Tables) (s : ℕ) where
   stepping r (in-3 e w) = validating t s r w
   stepping r (in-4 e w) = waking t s r w
   stepping r (in-6 {f = f} e w) = refetching f (fetching t s r w)
-  stepping r (at-rest a b c d e) = same s t
+  stepping r (in-7 e) = others (enter-stored t s r)
+  stepping r (at-rest a b c d e f) = same s t
 
   step-others : {d : Done Answer} → Stepped t s d → OtherSeatsKept s t (d .after)
   step-others (step-refused k r) = same s t
   step-others (step-accepted e h b w) = stepping (sound-room t s e h) w
 
-  begin-others : {c : Claim} {d : Done Answer} → Beginning t s c d → OtherSeatsKept s t (d .after)
-  begin-others (begin-refused k r) = same s t
-  begin-others (begin-accepted {f = f} e h p i z w) = begun-keeps f (fetching t s (sound-room t s e h) w)
+  reserve-others : {c : Claim} {d : Done Answer} → Reserving t s c d → OtherSeatsKept s t (d .after)
+  reserve-others (reserve-refused k r) = same s t
+  reserve-others (reserve-accepted {f = f} e h p i z w) = reserved-keeps f (fetching t s (sound-room t s e h) w)
+
+  enter-others : {d : Done Answer} → Entering t s d → OtherSeatsKept s t (d .after)
+  enter-others (enter-refused k r) = same s t
+  enter-others (enter-accepted e h p) = others (enter-stored t s (sound-room t s e h))
 
   release-others : {d : Done Answer} → Releasing t s d → OtherSeatsKept s t (d .after)
   release-others (release-refused k r) = same s t
@@ -121,6 +126,7 @@ module _ (t : Tables) (s : ℕ) where
 
 pub other-seats-kept : (t : Tables) (c : Call) → OtherSeatsKept (seatOf c) t (call t c .after)
 unfolding call
-other-seats-kept t (beginCall s c) = begin-others t s (beginning t s c)
+other-seats-kept t (reserveCall s c) = reserve-others t s (reserving t s c)
+other-seats-kept t (enterCall s) = enter-others t s (enters t s)
 other-seats-kept t (stepCall s) = step-others t s (stepped t s)
 other-seats-kept t (releaseCall s) = release-others t s (releasing t s)

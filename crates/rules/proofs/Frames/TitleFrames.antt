@@ -1,4 +1,4 @@
--- No call but clear changes the title, and where no node's claim ends beyond it, none does after a call: begin tests the claim that it writes, and a
+-- No call but clear changes the title, and where no node's claim ends beyond it, none does after a call: reserve tests the claim that it writes, and a
 -- step that fetches again writes the claim that its seat has. Of any tables, reached or not.
 use Prim.Native.Nat.{ℕ, _≤_}
 use mathlib.Core.Path.{_≡_, refl, sym, ap, _∙_}
@@ -9,23 +9,23 @@ use Rattle.rules.specs.Notation.{_is_}
 use Rattle.rules.specs.Tables.{Tables, nodeCount, seatCount, titleAt, countAt, startAt, endAt, kindAt, markAt, putNode, putLink, title, end, own, fresh}
 use Rattle.rules.specs.Comparison.{Claim}
 use Rattle.rules.specs.Shape.{sound}
-use Rattle.rules.specs.Fetch.{Fetched, writeClaim, enterAtHead, takeNode, takenOut}
+use Rattle.rules.specs.Fetch.{Fetched, writeClaim, reserveFor, takeNode, takenOut}
 use Rattle.rules.specs.Answers.{Answer, node, refused, Done, done}
 use Rattle.rules.specs.Steps.{kindOf, refetched}
-use Rattle.rules.specs.Calls.{clear, begun, begin}
-use Rattle.rules.specs.Play.{Call, beginCall, stepCall, releaseCall, call}
+use Rattle.rules.specs.Calls.{clear, reserved, reserve}
+use Rattle.rules.specs.Play.{Call, reserveCall, stepCall, releaseCall, call, enterCall}
 use Rattle.rules.specs.Reached.{Request, afterRequests, Reached}
 use Rattle.rules.specs.Refusing.{WithinTitle, damaged}
 use Rattle.rules.specs.Apart.{NodesKept, NoNode}
-use Rattle.rules.specs.Title.{AllWithin, BeginsBeyond}
+use Rattle.rules.specs.Title.{AllWithin, ReservesBeyond}
 use Rattle.rules.proofs.Ground.Logic.{branch, not-of}
 use Rattle.rules.proofs.Laws.Words.{node-put-field, node-put-link, node-put-at-most, count-not-title, fresh-title, fresh-node-word}
 use Rattle.rules.proofs.Laws.Shape.{is-sound}
 use Rattle.rules.proofs.Laws.RunSteps.{requests-keep, reached-has}
-use Rattle.rules.proofs.Rules.Reasons.{Fetching, found, found-then, none, Stepping, in-1, in-2, in-3, in-4, in-6, at-rest}
-use Rattle.rules.proofs.Rules.Accepting.{refusal-tells, Beginning, begin-refused, begin-accepted, beginning, Stepped, step-refused, step-accepted, stepped, Releasing, release-refused, release-accepted, releasing}
+use Rattle.rules.proofs.Rules.Reasons.{Fetching, found, found-then, none, Stepping, in-1, in-2, in-3, in-4, in-6, at-rest, in-7}
+use Rattle.rules.proofs.Rules.Accepting.{refusal-tells, Reserving, reserve-refused, reserve-accepted, reserving, Stepped, step-refused, step-accepted, stepped, Releasing, release-refused, release-accepted, releasing, Entering, enter-refused, enter-accepted, enters}
 use Rattle.rules.proofs.Rules.RefusedExactly.{not-refused, call-by-table, table-refused, clear-accepted}
-use Rattle.rules.proofs.Frames.NodeFrames.{walking, waking, validating, leaving, fetching, taking, taking-out}
+use Rattle.rules.proofs.Frames.NodeFrames.{walking, waking, validating, leaving, fetching, taking, taking-out, entering-kept}
 
 -- from t to u the title stays, and so does that all claims are within it
 pub record Stays (t u : Tables) : Type 0 where
@@ -67,7 +67,7 @@ written-at-most t a b most c i j =
     (rw (node-put-field (t .nodes) a b startAt endAt (c .start) (omega arith) (omega arith) (omega arith)) j))
 
 taken-within : (t : Tables) (s a : ℕ) (c : Claim) → WithinTitle t c → AllWithin t → AllWithin (takeNode t s a c)
-unfolding takeNode enterAtHead
+unfolding takeNode reserveFor
 taken-within t s a c i w =
     let same = kept-title (λ z. z) (taking t a c s) in
     record { some = rw same (w .some); within = λ b. rw same (written-at-most t a b (title t) c i (w .within b)) }
@@ -96,18 +96,23 @@ module _ (t : Tables) (s : ℕ) where
   stepping-stays (in-6 {f = f} e w) =
       branch (λ (d : Done Answer). Stays t (d .after)) (f .node is 0)
       (λ z. as-found t) (λ z. fetch-stays (λ all. all .within (own t s)) w)
-  stepping-stays (at-rest d₁ d₂ d₃ d₄ d₆) = as-found t
+  stepping-stays (in-7 e) = kept-stays (λ z. z) (entering-kept t s)
+  stepping-stays (at-rest d₁ d₂ d₃ d₄ d₆ d₇) = as-found t
 
   stepped-stays : {d : Done Answer} → Stepped t s d → Stays t (d .after)
   stepped-stays (step-refused k x) = as-found t
   stepped-stays (step-accepted e h b w) = stepping-stays w
 
-  begun-stays : {c : Claim} {d : Done Answer} → Beginning t s c d → Stays t (d .after)
-  unfolding begun
-  begun-stays (begin-refused k x) = as-found t
-  begun-stays (begin-accepted {f = f} e h p i z w) =
+  reserved-stays : {c : Claim} {d : Done Answer} → Reserving t s c d → Stays t (d .after)
+  unfolding reserved
+  reserved-stays (reserve-refused k x) = as-found t
+  reserved-stays (reserve-accepted {f = f} e h p i z w) =
       branch (λ (d : Done Answer). Stays t (d .after)) (f .node is 0)
       (λ q. as-found t) (λ q. fetch-stays (λ all. i) w)
+
+  entered-stays : {d : Done Answer} → Entering t s d → Stays t (d .after)
+  entered-stays (enter-refused k x) = as-found t
+  entered-stays (enter-accepted e h p) = kept-stays (λ z. z) (entering-kept t s)
 
   released-stays : {d : Done Answer} → Releasing t s d → Stays t (d .after)
   released-stays (release-refused k x) = as-found t
@@ -115,7 +120,8 @@ module _ (t : Tables) (s : ℕ) where
 
 pub call-stays : (t : Tables) (c : Call) → Stays t (call t c .after)
 unfolding call
-call-stays t (beginCall s c) = begun-stays t s (beginning t s c)
+call-stays t (reserveCall s c) = reserved-stays t s (reserving t s c)
+call-stays t (enterCall s) = entered-stays t s (enters t s)
 call-stays t (stepCall s) = stepped-stays t s (stepped t s)
 call-stays t (releaseCall s) = released-stays t s (releasing t s)
 
@@ -129,15 +135,15 @@ title-kept t requests = requests-keep (λ u. title u ≡ title t) (λ u c e. cal
 pub all-kept : (t : Tables) (requests : List Request) → AllWithin t → AllWithin (afterRequests t requests)
 all-kept t requests = requests-keep AllWithin within-kept requests t
 
--- ---- a claim is begun only within the title, and nothing but a begin is refused for ending beyond it
-begun-within : {t : Tables} {s n : ℕ} {c : Claim} {d : Done Answer} → Beginning t s c d → d .answer ≡ node n → WithinTitle t c
-begun-within (begin-refused k x) q = not-refused (sym q)
-begun-within (begin-accepted e h p i z w) q = i
+-- ---- a claim is taken only within the title, and nothing but a reserve is refused for ending beyond it
+reserved-within : {t : Tables} {s n : ℕ} {c : Claim} {d : Done Answer} → Reserving t s c d → d .answer ≡ node n → WithinTitle t c
+reserved-within (reserve-refused k x) q = not-refused (sym q)
+reserved-within (reserve-accepted e h p i z w) q = i
 
-pub node-within : (t : Tables) (s n : ℕ) (c : Claim) → begin t s c .answer ≡ node n → WithinTitle t c
-node-within t s n c = begun-within (beginning t s c)
+pub node-within : (t : Tables) (s n : ℕ) (c : Claim) → reserve t s c .answer ≡ node n → WithinTitle t c
+node-within t s n c = reserved-within (reserving t s c)
 
-pub refused-11 : (t : Tables) (c : Call) → call t c .answer ≡ refused 11 → BeginsBeyond t c
+pub refused-11 : (t : Tables) (c : Call) → call t c .answer ≡ refused 11 → ReservesBeyond t c
 refused-11 t c q = refusal-tells (call-by-table t c 11 q) .if-11 refl
 
 -- ---- damage

@@ -10,7 +10,7 @@ use Rattle.rules.specs.Comparison.{Claim, claimOf}
 use Rattle.rules.specs.Answers.{Answer, back, Done, answered}
 use Rattle.rules.specs.Steps.{withdraw}
 use Rattle.rules.specs.Calls.{step, release}
-use Rattle.rules.specs.Play.{Call, beginCall, stepCall, releaseCall, call, seatOf, afterAll}
+use Rattle.rules.specs.Play.{Call, reserveCall, stepCall, releaseCall, call, seatOf, afterAll, enterCall}
 use Rattle.rules.specs.Reached.{Request, afterRequests}
 use Rattle.rules.specs.Apart.{LinkedIn, Stands, GivesUp, released, withdrawn, GivenUp, now, later, callsMade, StillStands}
 use Rattle.rules.proofs.Ground.Deciding.{if-same}
@@ -20,8 +20,8 @@ use Rattle.rules.proofs.Invariant.View.{Linked, validating, reader-wait
 use Rattle.rules.proofs.Invariant.Phases.{linked-busy, linked-in, in-linked}
 use Rattle.rules.proofs.Rules.Effects.{Room, Seated}
 use Rattle.rules.proofs.Rules.RuleEffects.{phase-stored, cur-stored, pass-stored, hold-stored, withdraw-stored}
-use Rattle.rules.proofs.Rules.Reasons.{Unlinking, takes-out, goes-past, Waking, wakes, stays, reader-holds, reader-unlinks, reader-passes, reader-waits, writer-holds, writer-unlinks, writer-passes, withdraws, Validating, validates-reader, validates-writer, Stepping, in-1, in-2, in-3, in-4, in-6, at-rest}
-use Rattle.rules.proofs.Rules.Accepting.{Beginning, begin-refused, begin-accepted, beginning, Stepped, step-refused, step-accepted, stepped, Releasing, release-refused, release-accepted, releasing}
+use Rattle.rules.proofs.Rules.Reasons.{Unlinking, takes-out, goes-past, Waking, wakes, stays, reader-holds, reader-unlinks, reader-passes, reader-waits, writer-holds, writer-unlinks, writer-passes, withdraws, Validating, validates-reader, validates-writer, Stepping, in-1, in-2, in-3, in-4, in-6, at-rest, in-7}
+use Rattle.rules.proofs.Rules.Accepting.{Reserving, reserve-refused, reserve-accepted, reserving, Stepped, step-refused, step-accepted, stepped, Releasing, release-refused, release-accepted, releasing, Entering, enter-refused, enter-accepted, enters}
 use Rattle.rules.proofs.Keeping.Aside.{seat-room}
 use Rattle.rules.proofs.Keeping.Good.{Good}
 use Rattle.rules.proofs.Keeping.Hops.{on-list, is-listed}
@@ -68,7 +68,8 @@ module _ {N S : ℕ} {t : Tables} (g : Good N S t) (s : ℕ) (s-in : s < S) (l :
   retained-stepping (in-3 e w) = retained-3 w
   retained-stepping (in-4 e w) = retained-4 w
   retained-stepping (in-6 e w) = let z = linked-in l in absurd (omega arith)
-  retained-stepping (at-rest a b c d e) = still-linked l refl
+  retained-stepping (in-7 e) = let z = linked-in l in absurd (omega arith)
+  retained-stepping (at-rest a b c d e f) = still-linked l refl
 
 module _ {N S : ℕ} {t : Tables} (g : Good N S t) (s : ℕ) (l : Linked (phase t s)) where
   retained-step : {d : Done Answer} → Stepped t s d → Retained s t d
@@ -98,9 +99,13 @@ stands-as-it-is g s l = still-stands g s l refl refl
 
 module _ {N S : ℕ} {t : Tables} (g : Good N S t) where
   -- ---- a call of the seat itself
-  kept-by-begin : (s : ℕ) (c : Claim) {d : Done Answer} → Linked (phase t s) → Beginning t s c d → StillStands s t (d .after)
-  kept-by-begin s c l (begin-refused k x) = stands-as-it-is g s l
-  kept-by-begin s c l (begin-accepted e h p i z w) = absurd (linked-busy l z)
+  kept-by-reserve : (s : ℕ) (c : Claim) {d : Done Answer} → Linked (phase t s) → Reserving t s c d → StillStands s t (d .after)
+  kept-by-reserve s c l (reserve-refused k x) = stands-as-it-is g s l
+  kept-by-reserve s c l (reserve-accepted e h p i z w) = absurd (linked-busy l z)
+
+  kept-by-enter : (s : ℕ) {d : Done Answer} → Linked (phase t s) → Entering t s d → StillStands s t (d .after)
+  kept-by-enter s l (enter-refused k x) = stands-as-it-is g s l
+  kept-by-enter s l (enter-accepted e h p) = let z = linked-in l in absurd (omega arith)
 
   kept-by-release : (s : ℕ) {d : Done Answer} → Linked (phase t s) → Releasing t s d → release t s ≡ d → StillStands s t (d .after) ⊎ GivesUp s t (releaseCall s)
   kept-by-release s l (release-refused k x) q = inl (stands-as-it-is g s l)
@@ -115,7 +120,8 @@ module _ {N S : ℕ} {t : Tables} (g : Good N S t) where
 
   kept-by-own : (c : Call) → Linked (phase t (seatOf c)) → StillStands (seatOf c) t (call t c .after) ⊎ GivesUp (seatOf c) t c
   unfolding call
-  kept-by-own (beginCall s c) l = inl (kept-by-begin s c l (beginning t s c))
+  kept-by-own (reserveCall s c) l = inl (kept-by-reserve s c l (reserving t s c))
+  kept-by-own (enterCall s) l = inl (kept-by-enter s l (enters t s))
   kept-by-own (stepCall s) l = kept-by-step s l
   kept-by-own (releaseCall s) l = kept-by-release s l (releasing t s) refl
 

@@ -8,6 +8,7 @@ use Rattle.rules.proofs.Ground.Following.{Ends}
 use Rattle.rules.specs.Reach.{Reach}
 use Rattle.rules.proofs.Laws.Compared.{Precedes}
 use Rattle.rules.proofs.Invariant.View.{Nodes, Seats, claimAt, Unmarked, Outside, Linked}
+use Rattle.rules.proofs.Laws.Shape.{Resting}
 
 -- ---- sound shape, as far as the view shows it
 -- "nonzero .. names a node of kind 1 or 2"
@@ -30,9 +31,9 @@ pub record NodeShape (N : ℕ) (n : Nodes) : Type 0 where
 
 -- of a seat with phase P, own O, prev Q and cur C; that an idle one has only zeros is known of all its words, beside the view
 pub record SeatShape (N : ℕ) (claims : ℕ → Claim) (P O Q C : ℕ) : Type 0 where
-  pub is-phase : P ≤ 6
+  pub is-phase : P ≤ 7
   pub owning : P ≢ 0 → 0 < O
-  pub resting : (P ≡ 5) ⊎ (P ≡ 6) → (Q ≡ 0) × (C ≡ 0)
+  pub resting : Resting P → (Q ≡ 0) × (C ≡ 0)
   pub at-cur : (P ≡ 2) ⊎ (P ≡ 4) → 0 < C
   pub own-named : Named N claims O
   pub prev-named : Named N claims Q

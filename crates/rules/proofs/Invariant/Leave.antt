@@ -8,6 +8,7 @@ use Rattle.rules.proofs.Ground.Deciding.{if-same}
 use Rattle.rules.proofs.Ground.Following.{not-from-0}
 use Rattle.rules.proofs.Invariant.View.{Nodes, Seats, claimAt, Unmarked, remark, Reseated, Outside, Linked}
 use Rattle.rules.proofs.Invariant.Phases.{outside-busy, linked-busy, outside-not-gone, linked-not-gone}
+use Rattle.rules.proofs.Laws.Shape.{in-6}
 use Rattle.rules.proofs.Invariant.Clauses.{NodeShape, SeatShape, Seen, from-head, from-prev, from-cur, Ahead, reader-comes, writer-comes, Invariant}
 use Rattle.rules.specs.Refusing.{Proper}
 use Rattle.rules.proofs.Invariant.Known.{own-pos, own-proper}
@@ -77,7 +78,7 @@ module _ {N : ℕ} {n : Nodes} {s u : Seats} (v : Invariant N n s) (new : ℕ �
 
   seat : SeatShape N (claimAt n) P O 0 0
   seat = elim leaves [
-    | withdraws p q ↦ rw q (at-rest (inr p) (own-pos v i (linked-busy linked-i)) (v .seats i .own-named))
+    | withdraws p q ↦ rw q (at-rest (in-6 p) (own-pos v i (linked-busy linked-i)) (v .seats i .own-named))
     | releases p q ↦ rw q (idle-seat p)
   ]
 

@@ -3,9 +3,10 @@ use mathlib.Core.Logic.{_≢_}
 use Prim.Native.Nat.{ℕ, _≤_}
 use native.Mathlib.Omega.{arith}
 use Rattle.rules.proofs.Ground.Deciding.{if-same}
-use Rattle.rules.proofs.Invariant.View.{Outside, walking, waiting, Linked, validating, reader-waiting, holding}
+use Rattle.rules.proofs.Invariant.View.{Outside, reserved, walking, waiting, Linked, validating, reader-waiting, holding}
 
 pub outside-busy : {p : ℕ} → Outside p → p ≢ 0
+outside-busy (reserved e) = omega arith
 outside-busy (walking e) = omega arith
 outside-busy (waiting e) = omega arith
 
@@ -20,10 +21,14 @@ linked-not-gone (reader-waiting e) = omega arith
 linked-not-gone (holding e) = omega arith
 
 pub outside-not-gone : {p : ℕ} → Outside p → p ≢ 6
+outside-not-gone (reserved e) = omega arith
 outside-not-gone (walking e) = omega arith
 outside-not-gone (waiting e) = omega arith
 
 pub not-both : {p : ℕ} → Outside p → Linked p → ⊥
+not-both (reserved e) (validating d) = omega arith
+not-both (reserved e) (reader-waiting d) = omega arith
+not-both (reserved e) (holding d) = omega arith
 not-both (walking e) (validating d) = omega arith
 not-both (walking e) (reader-waiting d) = omega arith
 not-both (walking e) (holding d) = omega arith

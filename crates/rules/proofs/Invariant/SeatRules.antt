@@ -6,8 +6,9 @@ use native.Mathlib.Omega.{arith}
 use Rattle.rules.proofs.Ground.Following.{reach-source, not-from-0, beyond}
 use Rattle.rules.specs.Reach.{Reach, here, there}
 use Rattle.rules.proofs.Laws.Compared.{Precedes}
-use Rattle.rules.proofs.Invariant.View.{Nodes, Seats, claimAt, Marked, Outside, walking, waiting, Linked, validating, reader-waiting, holding}
+use Rattle.rules.proofs.Invariant.View.{Nodes, Seats, claimAt, Marked, Outside, reserved, walking, waiting, Linked, validating, reader-waiting, holding}
 use Rattle.rules.proofs.Invariant.Phases.{outside-busy, linked-busy, not-both}
+use Rattle.rules.proofs.Laws.Shape.{in-5}
 use Rattle.rules.proofs.Invariant.Clauses.{Seen, from-cur, Invariant}
 use Rattle.rules.proofs.Invariant.Known.{Known, known-head, known-cur, known-prev, known-next, known-link, known-named, own-proper, own-pos, ordered-along}
 use Rattle.rules.proofs.Invariant.SeatShapes.{not-waiting, on-its-way, at-rest}
@@ -33,6 +34,9 @@ module _ {N : ℕ} {n : Nodes} {s u : Seats} {i : ℕ} (v : Invariant N n s) whe
 
   pub restart-keeps : Moved s u i 1 0 (n .link 0) → s .phase i ≡ 1 → Invariant N n u
   restart-keeps m e = walk-to m (walking e) (inl refl) known-head (λ z. absurd (omega arith))
+
+  pub enter-keeps : Moved s u i 1 (s .prev i) (n .link 0) → s .phase i ≡ 7 → Invariant N n u
+  enter-keeps m e = walk-to m (reserved e) (known-prev i) known-head (v .passed i (reserved e))
 
   pub reread-keeps : Moved s u i 1 (s .prev i) (n .link (s .prev i)) → s .phase i ≡ 1 → Invariant N n u
   reread-keeps m e = walk-to m (walking e) (known-prev i) (known-link i) (v .passed i (walking e))
@@ -113,7 +117,7 @@ module _ {N : ℕ} {n : Nodes} {s u : Seats} {i : ℕ} (v : Invariant N n s) whe
       → Reach (n .link) (s .own j) (s .cur i) → ⊥) → Invariant N n u
   hold-if m l f =
       move m (both-linked l (holding refl)) v (inl refl) (inl refl)
-      (at-rest (inl refl) (own-pos v i (linked-busy l)) (v .seats i .own-named)) (not-stuck (omega arith) (omega arith))
+      (at-rest (in-5 refl) (own-pos v i (linked-busy l)) (v .seats i .own-named)) (not-stuck (omega arith) (omega arith))
       (λ o. absurd (not-both o l)) (λ z k c. absurd (omega arith)) (λ j d z lj x r. absurd (f j d lj x r))
 
   -- a reader at the end, or at what starts behind it

@@ -5,6 +5,7 @@ use Prim.Native.Nat.{ℕ, _≤_, _<_}
 use native.Mathlib.Omega.{arith}
 use Rattle.rules.specs.Comparison.{Claim}
 use Rattle.rules.proofs.Invariant.Clauses.{Named, nothing, SeatShape}
+use Rattle.rules.proofs.Laws.Shape.{Resting, in-5, in-6, in-7}
 
 pub not-waiting : {P C : ℕ} → P ≢ 2 → P ≢ 4 → (P ≡ 2) ⊎ (P ≡ 4) → 0 < C
 not-waiting f g (inl e) = absurd (f e)
@@ -15,19 +16,19 @@ pub on-its-way : {N : ℕ} {claims : ℕ → Claim} {P O Q C : ℕ} → P ≢ 0 
 on-its-way z h f o on pn cn = record {
   is-phase = omega arith;
   owning = λ e. o;
-  resting = λ e. absurd (elim e [ inl x ↦ omega arith | inr x ↦ omega arith ]);
+  resting = λ e. absurd (elim e [ in-5 x ↦ omega arith | in-6 x ↦ omega arith | in-7 x ↦ omega arith ]);
   at-cur = f;
   own-named = on;
   prev-named = pn;
   cur-named = cn;
 }
 
-pub at-rest : {N : ℕ} {claims : ℕ → Claim} {P O : ℕ} → (P ≡ 5) ⊎ (P ≡ 6) → 0 < O → Named N claims O → SeatShape N claims P O 0 0
+pub at-rest : {N : ℕ} {claims : ℕ → Claim} {P O : ℕ} → Resting P → 0 < O → Named N claims O → SeatShape N claims P O 0 0
 at-rest p o on = record {
-  is-phase = elim p [ inl x ↦ omega arith | inr x ↦ omega arith ];
+  is-phase = elim p [ in-5 x ↦ omega arith | in-6 x ↦ omega arith | in-7 x ↦ omega arith ];
   owning = λ e. o;
   resting = λ e. (refl, refl);
-  at-cur = not-waiting (elim p [ inl x ↦ omega arith | inr x ↦ omega arith ]) (elim p [ inl x ↦ omega arith | inr x ↦ omega arith ]);
+  at-cur = not-waiting (elim p [ in-5 x ↦ omega arith | in-6 x ↦ omega arith | in-7 x ↦ omega arith ]) (elim p [ in-5 x ↦ omega arith | in-6 x ↦ omega arith | in-7 x ↦ omega arith ]);
   own-named = on;
   prev-named = nothing refl;
   cur-named = nothing refl;

@@ -1,4 +1,4 @@
--- A free node is taken for a claim: begin, and the step of a withdrawn seat. The invariant stays, since no one can come to the node.
+-- A free node is taken for a claim: reserve, and the step of a withdrawn seat. The invariant stays, since no one can come to the node.
 use mathlib.Core.Path.{_≡_, refl, sym, _∙_, ap, subst, subst₂}
 use mathlib.Core.Logic.{_≢_, _⊎_, inl, inr}
 use Prim.Native.Nat.{ℕ, _≤_, _<_}
@@ -7,13 +7,14 @@ use Rattle.rules.proofs.Ground.Deciding.{if-same}
 use Rattle.rules.proofs.Ground.Following.{reach-on, not-from-0, away-keeps-reach, away-adds-none, away-keeps-ends}
 use Rattle.rules.specs.Reach.{Reach, here, there}
 use Rattle.rules.proofs.Laws.Compared.{Precedes}
-use Rattle.rules.proofs.Invariant.View.{Nodes, Seats, claimAt, Reseated, Outside, walking, Linked}
+use Rattle.rules.proofs.Invariant.View.{Nodes, Seats, claimAt, Reseated, Outside, Linked, reserved}
 use Rattle.rules.proofs.Invariant.Phases.{linked-busy, linked-not-gone, not-both}
 use Rattle.rules.proofs.Invariant.Clauses.{Named, nothing, node, NodeShape, SeatShape, OnList, Seen, from-head, from-prev, from-cur, Ordered, Private, Stuck, Ahead, reader-comes, writer-comes, Invariant}
 use Rattle.rules.specs.Refusing.{Proper}
 use Rattle.rules.proofs.Invariant.Known.{seen-pos}
-use Rattle.rules.proofs.Invariant.SeatShapes.{not-waiting, on-its-way}
+use Rattle.rules.proofs.Invariant.SeatShapes.{at-rest}
 use Rattle.rules.proofs.Invariant.SeatMoves.{not-stuck}
+use Rattle.rules.proofs.Laws.Shape.{in-7}
 
 -- o is not on the list, is no other seat's own, and is not met from any other seat's prev or cur
 pub record Free (n : Nodes) (s : Seats) (i o : ℕ) : Type 0 where
@@ -75,8 +76,8 @@ module _ {n n′ : Nodes} {o : ℕ} (w : Written n n′ o) where
     cur-named = named-same (h .cur-named);
   }
 
-module _ {N : ℕ} {n n′ : Nodes} {s u : Seats} {i o C : ℕ} (v : Invariant N n s) (f : Free n s i o) (w : Written n n′ o)
-    (m : Reseated s u i 1 o 0 C) (at-head : C ≡ n .link 0) where
+module _ {N : ℕ} {n n′ : Nodes} {s u : Seats} {i o : ℕ} (v : Invariant N n s) (f : Free n s i o) (w : Written n n′ o)
+    (m : Reseated s u i 7 o 0 0) where
   abbrev Away : ℕ → Type 0
   Away a = Reach (n .link) o a → ⊥
 
@@ -110,7 +111,7 @@ module _ {N : ℕ} {n n′ : Nodes} {s u : Seats} {i o C : ℕ} (v : Invariant N
       (λ d. let q = adds-none (f .not-prev j d) (rw (m .prev-j j d) at r) in (from-prev j q, λ z. f .not-prev j d (reach-on q z)))
   seen-was (from-cur j r) =
       if-same j i
-      (λ e. let q = adds-none (f .off-list) (rw (ap (u .cur) e ∙ m .cur-i ∙ at-head) at r) in (from-head q, λ z. f .off-list (reach-on q z)))
+      (λ e. absurd (not-from-0 r (ap (u .cur) e ∙ m .cur-i)))
       (λ d. let q = adds-none (f .not-cur j d) (rw (m .cur-j j d) at r) in (from-cur j q, λ z. f .not-cur j d (reach-on q z)))
 
   was-busy : (j : ℕ) → j ≢ i → u .phase j ≢ 0 → s .phase j ≢ 0
@@ -119,7 +120,7 @@ module _ {N : ℕ} {n n′ : Nodes} {s u : Seats} {i o C : ℕ} (v : Invariant N
   was-linked : (j : ℕ) → Linked (u .phase j) → (j ≢ i) × Linked (s .phase j)
   was-linked j h =
       if-same j i
-      (λ e. absurd (not-both (walking (ap (u .phase) e ∙ m .phase-i)) h))
+      (λ e. absurd (not-both (reserved (ap (u .phase) e ∙ m .phase-i)) h))
       (λ d. (d, rw (m .phase-j j d) at h))
 
   prev-not-o : (j : ℕ) → j ≢ i → s .prev j ≢ o
@@ -159,9 +160,7 @@ module _ {N : ℕ} {n n′ : Nodes} {s u : Seats} {i o C : ℕ} (v : Invariant N
   take-keeps o-in idle = record {
     nodes = written-shape w (f .is-node) (v .nodes);
     seats = λ j. if-same j i
-        (λ e. rw (e, m .phase-i, m .own-i, m .prev-i, m .cur-i, at-head)
-        (on-its-way (omega arith) (omega arith) (not-waiting (omega arith) (omega arith)) (f .is-node) (node (f .is-node) o-in (w .proper))
-        (nothing refl) (named-same w (v .nodes .links 0))))
+        (λ e. rw (e, m .phase-i, m .own-i, m .prev-i, m .cur-i) (at-rest (in-7 refl) (f .is-node) (node (f .is-node) o-in (w .proper))))
         (λ d. rw (m .phase-j j d, m .own-j j d, m .prev-j j d, m .cur-j j d) (seat-same w (v .seats j)));
     distinct = distinct;
     outside = outside;

@@ -56,6 +56,7 @@ pub record Reseated (s u : Seats) (i P O Q C : ℕ) : Type 0 where
 -- ---- the classes of phases
 -- the claim is not on the list yet
 pub data Outside (p : ℕ) : Type 0 where
+  reserved : p ≡ 7 → Outside p
   walking : p ≡ 1 → Outside p
   waiting : p ≡ 2 → Outside p
 

@@ -9,8 +9,8 @@ use Rattle.rules.specs.Comparison.{Claim, claimOf}
 use Rattle.rules.specs.Fetch.{Fetched}
 use Rattle.rules.specs.Answers.{Answer, Done}
 use Rattle.rules.specs.Steps.{refetched}
-use Rattle.rules.specs.Calls.{begun, step}
-use Rattle.rules.specs.Play.{Call, beginCall, stepCall, releaseCall, call}
+use Rattle.rules.specs.Calls.{reserved, step}
+use Rattle.rules.specs.Play.{Call, reserveCall, stepCall, releaseCall, call, enterCall}
 use Rattle.rules.specs.Reached.{Reached}
 use Rattle.rules.proofs.Ground.Logic.{branch}
 use Rattle.rules.proofs.Laws.Words.{seat-count, fresh-nodes-length, fresh-seats-length, fresh-node-word, fresh-link, fresh-seat-word}
@@ -21,11 +21,11 @@ use Rattle.rules.proofs.Invariant.Clauses.{nothing, Seen, from-head, fr
 use Rattle.rules.proofs.Invariant.Known.{own-proper}
 use Rattle.rules.proofs.Invariant.SeatShapes.{idle-seat}
 use Rattle.rules.proofs.Invariant.SeatMoves.{not-stuck}
-use Rattle.rules.proofs.Rules.Reasons.{Stepping, in-1, in-2, in-3, in-4, in-6, at-rest}
-use Rattle.rules.proofs.Rules.Accepting.{Beginning, begin-refused, begin-accepted, beginning, Stepped, step-refused, step-accepted, stepped, Releasing, release-refused, release-accepted, releasing}
+use Rattle.rules.proofs.Rules.Reasons.{Stepping, in-1, in-2, in-3, in-4, in-6, at-rest, in-7}
+use Rattle.rules.proofs.Rules.Accepting.{Reserving, reserve-refused, reserve-accepted, reserving, Stepped, step-refused, step-accepted, stepped, Releasing, release-refused, release-accepted, releasing, Entering, enter-refused, enter-accepted, enters}
 use Rattle.rules.proofs.Laws.RunSteps.{reached-has}
 use Rattle.rules.proofs.Keeping.Good.{Good}
-use Rattle.rules.proofs.Keeping.StepKeeps.{walking-keeps, waiting-keeps, reader-waiting-keeps, validating-keeps, leave-keeps}
+use Rattle.rules.proofs.Keeping.StepKeeps.{walking-keeps, waiting-keeps, reader-waiting-keeps, validating-keeps, leave-keeps, entering-keeps}
 use Rattle.rules.proofs.Keeping.FetchKeeps.{fetch-keeps}
 
 -- ---- single calls
@@ -37,9 +37,9 @@ module _ {N S : ℕ} {t : Tables} (g : Good N S t) (s : ℕ) where
   unfolding refetched
   refetched-good f h = branch (λ (d : Done Answer). Good N S (d .after)) (f .node is 0) (λ e. g) (λ e. h)
 
-  begun-good : (f : Fetched) → Good N S (f .after) → Good N S (begun t f .after)
-  unfolding begun
-  begun-good f h = branch (λ (d : Done Answer). Good N S (d .after)) (f .node is 0) (λ e. g) (λ e. h)
+  reserved-good : (f : Fetched) → Good N S (f .after) → Good N S (reserved t f .after)
+  unfolding reserved
+  reserved-good f h = branch (λ (d : Done Answer). Good N S (d .after)) (f .node is 0) (λ e. g) (λ e. h)
 
   stepping-keeps : {d : Done Answer} → s < S → Stepping t s d → Good N S (d .after)
   stepping-keeps h (in-1 e w) = walking-keeps g s h e w
@@ -47,7 +47,8 @@ module _ {N S : ℕ} {t : Tables} (g : Good N S t) (s : ℕ) where
   stepping-keeps h (in-3 e w) = validating-keeps g s h e w
   stepping-keeps h (in-4 e w) = reader-waiting-keeps g s h e w
   stepping-keeps h (in-6 {f = f} e w) = refetched-good f (fetch-keeps g s h (claimOf t (own t s)) (own-proper (g .inv) s (omega arith)) (inr e) w)
-  stepping-keeps h (at-rest a b c d e) = g
+  stepping-keeps h (in-7 e) = entering-keeps g s h e
+  stepping-keeps h (at-rest a b c d e f) = g
 
   stepped-keeps : {d : Done Answer} → Stepped t s d → Good N S (d .after)
   stepped-keeps (step-refused k r) = g
@@ -56,9 +57,13 @@ module _ {N S : ℕ} {t : Tables} (g : Good N S t) (s : ℕ) where
   pub step-keeps : Good N S (step t s .after)
   step-keeps = stepped-keeps (stepped t s)
 
-  beginning-keeps : {c : Claim} {d : Done Answer} → Beginning t s c d → Good N S (d .after)
-  beginning-keeps (begin-refused k r) = g
-  beginning-keeps {c} (begin-accepted {f = f} e h p i z w) = begun-good f (fetch-keeps g s (seat-in h) c p (inl z) w)
+  reserving-keeps : {c : Claim} {d : Done Answer} → Reserving t s c d → Good N S (d .after)
+  reserving-keeps (reserve-refused k r) = g
+  reserving-keeps {c} (reserve-accepted {f = f} e h p i z w) = reserved-good f (fetch-keeps g s (seat-in h) c p (inl z) w)
+
+  enters-keeps : {d : Done Answer} → Entering t s d → Good N S (d .after)
+  enters-keeps (enter-refused k r) = g
+  enters-keeps (enter-accepted e h p) = entering-keeps g s (seat-in h) p
 
   releasing-keeps : {d : Done Answer} → Releasing t s d → Good N S (d .after)
   releasing-keeps (release-refused k r) = g
@@ -66,7 +71,8 @@ module _ {N S : ℕ} {t : Tables} (g : Good N S t) (s : ℕ) where
 
 pub call-keeps : {N S : ℕ} {t : Tables} → Good N S t → (c : Call) → Good N S (call t c .after)
 unfolding call
-call-keeps {t = t} g (beginCall s c) = beginning-keeps g s (beginning t s c)
+call-keeps {t = t} g (reserveCall s c) = reserving-keeps g s (reserving t s c)
+call-keeps {t = t} g (enterCall s) = enters-keeps g s (enters t s)
 call-keeps {t = t} g (stepCall s) = step-keeps g s
 call-keeps {t = t} g (releaseCall s) = releasing-keeps g s (releasing t s)
 

@@ -1,21 +1,21 @@
 -- Fetch leaves good tables good, whether it finds a node or none.
 use Prim.Native.Nat.{ℕ, _+_, _*_, _≤_, _<_}
-use mathlib.Core.Path.{_≡_, sym, _∙_}
+use mathlib.Core.Path.{_≡_, _∙_}
 use mathlib.Core.Bool.{true}
 use mathlib.Core.Logic.{_≢_, _⊎_}
 use native.Mathlib.Omega.{arith}
 use lib.ListN.{length}
-use Rattle.rules.specs.Tables.{Tables, beforeNodes, nodeWidth, nodeCount, nodeWord, startAt, endAt, kindAt, markAt, nextAt, head, phase}
+use Rattle.rules.specs.Tables.{Tables, beforeNodes, nodeWidth, nodeCount, nodeWord, startAt, endAt, kindAt, markAt, nextAt, phase}
 use Rattle.rules.specs.Comparison.{Claim}
 use Rattle.rules.specs.Reach.{free, lowestFree}
-use Rattle.rules.specs.Fetch.{Fetched, writeClaim, enterAtHead, takeNode}
+use Rattle.rules.specs.Fetch.{Fetched, writeClaim, takeNode, reserveFor}
 use Rattle.rules.proofs.Laws.Words.{link-node, node-count}
 use Rattle.rules.proofs.Ground.Counting.{lowest-has}
 use Rattle.rules.proofs.Invariant.View.{nodesOf}
 use Rattle.rules.specs.Refusing.{Proper}
 use Rattle.rules.proofs.Invariant.Take.{Written, take-keeps}
 use Rattle.rules.proofs.Rules.Effects.{stored, reseated, Noded, node-as-found, put-word, put-next}
-use Rattle.rules.proofs.Rules.RuleEffects.{enter-stored}
+use Rattle.rules.proofs.Rules.RuleEffects.{reserve-stored}
 use Rattle.rules.proofs.Rules.Reasons.{Fetching, found, found-then, none}
 use Rattle.rules.proofs.Keeping.Aside.{not-idle, seat-put, node-room, seat-room, claim-put}
 use Rattle.rules.proofs.Keeping.Good.{Good}
@@ -52,17 +52,14 @@ written t a c z r p =
     }
 
 module _ {N S : ℕ} {t : Tables} (g : Good N S t) (s : ℕ) (s-in : s < S) (c : Claim) (proper : Proper c) (may : (phase t s ≡ 0) ⊎ (phase t s ≡ 6)) where
-  -- the claim is written first, and then the seat reads the head
   take-good : (a : ℕ) → free t s a ≡ true → a ≢ 0 → a ≤ N → Good N S (takeNode t s a c)
-  unfolding takeNode enterAtHead writeClaim
+  unfolding takeNode reserveFor writeClaim
   take-good a f z h =
-      let wrote = claim-written t a c z (node-room (g .aside) a h) in
       let u = writeClaim t a c in
-      let same-head : head u ≡ head t = wrote .links 0 (λ e. z (sym e)) in
-      let sat = enter-stored u s (seat-room (g .aside) s s-in) a in
+      let sat = reserve-stored u s (seat-room (g .aside) s s-in) a in
       record {
         aside = seat-put (claim-put (g .aside) a c) sat (not-idle (omega arith));
-        inv = take-keeps (g .inv) (is-free g s a f z h) (written t a c z (node-room (g .aside) a h) proper) (reseated t (enterAtHead u s a) sat) same-head h may;
+        inv = take-keeps (g .inv) (is-free g s a f z h) (written t a c z (node-room (g .aside) a h) proper) (reseated t (reserveFor u s a) sat) h may;
       }
 
   -- the lowest free node is free

@@ -5,7 +5,7 @@ use mathlib.Core.Logic.{_≢_, _⊎_, inl, inr}
 use native.Mathlib.Omega.{arith}
 use Rattle.rules.specs.Tables.{Tables, markAt, kindAt, kind, mark, link, next, head, phase, own, prev, cur, setLink, setPhase, setCur}
 use Rattle.rules.specs.Comparison.{claimOf}
-use Rattle.rules.specs.Steps.{linkIn, pass, kindOf, hold, withdraw, leave}
+use Rattle.rules.specs.Steps.{linkIn, pass, kindOf, hold, withdraw, leave, entering}
 use Rattle.rules.proofs.Ground.Deciding.{if-same}
 use Rattle.rules.proofs.Laws.Words.{link-put-same, link-put-other, node-put-link}
 use Rattle.rules.proofs.Laws.Compared.{Precedes}
@@ -13,11 +13,11 @@ use Rattle.rules.proofs.Invariant.View.{nodesOf, seatsOf, Linked, valid
 use Rattle.rules.proofs.Invariant.Clauses.{Invariant}
 use Rattle.rules.proofs.Invariant.SeatMoves.{Moved}
 use Rattle.rules.proofs.Invariant.Known.{known-prev, own-proper}
-use Rattle.rules.proofs.Invariant.SeatRules.{pass-keeps, skip-keeps, restart-keeps, reread-keeps, wake-keeps, wait-keeps, pass-reader-keeps, pass-writer-keeps, skip-validating-keeps, reader-wakes-keeps, reader-waits-keeps, hold-reader-keeps, hold-writer-keeps}
+use Rattle.rules.proofs.Invariant.SeatRules.{pass-keeps, skip-keeps, restart-keeps, enter-keeps, reread-keeps, wake-keeps, wait-keeps, pass-reader-keeps, pass-writer-keeps, skip-validating-keeps, reader-wakes-keeps, reader-waits-keeps, hold-reader-keeps, hold-writer-keeps}
 use Rattle.rules.proofs.Invariant.Insert.{reader, writer}
 use Rattle.rules.proofs.Invariant.Leave as leaving
 use Rattle.rules.proofs.Rules.Effects.{Room}
-use Rattle.rules.proofs.Rules.RuleEffects.{phase-stored, cur-stored, place-stored, pass-stored, start-stored, hold-stored, withdraw-stored, leave-stored}
+use Rattle.rules.proofs.Rules.RuleEffects.{phase-stored, cur-stored, place-stored, pass-stored, start-stored, hold-stored, withdraw-stored, leave-stored, enter-stored}
 use Rattle.rules.proofs.Rules.Reasons.{Joined, Unlinking, takes-out, goes-past, Starting, as-reader, as-writer, Inserting, links-in, restarts, rereads, Walking, inserts, unlinks, passes, waits, Waking, wakes, stays, ReaderValidating, reader-holds, reader-unlinks, reader-passes, reader-waits, WriterValidating, writer-holds, writer-unlinks, writer-passes, withdraws, Validating, validates-reader, validates-writer}
 use Rattle.rules.proofs.Keeping.Aside.{not-idle, all-zero, node-room, seat-room}
 use Rattle.rules.proofs.Keeping.Good.{Good, counts-on, moves, passes-over, prev-in, new-own, link-in-words, links-in-good, leaves-good}
@@ -116,6 +116,10 @@ module _ {N S : ℕ} {t : Tables} (g : Good N S t) (s : ℕ) (s-in : s < S) wher
   pub validating-keeps : {u : Tables} → phase t s ≡ 3 → Validating t s u → Good N S u
   validating-keeps e (validates-reader k v) = reader-validating-keeps e k v
   validating-keeps e (validates-writer k v) = writer-validating-keeps e k v
+
+  pub entering-keeps : phase t s ≡ 7 → Good N S (entering t s)
+  unfolding entering
+  entering-keeps e = moves g (enter-stored t s r) (not-idle (omega arith)) (λ w. enter-keeps (g .inv) w e)
 
   -- ---- release
   pub leave-keeps : phase t s ≡ 5 → Good N S (leave t s)

@@ -16,7 +16,7 @@ use Rattle.rules.proofs.Ground.Logic.{branch, or-neither}
 use Rattle.rules.proofs.Ground.Deciding.{if-same}
 use Rattle.rules.proofs.Laws.Records.{number-of, taken-not-bad}
 
--- ---- the end, as begin has it
+-- ---- the end, as reserve has it
 pub end-is : (title : ℕ) (l : Lock) → endFrame title l ≡ bySign (l .length) (l .start) (pos title) (l .start +ℤ l .length)
 unfolding lastFrame
 end-is title l = go (l .length)

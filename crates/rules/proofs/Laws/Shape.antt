@@ -13,6 +13,7 @@ use Rattle.rules.specs.Tables.{Tables, tables, seatCountOf, nodeCount, s
 use Rattle.rules.specs.Shape.{nodesFit, seatsFit, lengthsFit, isKind, zeroNode, claimNode, names, nodeSound, isPhase, zeroSeat, idleOrOwning, restingAtZero, waitingAtCur, seatSound, holdersOfKind, countsFit, endsBy, titleFits, endsWithin, nodesSound, seatsSound, sound}
 use Rattle.rules.specs.Title.{AllWithin}
 use Rattle.rules.proofs.Ground.Logic.{either, or-left, or-right, or-case, and-left, and-right, and-both, both, all3, all4, all5, all7, not-true, of-not, branch, all-at, all-of}
+use Rattle.rules.proofs.Ground.Deciding.{if-same}
 use Rattle.rules.proofs.Laws.Words.{node-zero, node-past, link-past, seat-past}
 
 -- ---- a kind
@@ -105,11 +106,17 @@ node-claim-is t a c =
     rw (kind-is (kind t a) (c .a-kind), lt-ltb (start t a) (end t a) (c .some), le-leb (next t a) (nodeCount t) (c .next-small), le-leb (mark t a) 1 (c .mark-small))
 
 -- ---- a seat
+-- the phases in which prev and cur are 0
+pub data Resting (P : ℕ) : Type 0 where
+  in-5 : P ≡ 5 → Resting P
+  in-6 : P ≡ 6 → Resting P
+  in-7 : P ≡ 7 → Resting P
+
 pub record SeatSound (t : Tables) (s : ℕ) : Type 0 where
-  pub phase-small : phase t s ≤ 6
+  pub phase-small : phase t s ≤ 7
   pub idle : phase t s ≡ 0 → (f : ℕ) → f < seatWidth → seatWord (t .seats) s f ≡ 0
   pub owning : phase t s ≢ 0 → own t s ≢ 0
-  pub resting : (phase t s ≡ 5) ⊎ (phase t s ≡ 6) → (prev t s ≡ 0) × (cur t s ≡ 0)
+  pub resting : Resting (phase t s) → (prev t s ≡ 0) × (cur t s ≡ 0)
   pub waiting : (phase t s ≡ 2) ⊎ (phase t s ≡ 4) → cur t s ≢ 0
   pub own-names : Names t (own t s)
   pub prev-names : Names t (prev t s)
@@ -127,6 +134,18 @@ two-phases-is p m n b f =
     (λ y. or-right (not (p is m || p is n)) b (f (⊎-elim (λ q. inl (eqb-true p m q)) (λ q. inr (eqb-true p n q)) (or-case (p is m) (p is n) y))))
     (λ y. or-left (not (p is m || p is n)) b (of-not (p is m || p is n) y))
     (either (p is m || p is n))
+
+rests : (p : ℕ) (b : Bool) → (not (p is 5 || p is 6 || p is 7) || b) ≡ true → Resting p → b ≡ true
+rests p b e (in-5 q) = rw q at e
+rests p b e (in-6 q) = rw q at e
+rests p b e (in-7 q) = rw q at e
+
+rests-is : (p : ℕ) (b : Bool) → (Resting p → b ≡ true) → (not (p is 5 || p is 6 || p is 7) || b) ≡ true
+rests-is p b f =
+    if-same p 5 (λ q. rw (q, f (in-5 q))) (λ d₅.
+    if-same p 6 (λ q. rw (q, f (in-6 q))) (λ d₆.
+    if-same p 7 (λ q. rw (q, f (in-7 q))) (λ d₇.
+    rw (ne-eqb p 5 d₅, ne-eqb p 6 d₆, ne-eqb p 7 d₇))))
 
 -- idle with zeros, or busy with an own node
 module _ (t : Tables) (s : ℕ) where
@@ -151,10 +170,10 @@ module _ (t : Tables) (s : ℕ) where
   seat-sound e =
       let w = all7 (isPhase t s) (idleOrOwning t s) (restingAtZero t s) (waitingAtCur t s) (names t (own t s)) (names t (prev t s)) (names t (cur t s)) e in
       record {
-        phase-small = leb-true (phase t s) 6 (w .0);
+        phase-small = leb-true (phase t s) 7 (w .0);
         idle = zeros-of (w .1);
         owning = owning-of (w .1);
-        resting = λ p. let z = both (prev t s is 0) (cur t s is 0) (two-phases (phase t s) 5 6 (prev t s is 0 && cur t s is 0) (w .2) p) in
+        resting = λ p. let z = both (prev t s is 0) (cur t s is 0) (rests (phase t s) (prev t s is 0 && cur t s is 0) (w .2) p) in
             (eqb-true (prev t s) 0 (z .0), eqb-true (cur t s) 0 (z .1));
         waiting = λ p. eqb-false (cur t s) 0 (not-true (cur t s is 0) (two-phases (phase t s) 2 4 (not (cur t s is 0)) (w .3) p));
         own-names = named t (own t s) (w .4);
@@ -166,9 +185,9 @@ module _ (t : Tables) (s : ℕ) where
   unfolding seatSound isPhase restingAtZero waitingAtCur
   seat-sound-is w =
       rw (
-        le-leb (phase t s) 6 (w .phase-small),
+        le-leb (phase t s) 7 (w .phase-small),
         idle-or-owning w,
-        two-phases-is (phase t s) 5 6 (prev t s is 0 && cur t s is 0) (λ p. let z = w .resting p in rw (eq-eqb (prev t s) 0 (z .0), eq-eqb (cur t s) 0 (z .1))),
+        rests-is (phase t s) (prev t s is 0 && cur t s is 0) (λ p. let z = w .resting p in rw (eq-eqb (prev t s) 0 (z .0), eq-eqb (cur t s) 0 (z .1))),
         two-phases-is (phase t s) 2 4 (not (cur t s is 0)) (λ p. rw (ne-eqb (cur t s) 0 (w .waiting p))),
         name-of t (own t s) (w .own-names),
         name-of t (prev t s) (w .prev-names),

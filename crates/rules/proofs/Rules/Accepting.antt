@@ -10,22 +10,22 @@ use Rattle.rules.specs.Tables.{Tables, seatCount, title, phase}
 use Rattle.rules.specs.Comparison.{Claim}
 use Rattle.rules.specs.Shape.{sound, isKind}
 use Rattle.rules.specs.Fetch.{Fetched}
-use Rattle.rules.specs.Answers.{Answer, node, refused, out, Done, done, answerOf}
-use Rattle.rules.specs.Steps.{leave, refetched, stepByPhase}
-use Rattle.rules.specs.Calls.{noSeat, begun, begin, step, release}
+use Rattle.rules.specs.Answers.{Answer, node, refused, out, Done, done, answerOf, answered}
+use Rattle.rules.specs.Steps.{leave, refetched, stepByPhase, entering}
+use Rattle.rules.specs.Calls.{noSeat, reserved, reserve, step, release, enter}
 use Rattle.rules.specs.Run.{refusalOf}
-use Rattle.rules.specs.Play.{Call, beginCall, stepCall, releaseCall}
+use Rattle.rules.specs.Play.{Call, reserveCall, stepCall, releaseCall, enterCall}
 use Rattle.rules.proofs.Ground.Logic.{branch, not-true, or-neither}
 use Rattle.rules.proofs.Laws.Shape.{is-kind}
-use Rattle.rules.specs.Refusing.{HasSeat, Proper, WithinTitle, Refuses, damaged, no-seat, no-frames, beyond-title, no-kind, not-idle, idle, not-holding, none-to-begin, none-again}
-use Rattle.rules.specs.Title.{BeginsBeyond, begins-beyond}
-use Rattle.rules.proofs.Rules.Reasons.{Fetching, fetching, Stepping, in-1, in-2, in-3, in-4, in-6, at-rest, steps}
+use Rattle.rules.specs.Refusing.{HasSeat, Proper, WithinTitle, Refuses, damaged, no-seat, no-frames, beyond-title, no-kind, not-idle, idle, not-holding, none-to-reserve, none-again, not-reserved}
+use Rattle.rules.specs.Title.{ReservesBeyond, reserves-beyond}
+use Rattle.rules.proofs.Rules.Reasons.{Fetching, fetching, Stepping, in-1, in-2, in-3, in-4, in-6, at-rest, steps, in-7}
 
--- what a refusal's number tells: it is never 0, 1 only for damaged tables, and 11 only of a begin that ends beyond the title
+-- what a refusal's number tells: it is never 0, 1 only for damaged tables, and 11 only of a reserve that ends beyond the title
 pub record Tells (t : Tables) (c : Call) (number : ℕ) : Type 0 where
   pub not-0 : number ≢ 0
   pub if-1 : number ≡ 1 → sound t ≡ false
-  pub if-11 : number ≡ 11 → BeginsBeyond t c
+  pub if-11 : number ≡ 11 → ReservesBeyond t c
 
 neither-1-nor-11 : {t : Tables} {c : Call} {number : ℕ} → number ≢ 0 → number ≢ 1 → number ≢ 11 → Tells t c number
 neither-1-nor-11 x y z = record { not-0 = x; if-1 = λ q. absurd (y q); if-11 = λ q. absurd (z q) }
@@ -34,12 +34,13 @@ pub refusal-tells : {t : Tables} {c : Call} {number : ℕ} → Refuses t c numbe
 refusal-tells (damaged e) = record { not-0 = omega arith; if-1 = λ q. e; if-11 = λ q. absurd (omega arith) }
 refusal-tells (no-seat e h) = neither-1-nor-11 (omega arith) (omega arith) (omega arith)
 refusal-tells (no-frames w h) = neither-1-nor-11 (omega arith) (omega arith) (omega arith)
-refusal-tells (beyond-title w h b) = record { not-0 = omega arith; if-1 = λ q. absurd (omega arith); if-11 = λ q. begins-beyond b }
+refusal-tells (beyond-title w h b) = record { not-0 = omega arith; if-1 = λ q. absurd (omega arith); if-11 = λ q. reserves-beyond b }
 refusal-tells (no-kind w h i k k′) = neither-1-nor-11 (omega arith) (omega arith) (omega arith)
 refusal-tells (not-idle w p i d) = neither-1-nor-11 (omega arith) (omega arith) (omega arith)
 refusal-tells (idle w e) = neither-1-nor-11 (omega arith) (omega arith) (omega arith)
 refusal-tells (not-holding w d) = neither-1-nor-11 (omega arith) (omega arith) (omega arith)
-refusal-tells (none-to-begin w p i e n) = neither-1-nor-11 (omega arith) (omega arith) (omega arith)
+refusal-tells (not-reserved w d) = neither-1-nor-11 (omega arith) (omega arith) (omega arith)
+refusal-tells (none-to-reserve w p i e n) = neither-1-nor-11 (omega arith) (omega arith) (omega arith)
 refusal-tells (none-again w e n) = neither-1-nor-11 (omega arith) (omega arith) (omega arith)
 
 no-such-kind : (k : ℕ) → not (isKind k) ≡ true → (k ≢ 1) × (k ≢ 2)
@@ -57,34 +58,46 @@ seat-first t s P broken past there =
     branch P (noSeat t s) (λ h. past (not-false (sound t) e) (leb-true (seatCount t) s h)) (λ h.
     there (record { is-sound = not-false (sound t) e; is-seat = leb-false (seatCount t) s h })))
 
-pub data Beginning (t : Tables) (s : ℕ) (c : Claim) : Done Answer → Type 0 where
-  begin-refused : (number : ℕ) → Refuses t (beginCall s c) number → Beginning t s c (done (refused number) t)
-  begin-accepted : {f : Fetched} → sound t ≡ true → s < seatCount t → Proper c → WithinTitle t c → phase t s ≡ 0 → Fetching t s c f → Beginning t s c (begun t f)
+pub data Reserving (t : Tables) (s : ℕ) (c : Claim) : Done Answer → Type 0 where
+  reserve-refused : (number : ℕ) → Refuses t (reserveCall s c) number → Reserving t s c (done (refused number) t)
+  reserve-accepted : {f : Fetched} → sound t ≡ true → s < seatCount t → Proper c → WithinTitle t c → phase t s ≡ 0 → Fetching t s c f → Reserving t s c (reserved t f)
 
-pub beginning : (t : Tables) (s : ℕ) (c : Claim) → Beginning t s c (begin t s c)
-unfolding begin
-beginning t s c =
-    seat-first t s (Beginning t s c) (λ e. begin-refused 1 (damaged e)) (λ e h. begin-refused 2 (no-seat e h)) (λ has.
-    branch (Beginning t s c) (c .end ≤? c .start) (λ e. begin-refused 3 (no-frames has (leb-true (c .end) (c .start) e))) (λ e₃.
+pub reserving : (t : Tables) (s : ℕ) (c : Claim) → Reserving t s c (reserve t s c)
+unfolding reserve
+reserving t s c =
+    seat-first t s (Reserving t s c) (λ e. reserve-refused 1 (damaged e)) (λ e h. reserve-refused 2 (no-seat e h)) (λ has.
+    branch (Reserving t s c) (c .end ≤? c .start) (λ e. reserve-refused 3 (no-frames has (leb-true (c .end) (c .start) e))) (λ e₃.
     let frames = leb-false (c .end) (c .start) e₃ in
-    branch (Beginning t s c) (title t <? c .end) (λ e. begin-refused 11 (beyond-title has frames (ltb-true (title t) (c .end) e))) (λ e₁₁.
+    branch (Reserving t s c) (title t <? c .end) (λ e. reserve-refused 11 (beyond-title has frames (ltb-true (title t) (c .end) e))) (λ e₁₁.
     let within = ltb-false (title t) (c .end) e₁₁ in
-    branch (Beginning t s c) (not (isKind (c .kind))) (λ e. let k = no-such-kind (c .kind) e in begin-refused 4 (no-kind has frames within (k .0) (k .1))) (λ e₄.
+    branch (Reserving t s c) (not (isKind (c .kind))) (λ e. let k = no-such-kind (c .kind) e in reserve-refused 4 (no-kind has frames within (k .0) (k .1))) (λ e₄.
     let proper : Proper c = record { some = frames; reads-or-writes = is-kind (c .kind) (not-false (isKind (c .kind)) e₄) } in
-    branch (Beginning t s c) (not (phase t s is 0)) (λ e. begin-refused 5 (not-idle has proper within (eqb-false (phase t s) 0 (not-true (phase t s is 0) e)))) (λ e₅.
-    begin-accepted (has .is-sound) (has .is-seat) proper within (eqb-true (phase t s) 0 (not-false (phase t s is 0) e₅)) (fetching t s c))))))
+    branch (Reserving t s c) (not (phase t s is 0)) (λ e. reserve-refused 5 (not-idle has proper within (eqb-false (phase t s) 0 (not-true (phase t s is 0) e)))) (λ e₅.
+    reserve-accepted (has .is-sound) (has .is-seat) proper within (eqb-true (phase t s) 0 (not-false (phase t s is 0) e₅)) (fetching t s c))))))
 
--- begin answers with a node, or is refused
-begun-answers : (t : Tables) (f : Fetched) (P : Answer → Type 0) → ((n : ℕ) → P (node n)) → ((number : ℕ) → P (refused number)) → P (begun t f .answer)
-unfolding begun
-begun-answers t f P taken not-taken = branch (λ (d : Done Answer). P (d .answer)) (f .node is 0) (λ e. not-taken 8) (λ e. taken (f .node))
+-- reserve answers with a node, or is refused
+reserved-answers : (t : Tables) (f : Fetched) (P : Answer → Type 0) → ((n : ℕ) → P (node n)) → ((number : ℕ) → P (refused number)) → P (reserved t f .answer)
+unfolding reserved
+reserved-answers t f P taken not-taken = branch (λ (d : Done Answer). P (d .answer)) (f .node is 0) (λ e. not-taken 8) (λ e. taken (f .node))
 
-pub begin-answers : (t : Tables) (s : ℕ) (c : Claim) (P : Answer → Type 0) → ((n : ℕ) → P (node n)) → ((number : ℕ) → P (refused number)) → P (begin t s c .answer)
-begin-answers t s c P taken not-taken = go (beginning t s c)
+pub reserve-answers : (t : Tables) (s : ℕ) (c : Claim) (P : Answer → Type 0) → ((n : ℕ) → P (node n)) → ((number : ℕ) → P (refused number)) → P (reserve t s c .answer)
+reserve-answers t s c P taken not-taken = go (reserving t s c)
   where
-    go : {d : Done Answer} → Beginning t s c d → P (d .answer)
-    go (begin-refused number r) = not-taken number
-    go (begin-accepted {f} e h p w i k) = begun-answers t f P taken not-taken
+    go : {d : Done Answer} → Reserving t s c d → P (d .answer)
+    go (reserve-refused number r) = not-taken number
+    go (reserve-accepted {f} e h p w i k) = reserved-answers t f P taken not-taken
+
+pub data Entering (t : Tables) (s : ℕ) : Done Answer → Type 0 where
+  enter-refused : (number : ℕ) → Refuses t (enterCall s) number → Entering t s (done (refused number) t)
+  enter-accepted : sound t ≡ true → s < seatCount t → phase t s ≡ 7 → Entering t s (answered (entering t s) s)
+
+pub enters : (t : Tables) (s : ℕ) → Entering t s (enter t s)
+unfolding enter
+enters t s =
+    seat-first t s (Entering t s) (λ e. enter-refused 1 (damaged e)) (λ e h. enter-refused 2 (no-seat e h)) (λ has.
+    branch (Entering t s) (not (phase t s is 7))
+    (λ e. enter-refused 14 (not-reserved has (eqb-false (phase t s) 7 (not-true (phase t s is 7) e))))
+    (λ e. enter-accepted (has .is-sound) (has .is-seat) (eqb-true (phase t s) 7 (not-false (phase t s is 7) e))))
 
 pub data Stepped (t : Tables) (s : ℕ) : Done Answer → Type 0 where
   step-refused : (number : ℕ) → Refuses t (stepCall s) number → Stepped t s (done (refused number) t)
@@ -97,6 +110,11 @@ stepped t s =
     branch (Stepped t s) (phase t s is 0)
     (λ e. step-refused 6 (idle has (eqb-true (phase t s) 0 e)))
     (λ e. step-accepted (has .is-sound) (has .is-seat) (eqb-false (phase t s) 0 e) (steps t s)))
+
+-- "a step in phase 7 enters": the same answer, the same tables, the same refusals
+pub step-enters : (t : Tables) (s : ℕ) → phase t s ≡ 7 → step t s ≡ enter t s
+unfolding step stepByPhase enter
+step-enters t s e = rw e
 
 -- what an accepted step answers is said from the seat's new phase
 module _ (t : Tables) (s : ℕ) where
@@ -113,7 +131,8 @@ module _ (t : Tables) (s : ℕ) where
   stepping-from-phase (in-3 e w) q = refl
   stepping-from-phase (in-4 e w) q = refl
   stepping-from-phase (in-6 {f = f} e w) q = refetched-from-phase f q
-  stepping-from-phase (at-rest a b c d e) q = refl
+  stepping-from-phase (in-7 e) q = refl
+  stepping-from-phase (at-rest a b c d e f) q = refl
 
   stepped-from-phase : {d : Done Answer} → Stepped t s d → FromPhase d
   stepped-from-phase (step-refused number r) q = absurd (refusal-tells r .not-0 q)

@@ -12,7 +12,7 @@ use Rattle.rules.specs.Comparison.{Claim, claimOf, reads, byComparison}
 use Rattle.rules.specs.Reach.{lowestFree}
 use Rattle.rules.specs.Fetch.{Fetched, fetched, takenOut, takeNode, fetch, fetchAgain}
 use Rattle.rules.specs.Answers.{Answer, Done, answered}
-use Rattle.rules.specs.Steps.{moveTo, joined, unlink, pass, linkIn, startValidating, lookAgain, insert, hold, withdraw, walking, waitingToEnter, readerValidating, writerValidating, validating, readerWaiting, refetched, withdrawn, stepByPhase}
+use Rattle.rules.specs.Steps.{entering, moveTo, joined, unlink, pass, linkIn, startValidating, lookAgain, insert, hold, withdraw, walking, waitingToEnter, readerValidating, writerValidating, validating, readerWaiting, refetched, withdrawn, stepByPhase}
 use Rattle.rules.proofs.Ground.Logic.{branch, both, or-case, or-neither, not-true}
 use Rattle.rules.proofs.Laws.Compared.{Precedes, Compared, after, before, clashing, compared}
 
@@ -192,7 +192,8 @@ pub data Stepping (t : Tables) (s : ℕ) : Done Answer → Type 0 where
   in-3 : {u : Tables} → phase t s ≡ 3 → Validating t s u → Stepping t s (answered u s)
   in-4 : {u : Tables} → phase t s ≡ 4 → Waking t s 3 u → Stepping t s (answered u s)
   in-6 : {f : Fetched} → phase t s ≡ 6 → Fetching t s (claimOf t (own t s)) f → Stepping t s (refetched t s f)
-  at-rest : phase t s ≢ 1 → phase t s ≢ 2 → phase t s ≢ 3 → phase t s ≢ 4 → phase t s ≢ 6 → Stepping t s (answered t s)
+  in-7 : phase t s ≡ 7 → Stepping t s (answered (entering t s) s)
+  at-rest : phase t s ≢ 1 → phase t s ≢ 2 → phase t s ≢ 3 → phase t s ≢ 4 → phase t s ≢ 6 → phase t s ≢ 7 → Stepping t s (answered t s)
 
 pub steps : (t : Tables) (s : ℕ) → Stepping t s (stepByPhase t s)
 unfolding stepByPhase withdrawn
@@ -202,7 +203,8 @@ steps t s =
     branch (Stepping t s) (phase t s is 3) (λ e. in-3 (eqb-true (phase t s) 3 e) (validates t s)) (λ d₃.
     branch (Stepping t s) (phase t s is 4) (λ e. in-4 (eqb-true (phase t s) 4 e) (wakes-to-validate t s)) (λ d₄.
     branch (Stepping t s) (phase t s is 6) (λ e. in-6 (eqb-true (phase t s) 6 e) (fetching t s (claimOf t (own t s)))) (λ d₆.
-    at-rest (eqb-false (phase t s) 1 d₁) (eqb-false (phase t s) 2 d₂) (eqb-false (phase t s) 3 d₃) (eqb-false (phase t s) 4 d₄) (eqb-false (phase t s) 6 d₆))))))
+    branch (Stepping t s) (phase t s is 7) (λ e. in-7 (eqb-true (phase t s) 7 e)) (λ d₇.
+    at-rest (eqb-false (phase t s) 1 d₁) (eqb-false (phase t s) 2 d₂) (eqb-false (phase t s) 3 d₃) (eqb-false (phase t s) 4 d₄) (eqb-false (phase t s) 6 d₆) (eqb-false (phase t s) 7 d₇)))))))
 
 -- ---- and by the phase alone
 module _ (t : Tables) (s : ℕ) where
@@ -230,7 +232,11 @@ module _ (t : Tables) (s : ℕ) where
   unfolding stepByPhase withdrawn
   by-phase-6 e = rw e
 
-  pub by-no-phase : phase t s ≢ 1 → phase t s ≢ 2 → phase t s ≢ 3 → phase t s ≢ 4 → phase t s ≢ 6 → stepByPhase t s ≡ answered t s
+  pub by-phase-7 : phase t s ≡ 7 → stepByPhase t s ≡ answered (entering t s) s
   unfolding stepByPhase
-  by-no-phase d₁ d₂ d₃ d₄ d₆ =
-      rw (ne-eqb (phase t s) 1 d₁, ne-eqb (phase t s) 2 d₂, ne-eqb (phase t s) 3 d₃, ne-eqb (phase t s) 4 d₄, ne-eqb (phase t s) 6 d₆)
+  by-phase-7 e = rw e
+
+  pub by-no-phase : phase t s ≢ 1 → phase t s ≢ 2 → phase t s ≢ 3 → phase t s ≢ 4 → phase t s ≢ 6 → phase t s ≢ 7 → stepByPhase t s ≡ answered t s
+  unfolding stepByPhase
+  by-no-phase d₁ d₂ d₃ d₄ d₆ d₇ =
+      rw (ne-eqb (phase t s) 1 d₁, ne-eqb (phase t s) 2 d₂, ne-eqb (phase t s) 3 d₃, ne-eqb (phase t s) 4 d₄, ne-eqb (phase t s) 6 d₆, ne-eqb (phase t s) 7 d₇)

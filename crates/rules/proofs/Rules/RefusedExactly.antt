@@ -13,20 +13,20 @@ use Rattle.rules.specs.Comparison.{Claim, claimOf}
 use Rattle.rules.specs.Shape.{lengthsFit, sound, isKind}
 use Rattle.rules.specs.Fetch.{Fetched, fetched, fetch, fetchAgain}
 use Rattle.rules.specs.Answers.{Answer, node, refused, Done, done}
-use Rattle.rules.specs.Steps.{refetched}
-use Rattle.rules.specs.Calls.{begun, clear, begin, step, release}
+use Rattle.rules.specs.Steps.{refetched, entering}
+use Rattle.rules.specs.Calls.{reserved, clear, reserve, step, release, enter}
 use Rattle.rules.specs.FreeCount.{Counted, freeCount}
 use Rattle.rules.specs.Board.{Boarded, Shown, shown, holders, board, rowWidth, boardNumbers}
 use Rattle.rules.specs.Run.{refusalOf}
-use Rattle.rules.specs.Play.{Call, beginCall, stepCall, releaseCall, call, seatOf}
-use Rattle.rules.specs.Refusing.{HasSeat, Proper, WithinTitle, NoNodeFree, Refuses, damaged, no-seat, no-frames, beyond-title, no-kind, not-idle, idle, not-holding, none-to-begin, none-again, ClearRefuses, lengths-wrong, title-of-none, DamageRefuses, tables-damaged, BoardRefuses, board-damaged, too-few-rows}
+use Rattle.rules.specs.Play.{Call, reserveCall, stepCall, releaseCall, call, seatOf, enterCall}
+use Rattle.rules.specs.Refusing.{HasSeat, Proper, WithinTitle, NoNodeFree, Refuses, damaged, no-seat, no-frames, beyond-title, no-kind, not-idle, idle, not-holding, none-to-reserve, none-again, ClearRefuses, lengths-wrong, title-of-none, DamageRefuses, tables-damaged, BoardRefuses, board-damaged, too-few-rows, not-reserved}
 use Rattle.rules.specs.declared.Row.{Row}
 use Rattle.rules.proofs.Ground.Logic.{branch, not-true, neither, or-left, or-right}
 use Rattle.rules.proofs.Laws.Answers.{refused-as, answers-no-refusal}
-use Rattle.rules.proofs.Rules.Reasons.{Fetching, found, found-then, none, Stepping, in-1, in-2, in-3, in-4, in-6, at-rest, by-phase-6}
-use Rattle.rules.proofs.Rules.Accepting.{Beginning, begin-refused, begin-accepted, beginning, Stepped, step-refused, step-accepted, stepped, Releasing, release-refused, release-accepted, releasing, step-is}
+use Rattle.rules.proofs.Rules.Reasons.{Fetching, found, found-then, none, Stepping, in-1, in-2, in-3, in-4, in-6, at-rest, by-phase-6, in-7}
+use Rattle.rules.proofs.Rules.Accepting.{Reserving, reserve-refused, reserve-accepted, reserving, Stepped, step-refused, step-accepted, stepped, Releasing, release-refused, release-accepted, releasing, step-is, Entering, enter-refused, enter-accepted, enters}
 
--- ---- a refused begin, step or release is one of the table
+-- ---- a refused reserve, enter, step or release is one of the table
 same-number : {t : Tables} {c : Call} {j k : ℕ} → Refuses t c j → refused j ≡ refused k → Refuses t c k
 same-number {t} {c} r q = subst (Refuses t c) (ap refusalOf q) r
 
@@ -34,11 +34,11 @@ pub not-refused : {A : Type 0} {n k : ℕ} → node n ≡ refused k → A
 not-refused q = let z : _≡_ {A = ℕ} 0 1 = cc in absurd (omega arith)
 
 module _ (t : Tables) (s k : ℕ) (has : HasSeat t s) where
-  begun-refused : (c : Claim) {f : Fetched} → Proper c → WithinTitle t c → phase t s ≡ 0 → Fetching t s c f → begun t f .answer ≡ refused k → Refuses t (beginCall s c) k
-  unfolding begun
-  begun-refused c p i z (found a e d) q = not-refused (rw (ne-eqb a 0 d) at q)
-  begun-refused c p i z (found-then a e e′ d) q = not-refused (rw (ne-eqb a 0 d) at q)
-  begun-refused c p i z (none e e′) q = same-number (none-to-begin has p i z (record { at-first = e; marked-out = e′ })) q
+  reserved-refused : (c : Claim) {f : Fetched} → Proper c → WithinTitle t c → phase t s ≡ 0 → Fetching t s c f → reserved t f .answer ≡ refused k → Refuses t (reserveCall s c) k
+  unfolding reserved
+  reserved-refused c p i z (found a e d) q = not-refused (rw (ne-eqb a 0 d) at q)
+  reserved-refused c p i z (found-then a e e′ d) q = not-refused (rw (ne-eqb a 0 d) at q)
+  reserved-refused c p i z (none e e′) q = same-number (none-to-reserve has p i z (record { at-first = e; marked-out = e′ })) q
 
   refetched-refused : (c : Claim) {f : Fetched} → phase t s ≡ 6 → Fetching t s c f → refetched t s f .answer ≡ refused k → Refuses t (stepCall s) k
   unfolding refetched
@@ -52,19 +52,24 @@ module _ (t : Tables) (s k : ℕ) (has : HasSeat t s) where
   stepping-refused (in-3 {u = u} e w) q = absurd (answers-no-refusal u s k q)
   stepping-refused (in-4 {u = u} e w) q = absurd (answers-no-refusal u s k q)
   stepping-refused (in-6 e w) q = refetched-refused (claimOf t (own t s)) e w q
-  stepping-refused (at-rest a b c d e) q = absurd (answers-no-refusal t s k q)
+  stepping-refused (in-7 e) q = absurd (answers-no-refusal (entering t s) s k q)
+  stepping-refused (at-rest a b c d e f) q = absurd (answers-no-refusal t s k q)
 
 seat-of : {t : Tables} {s : ℕ} → sound t ≡ true → s < seatCount t → HasSeat t s
 seat-of e h = record { is-sound = e; is-seat = h }
 
 module _ (t : Tables) (s k : ℕ) where
-  begin-by-table : (c : Claim) {d : Done Answer} → Beginning t s c d → d .answer ≡ refused k → Refuses t (beginCall s c) k
-  begin-by-table c (begin-refused number x) q = same-number x q
-  begin-by-table c (begin-accepted e h p i z w) q = begun-refused t s k (seat-of e h) c p i z w q
+  reserve-by-table : (c : Claim) {d : Done Answer} → Reserving t s c d → d .answer ≡ refused k → Refuses t (reserveCall s c) k
+  reserve-by-table c (reserve-refused number x) q = same-number x q
+  reserve-by-table c (reserve-accepted e h p i z w) q = reserved-refused t s k (seat-of e h) c p i z w q
 
   step-by-table : {d : Done Answer} → Stepped t s d → d .answer ≡ refused k → Refuses t (stepCall s) k
   step-by-table (step-refused number x) q = same-number x q
   step-by-table (step-accepted e h b w) q = stepping-refused t s k (seat-of e h) w q
+
+  enter-by-table : {d : Done Answer} → Entering t s d → d .answer ≡ refused k → Refuses t (enterCall s) k
+  enter-by-table (enter-refused number x) q = same-number x q
+  enter-by-table (enter-accepted e h p) q = absurd (answers-no-refusal (entering t s) s k q)
 
   release-by-table : {d : Done Answer} → Releasing t s d → d .answer ≡ refused k → Refuses t (releaseCall s) k
   release-by-table (release-refused number x) q = same-number x q
@@ -72,7 +77,8 @@ module _ (t : Tables) (s k : ℕ) where
 
 pub call-by-table : (t : Tables) (c : Call) (k : ℕ) → call t c .answer ≡ refused k → Refuses t c k
 unfolding call
-call-by-table t (beginCall s c) k = begin-by-table t s k c (beginning t s c)
+call-by-table t (reserveCall s c) k = reserve-by-table t s k c (reserving t s c)
+call-by-table t (enterCall s) k = enter-by-table t s k (enters t s)
 call-by-table t (stepCall s) k = step-by-table t s k (stepped t s)
 call-by-table t (releaseCall s) k = release-by-table t s k (releasing t s)
 
@@ -91,19 +97,21 @@ unfolding isKind
 no-kind-at-all k d d′ = neither (k is 1) (k is 2) (ne-eqb k 1 d) (ne-eqb k 2 d′)
 
 damaged-refused : (t : Tables) (c : Call) → sound t ≡ false → call t c ≡ done (refused 1) t
-unfolding call begin step release
-damaged-refused t (beginCall s c) e = rw e
+unfolding call reserve enter step release
+damaged-refused t (reserveCall s c) e = rw e
+damaged-refused t (enterCall s) e = rw e
 damaged-refused t (stepCall s) e = rw e
 damaged-refused t (releaseCall s) e = rw e
 
 past-refused : (t : Tables) (c : Call) → sound t ≡ true → seatCount t ≤ seatOf c → call t c ≡ done (refused 2) t
-unfolding call begin step release
-past-refused t (beginCall s c) e h = rw (e, le-leb (seatCount t) s h)
+unfolding call reserve enter step release
+past-refused t (reserveCall s c) e h = rw (e, le-leb (seatCount t) s h)
+past-refused t (enterCall s) e h = rw (e, le-leb (seatCount t) s h)
 past-refused t (stepCall s) e h = rw (e, le-leb (seatCount t) s h)
 past-refused t (releaseCall s) e h = rw (e, le-leb (seatCount t) s h)
 
 pub table-refused : (t : Tables) (c : Call) (k : ℕ) → Refuses t c k → call t c ≡ done (refused k) t
-unfolding call begin step release begun refetched
+unfolding call reserve enter step release reserved refetched
 table-refused t c k (damaged e) = damaged-refused t c e
 table-refused t c k (no-seat e h) = past-refused t c e h
 table-refused t _ k (no-frames {s = s} {c = c} w h) = rw (w .is-sound, lt-leb (seatCount t) s (w .is-seat), le-leb (c .end) (c .start) h)
@@ -115,7 +123,8 @@ table-refused t _ k (not-idle {s = s} {c = c} w p i d) =
     rw (w .is-sound, lt-leb (seatCount t) s (w .is-seat), lt-leb (c .end) (c .start) (p .some), le-ltb (title t) (c .end) i, is-a-kind (c .kind) (p .reads-or-writes), ne-eqb (phase t s) 0 d)
 table-refused t _ k (idle {s = s} w e) = rw (w .is-sound, lt-leb (seatCount t) s (w .is-seat), eq-eqb (phase t s) 0 e)
 table-refused t _ k (not-holding {s = s} w d) = rw (w .is-sound, lt-leb (seatCount t) s (w .is-seat), ne-eqb (phase t s) 5 d)
-table-refused t _ k (none-to-begin {s = s} {c = c} w p i e n) =
+table-refused t _ k (not-reserved {s = s} w d) = rw (w .is-sound, lt-leb (seatCount t) s (w .is-seat), ne-eqb (phase t s) 7 d)
+table-refused t _ k (none-to-reserve {s = s} {c = c} w p i e n) =
     rw (w .is-sound, lt-leb (seatCount t) s (w .is-seat), lt-leb (c .end) (c .start) (p .some), le-ltb (title t) (c .end) i, is-a-kind (c .kind) (p .reads-or-writes), eq-eqb (phase t s) 0 e, no-node-found t s c n)
 table-refused t _ k (none-again {s = s} w e n) =
     step-is t s (w .is-sound) (w .is-seat) (omega arith) ∙ by-phase-6 t s e ∙ rw (no-node-found t s (claimOf t (own t s)) n)

@@ -2,8 +2,8 @@
 use Prim.Native.Nat.{ℕ}
 use native.Mathlib.Omega.{arith}
 use Rattle.rules.specs.Tables.{Tables, seatWord, phaseAt, ownAt, prevAt, curAt, next, head, cur, setPhase, setPrev, setCur}
-use Rattle.rules.specs.Fetch.{enterAtHead}
-use Rattle.rules.specs.Steps.{moveTo, linkIn, pass, hold, withdraw, leave}
+use Rattle.rules.specs.Fetch.{reserveFor}
+use Rattle.rules.specs.Steps.{entering, moveTo, linkIn, pass, hold, withdraw, leave}
 use Rattle.rules.proofs.Rules.Effects.{Room, stored, Seated, as-found, put, cleared}
 
 module _ (t : Tables) (s : ℕ) (r : Room t s) where
@@ -43,7 +43,11 @@ module _ (t : Tables) (s : ℕ) (r : Room t s) where
   unfolding leave
   leave-stored = cleared (t .seats) s r
 
-  pub enter-stored : (a : ℕ) → Seated (t .seats) (enterAtHead t s a .seats) s (stored (stored (stored (stored words phaseAt 1) ownAt a) prevAt 0) curAt (head t))
-  unfolding enterAtHead
-  enter-stored a =
-      put r (put r (put r (put r (as-found (t .seats) s) phaseAt 1 (omega arith)) ownAt a (omega arith)) prevAt 0 (omega arith)) curAt (head t) (omega arith)
+  pub reserve-stored : (a : ℕ) → Seated (t .seats) (reserveFor t s a .seats) s (stored (stored (stored (stored words phaseAt 7) ownAt a) prevAt 0) curAt 0)
+  unfolding reserveFor
+  reserve-stored a =
+      put r (put r (put r (put r (as-found (t .seats) s) phaseAt 7 (omega arith)) ownAt a (omega arith)) prevAt 0 (omega arith)) curAt 0 (omega arith)
+
+  pub enter-stored : Seated (t .seats) (entering t s .seats) s (stored (stored words phaseAt 1) curAt (head t))
+  unfolding entering
+  enter-stored = put r (phase-stored 1) curAt (head t) (omega arith)

@@ -1,4 +1,4 @@
--- With which refusals a call on sound tables can answer: an accepted begin or step with none or 8, and none with 1.
+-- With which refusals a call on sound tables can answer: an accepted reserve or step with none or 8, and none with 1.
 use Prim.Native.Nat.{ℕ, zero, suc}
 use mathlib.Core.Path.{_≡_, refl, sym, ap, _∙_}
 use mathlib.Core.Bool.{true}
@@ -11,27 +11,27 @@ use Rattle.rules.specs.Shape.{sound}
 use Rattle.rules.specs.Comparison.{Claim}
 use Rattle.rules.specs.Fetch.{Fetched}
 use Rattle.rules.specs.Answers.{Answer, refused, Done}
-use Rattle.rules.specs.Steps.{refetched}
-use Rattle.rules.specs.Calls.{begun, step}
+use Rattle.rules.specs.Steps.{refetched, entering}
+use Rattle.rules.specs.Calls.{reserved, step}
 use Rattle.rules.specs.Run.{refusalOf, runSteps, run}
-use Rattle.rules.specs.Play.{Call, beginCall, stepCall, releaseCall, call}
+use Rattle.rules.specs.Play.{Call, reserveCall, stepCall, releaseCall, call, enterCall}
 use Rattle.rules.specs.Refusing.{Refuses}
 use Rattle.rules.specs.Reached.{single, Reached, asked}
 use Rattle.rules.specs.declared.Ran.{Ran}
 use Rattle.rules.proofs.Ground.Logic.{branch, clash}
 use Rattle.rules.proofs.Laws.Answers.{refused-as, answer-accepts}
-use Rattle.rules.proofs.Rules.Reasons.{Stepping, in-1, in-2, in-3, in-4, in-6, at-rest}
+use Rattle.rules.proofs.Rules.Reasons.{Stepping, in-1, in-2, in-3, in-4, in-6, at-rest, in-7}
 use Rattle.rules.proofs.Soundness.SoundReached.{reached-sound}
-use Rattle.rules.proofs.Rules.Accepting.{refusal-tells, Beginning, begin-refused, begin-accepted, beginning, Stepped, step-refused, step-accepted, stepped, Releasing, release-refused, release-accepted, releasing}
+use Rattle.rules.proofs.Rules.Accepting.{refusal-tells, Reserving, reserve-refused, reserve-accepted, reserving, Stepped, step-refused, step-accepted, stepped, Releasing, release-refused, release-accepted, releasing, Entering, enter-refused, enter-accepted, enters}
 
--- the refusals of an accepted begin and an accepted step: none, or 8
+-- the refusals of an accepted reserve and an accepted step: none, or 8
 pub data NoneOr8 (a : Answer) : Type 0 where
   no-refusal : refusalOf a ≡ 0 → NoneOr8 a
   refusal-8 : a ≡ refused 8 → NoneOr8 a
 
-begun-none-or-8 : (t : Tables) (f : Fetched) → NoneOr8 (begun t f .answer)
-unfolding begun
-begun-none-or-8 t f = branch (λ (d : Done Answer). NoneOr8 (d .answer)) (f .node is 0) (λ e. refusal-8 refl) (λ e. no-refusal refl)
+reserved-none-or-8 : (t : Tables) (f : Fetched) → NoneOr8 (reserved t f .answer)
+unfolding reserved
+reserved-none-or-8 t f = branch (λ (d : Done Answer). NoneOr8 (d .answer)) (f .node is 0) (λ e. refusal-8 refl) (λ e. no-refusal refl)
 
 refetched-none-or-8 : (t : Tables) (s : ℕ) (f : Fetched) → NoneOr8 (refetched t s f .answer)
 unfolding refetched
@@ -44,7 +44,8 @@ stepping-none-or-8 {s = s} (in-2 {u = u} e w) = no-refusal (answer-accepts u s)
 stepping-none-or-8 {s = s} (in-3 {u = u} e w) = no-refusal (answer-accepts u s)
 stepping-none-or-8 {s = s} (in-4 {u = u} e w) = no-refusal (answer-accepts u s)
 stepping-none-or-8 {t} {s} (in-6 {f = f} e w) = refetched-none-or-8 t s f
-stepping-none-or-8 {t} {s} (at-rest a b c d e) = no-refusal (answer-accepts t s)
+stepping-none-or-8 {t} {s} (in-7 e) = no-refusal (answer-accepts (entering t s) s)
+stepping-none-or-8 {t} {s} (at-rest a b c d e f) = no-refusal (answer-accepts t s)
 
 none-or-8-not-1 : {a : Answer} → NoneOr8 a → a ≢ refused 1
 none-or-8-not-1 (no-refusal e) q = let z = ap refusalOf q in omega arith
@@ -54,13 +55,17 @@ module _ (t : Tables) (e : sound t ≡ true) (s : ℕ) where
   refused-not-1 : {c : Call} {number : ℕ} → Refuses t c number → refused number ≢ refused 1
   refused-not-1 r q = clash (sound t) e (refusal-tells r .if-1 (ap refusalOf q))
 
-  begin-not-1 : {c : Claim} {d : Done Answer} → Beginning t s c d → d .answer ≢ refused 1
-  begin-not-1 (begin-refused k r) = refused-not-1 r
-  begin-not-1 (begin-accepted {f = f} x h p i z w) = none-or-8-not-1 (begun-none-or-8 t f)
+  reserve-not-1 : {c : Claim} {d : Done Answer} → Reserving t s c d → d .answer ≢ refused 1
+  reserve-not-1 (reserve-refused k r) = refused-not-1 r
+  reserve-not-1 (reserve-accepted {f = f} x h p i z w) = none-or-8-not-1 (reserved-none-or-8 t f)
 
   step-not-1 : {d : Done Answer} → Stepped t s d → d .answer ≢ refused 1
   step-not-1 (step-refused k r) = refused-not-1 r
   step-not-1 (step-accepted x h b w) = none-or-8-not-1 (stepping-none-or-8 w)
+
+  enter-not-1 : {d : Done Answer} → Entering t s d → d .answer ≢ refused 1
+  enter-not-1 (enter-refused k r) = refused-not-1 r
+  enter-not-1 (enter-accepted x h p) = none-or-8-not-1 (no-refusal (answer-accepts (entering t s) s))
 
   release-not-1 : {d : Done Answer} → Releasing t s d → d .answer ≢ refused 1
   release-not-1 (release-refused k r) = refused-not-1 r
@@ -68,7 +73,8 @@ module _ (t : Tables) (e : sound t ≡ true) (s : ℕ) where
 
 pub sound-never-damaged : (t : Tables) → sound t ≡ true → (c : Call) → call t c .answer ≢ refused 1
 unfolding call
-sound-never-damaged t e (beginCall s c) = begin-not-1 t e s (beginning t s c)
+sound-never-damaged t e (reserveCall s c) = reserve-not-1 t e s (reserving t s c)
+sound-never-damaged t e (enterCall s) = enter-not-1 t e s (enters t s)
 sound-never-damaged t e (stepCall s) = step-not-1 t e s (stepped t s)
 sound-never-damaged t e (releaseCall s) = release-not-1 t e s (releasing t s)
 

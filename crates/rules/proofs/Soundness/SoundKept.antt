@@ -1,4 +1,4 @@
--- A step keeps sound shape in any sound tables, reached or not, and so do begin and release. Only the step that links own in can break
+-- A step keeps sound shape in any sound tables, reached or not, and so do reserve, enter and release. Only the step that links own in can break
 -- a clause, and only the last one: in tables that no calls have made, own may be on the list already.
 use Prim.Native.Nat.{ℕ, _+_, _*_, _≤_, _<_}
 use mathlib.Core.Path.{_≡_, refl, sym, _∙_, subst}
@@ -11,15 +11,15 @@ use Rattle.rules.specs.Tables.{Tables, beforeNodes, nodeWidth, putLink, 
 use Rattle.rules.specs.Comparison.{Claim, claimOf}
 use Rattle.rules.specs.Shape.{endsWithin, sound}
 use Rattle.rules.specs.Reach.{met, listed, othersReach, free, lowestFree, Reach, there}
-use Rattle.rules.specs.Fetch.{Fetched, writeClaim, enterAtHead, takeNode, takenOut}
+use Rattle.rules.specs.Fetch.{Fetched, writeClaim, takeNode, takenOut, reserveFor}
 use Rattle.rules.specs.Answers.{Answer, Done}
-use Rattle.rules.specs.Steps.{linkIn, pass, kindOf, hold, withdraw, leave, refetched}
-use Rattle.rules.specs.Calls.{begun, begin, step, release}
-use Rattle.rules.specs.Play.{Call, beginCall, stepCall, releaseCall, call}
+use Rattle.rules.specs.Steps.{linkIn, pass, kindOf, hold, withdraw, leave, refetched, entering}
+use Rattle.rules.specs.Calls.{reserved, reserve, step, release, enter}
+use Rattle.rules.specs.Play.{Call, reserveCall, stepCall, releaseCall, call, enterCall}
 use Rattle.rules.specs.Title.{AllWithin}
 use Rattle.rules.proofs.Ground.Logic.{branch, or-neither, not-true, clash}
 use Rattle.rules.proofs.Laws.Words.{link-put-same, link-put-other, put-link-length, node-count}
-use Rattle.rules.proofs.Laws.Shape.{Counts, is-sound, sound-is}
+use Rattle.rules.proofs.Laws.Shape.{Counts, is-sound, sound-is, in-5, in-6, in-7}
 use Rattle.rules.proofs.Ground.Counting.{lowest-has}
 use Rattle.rules.proofs.Ground.Following.{reach-target, ends-tail, no-circle, unlink-keeps-ends, unlink-adds-none}
 use Rattle.rules.proofs.Ground.Pigeonhole.{short}
@@ -33,9 +33,9 @@ use Rattle.rules.proofs.Ground.Deciding.{if-same}
 use Rattle.rules.proofs.Invariant.View.{seatsOf}
 use Rattle.rules.proofs.Invariant.Unlink.{relink-shape}
 use Rattle.rules.proofs.Keeping.Good.{link-in-words}
-use Rattle.rules.proofs.Rules.RuleEffects.{phase-stored, cur-stored, place-stored, start-stored, hold-stored, withdraw-stored, leave-stored, enter-stored}
-use Rattle.rules.proofs.Rules.Reasons.{Unlinking, takes-out, goes-past, Starting, as-reader, as-writer, Inserting, links-in, restarts, rereads, Walking, inserts, unlinks, passes, waits, Waking, wakes, stays, reader-holds, reader-unlinks, reader-passes, reader-waits, writer-holds, writer-unlinks, writer-passes, withdraws, Validating, validates-reader, validates-writer, Fetching, found, found-then, none, Stepping, in-1, in-2, in-3, in-4, in-6, at-rest}
-use Rattle.rules.proofs.Rules.Accepting.{Beginning, begin-refused, begin-accepted, beginning, Stepped, step-refused, step-accepted, stepped, Releasing, release-refused, release-accepted, releasing}
+use Rattle.rules.proofs.Rules.RuleEffects.{phase-stored, cur-stored, place-stored, start-stored, hold-stored, withdraw-stored, leave-stored, reserve-stored, enter-stored}
+use Rattle.rules.proofs.Rules.Reasons.{Unlinking, takes-out, goes-past, Starting, as-reader, as-writer, Inserting, links-in, restarts, rereads, Walking, inserts, unlinks, passes, waits, Waking, wakes, stays, reader-holds, reader-unlinks, reader-passes, reader-waits, writer-holds, writer-unlinks, writer-passes, withdraws, Validating, validates-reader, validates-writer, Fetching, found, found-then, none, Stepping, in-1, in-2, in-3, in-4, in-6, in-7 as steps-in-7, at-rest}
+use Rattle.rules.proofs.Rules.Accepting.{Reserving, reserve-refused, reserve-accepted, reserving, Stepped, step-refused, step-accepted, stepped, Releasing, release-refused, release-accepted, releasing, Entering, enter-refused, enter-accepted, enters}
 use Rattle.rules.proofs.Keeping.Aside.{not-idle, all-zero, node-room, seat-room, linked-in}
 use Rattle.rules.proofs.Frames.CountFrames.{counts-kept}
 use Rattle.rules.proofs.Frames.TitleFrames.{within-kept}
@@ -106,16 +106,14 @@ module _ {N S : ℕ} {t : Tables} (g : Shaped N S t) where
       let is-on : on ≡ true = rw (node-count t N (g .aside .nodes-long)) (reach-met t a N small (small 0) r) in
       clash on is-on (or-neither on (othersReach t s a) (not-true (on || othersReach t s a) e) .0)
 
-  -- the claim is written first, and then the seat reads the head
   take-shaped : (s a : ℕ) (c : Claim) → s < S → lowestFree t s ≡ a → a ≢ 0 → Proper c → Shaped N S (takeNode t s a c)
-  unfolding takeNode enterAtHead writeClaim lowestFree
+  unfolding takeNode reserveFor writeClaim lowestFree
   take-shaped s a c s-in e z p =
       let w = lowest-has (nodeCount t) (free t s) a e z in
       let l : a ≤ N = rw (node-count t N (g .aside .nodes-long)) at (w .1) in
       let put = claim-put g a c z l p (free-off-list s a (w .0)) in
       let there : Named N (claimOf (writeClaim t a c)) a = node (omega arith) l (written t a c z (node-room (g .aside) a l) p .proper) in
-      seat-moves put (enter-stored (writeClaim t a c) s (seat-room (g .aside) s s-in) a) (not-idle (omega arith))
-      (on-its-way (omega arith) (omega arith) (not-waiting (omega arith) (omega arith)) (omega arith) there (nothing refl) (put .view .nodes .links 0))
+      seat-moves put (reserve-stored (writeClaim t a c) s (seat-room (g .aside) s s-in) a) (not-idle (omega arith)) (resting-seat (in-7 refl) (omega arith) there)
 
 fetch-shaped : {N S : ℕ} {t : Tables} {s : ℕ} {c : Claim} {f : Fetched} → Shaped N S t → s < S → Proper c → Fetching t s c f → Shaped N S (f .after)
 fetch-shaped {s = s} {c} g s-in p (found a e z) = take-shaped g s a c s-in e z p
@@ -171,14 +169,18 @@ module _ {N S : ℕ} {t : Tables} (g : Shaped N S t) (s : ℕ) (s-in : s < S) (b
 
   hold-shaped : Shaped N S (hold t s)
   unfolding hold
-  hold-shaped = count-put (seat-moves g (hold-stored t s room) (not-idle (omega arith)) (resting-seat (inl refl) own-pos (shape .own-named))) (kindOf t s) _
+  hold-shaped = count-put (seat-moves g (hold-stored t s room) (not-idle (omega arith)) (resting-seat (in-5 refl) own-pos (shape .own-named))) (kindOf t s) _
+
+  enter-shaped : Shaped N S (entering t s)
+  unfolding entering
+  enter-shaped = seat-moves g (enter-stored t s room) (not-idle (omega arith)) (on-foot (inl refl) (shape .prev-named) (g .view .nodes .links 0))
 
   own-marked : Shaped N S (setMark t (own t s) 1)
   own-marked = claim-marked g (own t s) (let o = own-pos in omega arith) (named-in (shape .own-named)) own-proper
 
   withdraw-shaped : Shaped N S (withdraw t s)
   unfolding withdraw
-  withdraw-shaped = seat-moves own-marked (withdraw-stored t s room) (not-idle (omega arith)) (resting-seat (inr refl) own-pos (own-marked .view .seats s .own-named))
+  withdraw-shaped = seat-moves own-marked (withdraw-stored t s room) (not-idle (omega arith)) (resting-seat (in-6 refl) own-pos (own-marked .view .seats s .own-named))
 
   leave-shaped : Shaped N S (leave t s)
   unfolding leave
@@ -273,7 +275,8 @@ module _ {N S : ℕ} {t : Tables} (g : Shaped N S t) (s : ℕ) (s-in : s < S) (b
       branch (λ (d : Done Answer). Shaped N S (d .after)) (fetched .node is 0)
       (λ z. g)
       (λ z. fetch-shaped g s-in (own-proper g s s-in busy) w)
-  stepping-shaped f (at-rest a b c d e) = g
+  stepping-shaped f (steps-in-7 e) = enter-shaped g s s-in busy
+  stepping-shaped f (at-rest a b c d e f′) = g
 
 -- ---- the calls
 -- what a call keeps and the shape does not show: the counts are right, and no claim ends beyond the title
@@ -299,18 +302,26 @@ module _ (t : Tables) (s : ℕ) where
   unfolding call
   step-keeps-sound e f = step-sound e (fitting-kept t (stepCall s) e) f (stepped t s)
 
-  begin-sound : {c : Claim} {d : Done Answer} → sound t ≡ true → Fitting (d .after) → Beginning t s c d → sound (d .after) ≡ true
-  unfolding begun
-  begin-sound e k (begin-refused number r) = e
-  begin-sound e k (begin-accepted {f = f} y h p i z w) =
+  reserve-sound : {c : Claim} {d : Done Answer} → sound t ≡ true → Fitting (d .after) → Reserving t s c d → sound (d .after) ≡ true
+  unfolding reserved
+  reserve-sound e k (reserve-refused number r) = e
+  reserve-sound e k (reserve-accepted {f = f} y h p i z w) =
       branch (λ (d : Done Answer). Fitting (d .after) → sound (d .after) ≡ true) (f .node is 0)
       (λ q k. e)
       (λ q k. shaped-after e (fetch-shaped (sound-shaped (is-sound t e)) h p w) k)
       k
 
-  pub begin-keeps-sound : (c : Claim) → sound t ≡ true → sound (begin t s c .after) ≡ true
+  pub reserve-keeps-sound : (c : Claim) → sound t ≡ true → sound (reserve t s c .after) ≡ true
   unfolding call
-  begin-keeps-sound c e = begin-sound e (fitting-kept t (beginCall s c) e) (beginning t s c)
+  reserve-keeps-sound c e = reserve-sound e (fitting-kept t (reserveCall s c) e) (reserving t s c)
+
+  enter-sound : {d : Done Answer} → sound t ≡ true → Fitting (d .after) → Entering t s d → sound (d .after) ≡ true
+  enter-sound e c (enter-refused number r) = e
+  enter-sound e c (enter-accepted y h p) = shaped-after e (enter-shaped (sound-shaped (is-sound t e)) s h (omega arith)) c
+
+  pub enter-keeps-sound : sound t ≡ true → sound (enter t s .after) ≡ true
+  unfolding call
+  enter-keeps-sound e = enter-sound e (fitting-kept t (enterCall s) e) (enters t s)
 
   release-sound : {d : Done Answer} → sound t ≡ true → Fitting (d .after) → Releasing t s d → sound (d .after) ≡ true
   release-sound e c (release-refused number r) = e

@@ -1,6 +1,7 @@
--- A withdrawn claim that is stepped alone is refused for want of a node, or starts again at the head, where it will see the whole list.
+-- A withdrawn claim that is stepped alone is refused for want of a node, or has one reserved; and one that has a node reserved starts at the head,
+-- where it will see the whole list.
 use Prim.Native.Nat.{ℕ, _<_}
-use mathlib.Core.Path.{_≡_, refl}
+use mathlib.Core.Path.{_≡_, refl, _∙_}
 use mathlib.Core.Bool.{true}
 use mathlib.Core.Logic.{_≢_, _⊎_, inl, inr}
 use native.Mathlib.Omega.{arith}
@@ -8,38 +9,29 @@ use borrow.Author.Tests.{ne-eqb}
 use Rattle.rules.specs.Tables.{Tables, phaseAt, prevAt, curAt, phase, own}
 use Rattle.rules.specs.Comparison.{Claim, claimOf}
 use Rattle.rules.specs.Reach.{lowestFree}
-use Rattle.rules.specs.Fetch.{Fetched, takenOut, writeClaim, enterAtHead, takeNode, fetch}
-use Rattle.rules.specs.Steps.{refetched}
+use Rattle.rules.specs.Fetch.{Fetched, takenOut, writeClaim, takeNode, fetch}
+use Rattle.rules.specs.Steps.{refetched, entering}
 use Rattle.rules.specs.Calls.{step}
 use Rattle.rules.specs.Reached.{Reached}
 use Rattle.rules.proofs.Rules.Effects.{Room}
-use Rattle.rules.proofs.Rules.RuleEffects.{enter-stored}
-use Rattle.rules.proofs.Rules.Reasons.{Fetching, found, found-then, none, fetching, by-phase-6}
+use Rattle.rules.proofs.Rules.RuleEffects.{enter-stored, reserve-stored}
+use Rattle.rules.proofs.Rules.Reasons.{Fetching, found, found-then, none, fetching, by-phase-6, by-phase-7}
 use Rattle.rules.proofs.Laws.NodesAlone.{taken-out-seats}
 use Rattle.rules.proofs.Keeping.Aside.{seat-room}
 use Rattle.rules.proofs.Keeping.CallKeeps.{good}
 use Rattle.rules.proofs.Waiting.Alone.{AtRest, rests-refused, step-reached, accepted}
 use Rattle.rules.proofs.Waiting.WalkAlone.{WalkAt}
+use Rattle.rules.proofs.Laws.Shape.{in-7}
 
--- a seat that has just taken a node stands at the head, with all of the list ahead
-taken-walks : {N S : ℕ} (t : Tables) (s a : ℕ) (c : Claim) → Room t s → Reached N S (takeNode t s a c) → WalkAt N S s true (takeNode t s a c)
-unfolding takeNode enterAtHead writeClaim
-taken-walks t s a c r g =
-    let w = enter-stored (writeClaim t a c) s r a in
-    let prev-is = w .at-s prevAt (omega arith) in
-    let cur-is = w .at-s curAt (omega arith) in
-    record {
-      reached = g;
-      in-1 = w .at-s phaseAt (omega arith);
-      joined = record { unmarked = rw (prev-is, good g .inv .nodes .head-unmarked) (omega arith); to-cur = rw (prev-is, cur-is) };
-      seen-all = λ q ko x on m. inl (rw cur-is on);
-    }
+-- a seat that has just taken a node has it reserved
+taken-reserved : (t : Tables) (s a : ℕ) (c : Claim) → Room t s → phase (takeNode t s a c) s ≡ 7
+unfolding takeNode writeClaim
+taken-reserved t s a c r = reserve-stored (writeClaim t a c) s r a .at-s phaseAt (omega arith)
 
-fetched-walks : {N S : ℕ} {t : Tables} {s : ℕ} {c : Claim} {f : Fetched} → Room t s → Reached N S (f .after) → f .node ≢ 0 → Fetching t s c f
-    → WalkAt N S s true (f .after)
-fetched-walks {t = t} {s} {c} r g d (found a e z) = taken-walks t s a c r g
-fetched-walks {t = t} {s} {c} r g d (found-then a e e′ z) = taken-walks (takenOut t) s a c (rw (taken-out-seats t) r) g
-fetched-walks r g d (none e e′) = absurd (d refl)
+fetched-reserved : {t : Tables} {s : ℕ} {c : Claim} {f : Fetched} → Room t s → f .node ≢ 0 → Fetching t s c f → phase (f .after) s ≡ 7
+fetched-reserved {t} {s} {c} r d (found a e z) = taken-reserved t s a c r
+fetched-reserved {t} {s} {c} r d (found-then a e e′ z) = taken-reserved (takenOut t) s a c (rw (taken-out-seats t) r)
+fetched-reserved r d (none e e′) = absurd (d refl)
 
 refetched-found : (t : Tables) (s : ℕ) (f : Fetched) → f .node ≢ 0 → refetched t s f .after ≡ f .after
 unfolding refetched
@@ -54,14 +46,32 @@ module _ {N S : ℕ} (s : ℕ) (s-in : s < S) {t : Tables} (g : Reached N S t) (
   fetched-or-none (found-then a e e′ z) = inr z
   fetched-or-none (none e e′) = inl (e, e′)
 
-  pub after-6 : AtRest s t ⊎ WalkAt N S s true (step t s .after)
+  pub after-6 : AtRest s t ⊎ (phase (step t s .after) s ≡ 7)
   after-6 =
       let w = fetching t s c in
       elim (fetched-or-none w) [
         | inl z ↦ inl (rests-refused gone (z .0) (z .1))
         | inr d ↦ inr (
-            let q = accepted s s-in g (omega arith) in
-            let found = refetched-found t s (fetch t s c) d in
-            rw (q, by-phase-6 t s gone, found)
-            (fetched-walks (seat-room (good g .aside) s s-in) (rw (q, by-phase-6 t s gone, found) at (step-reached g s)) d w))
+            rw (accepted s s-in g (omega arith), by-phase-6 t s gone, refetched-found t s (fetch t s c) d)
+            (fetched-reserved (seat-room (good g .aside) s s-in) d w))
       ]
+
+-- a seat that enters stands at the head, with all of the list ahead
+module _ {N S : ℕ} (s : ℕ) (s-in : s < S) {t : Tables} (g : Reached N S t) (has-node : phase t s ≡ 7) where
+  entered-walks : Reached N S (entering t s) → WalkAt N S s true (entering t s)
+  unfolding entering
+  entered-walks h =
+      let w = enter-stored t s (seat-room (good g .aside) s s-in) in
+      let prev-is = w .at-s prevAt (omega arith) ∙ good g .inv .seats s .resting (in-7 has-node) .0 in
+      let cur-is = w .at-s curAt (omega arith) in
+      record {
+        reached = h;
+        in-1 = w .at-s phaseAt (omega arith);
+        joined = record { unmarked = rw (prev-is, good h .inv .nodes .head-unmarked) (omega arith); to-cur = rw (prev-is, cur-is) };
+        seen-all = λ q ko x on m. inl (rw cur-is on);
+      }
+
+  pub after-7 : WalkAt N S s true (step t s .after)
+  after-7 =
+      let q = accepted s s-in g (omega arith) in
+      rw (q, by-phase-7 t s has-node) (entered-walks (rw (q, by-phase-7 t s has-node) at (step-reached g s)))

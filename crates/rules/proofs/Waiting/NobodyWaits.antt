@@ -20,13 +20,13 @@ module _ {N S : ℕ} {t : Tables} (r : Reached N S t) (s : ℕ) (busy : phase t 
   seat-in : s < S
   seat-in = busy-in (good r) s busy
 
-  pub settled : (k : ℕ) → 5 * N + 7 ≤ k → Settled (stepTimes k t s) s
-  settled k h = settled-after s seat-in k t r (more-time {k = 5 * N + 7} h (comes-to-rest s seat-in r busy))
+  pub settled : (k : ℕ) → 5 * N + 8 ≤ k → Settled (stepTimes k t s) s
+  settled k h = settled-after s seat-in k t r (more-time {k = 5 * N + 8} h (comes-to-rest s seat-in r busy))
 
   pub none-or-8 : (k : ℕ) → (refusalOf (step (stepTimes k t s) s .answer) ≡ 0) ⊎ (step (stepTimes k t s) s .answer ≡ refused 8)
   none-or-8 k = elim (step-none-or-8 s seat-in (times-reached k s r) (times-busy k t s busy)) [ no-refusal e ↦ inl e | refusal-8 e ↦ inr e ]
 
-  pub settled-by-run : (k : ℕ) → 5 * N + 7 ≤ k → (budget : ℕ) → k ≤ budget → Settled (run t (replicate k s) budget .after) s
+  pub settled-by-run : (k : ℕ) → 5 * N + 8 ≤ k → (budget : ℕ) → k ≤ budget → Settled (run t (replicate k s) budget .after) s
   settled-by-run k h budget l = rw (run-alone r k budget s l) (settled k h)
 
   pub run-ends : (k budget : ℕ) → k ≤ budget → RunEnds k (run t (replicate k s) budget .answer)

@@ -1,5 +1,5 @@
 -- `script::body_line` meets its contract.
-use Rattle.script.proofs.Reading.{byte-inside, body-begin, body-step, body-release, body-none}
+use Rattle.script.proofs.Reading.{byte-inside, body-reserve, body-step, body-release, body-none}
 use native.Mathlib.Omega.{arith}
 use borrow.Author.Needs.{needs}
 use Rattle.script.proofs.body_line.Statement.{statement}
@@ -8,14 +8,14 @@ use Rattle.script.proofs.body_line.Tie as tie
 byte-requires : tie.Need-byte-requires
 byte-requires c κs = search needs
 
-add-begin-line : tie.Need-add-begin-line
-add-begin-line c = omega (arith, byte-inside _ _ _ (c .before .byte .ensures) (omega arith))
+add-reserve-line : tie.Need-add-reserve-line
+add-reserve-line c = omega (arith, byte-inside _ _ _ (c .before .byte .ensures) (omega arith))
 
-begin-line-requires : tie.Need-begin-line-requires
-begin-line-requires c κs = search needs
+reserve-line-requires : tie.Need-reserve-line-requires
+reserve-line-requires c κs = search needs
 
 returns : tie.Need-returns
-returns c = search body-begin
+returns c = search body-reserve
 
 add-seat-line : tie.Need-add-seat-line
 add-seat-line c = omega (arith, byte-inside _ _ _ (c .before .before .byte .ensures) (omega arith))
@@ -49,8 +49,8 @@ body-line-spec =
     tie.close
     (tie.spec
     byte-requires
-    add-begin-line
-    begin-line-requires
+    add-reserve-line
+    reserve-line-requires
     returns
     add-seat-line
     seat-line-requires

@@ -1,8 +1,8 @@
--- `script::begin_line` meets its contract.
-use Rattle.rules.specs.Script.{beginLine}
+-- `script::reserve_line` meets its contract.
+use Rattle.rules.specs.Script.{reserveLine}
 use borrow.Author.Needs.{needs}
-use Rattle.script.proofs.begin_line.Statement.{statement}
-use Rattle.script.proofs.begin_line.Tie as tie
+use Rattle.script.proofs.reserve_line.Statement.{statement}
+use Rattle.script.proofs.reserve_line.Tie as tie
 
 field-requires : tie.Need-field-requires
 field-requires c κs = search needs
@@ -20,11 +20,11 @@ line-end-requires : tie.Need-line-end-requires
 line-end-requires c κs = search needs
 
 returns : tie.Need-returns
-unfolding beginLine
+unfolding reserveLine
 returns c = cc
 
-pub begin-line-spec : {M : Type 1} → statement M
-begin-line-spec =
+pub reserve-line-spec : {M : Type 1} → statement M
+reserve-line-spec =
     tie.close
     (tie.spec
     field-requires
