@@ -12,16 +12,14 @@ use mir.Syntax.{w32}
 use mir.Val.{Fits, ofZ, toZ}
 use native.Mathlib.Omega.{arith}
 use borrow.Author.Tests.{eq-eqb, ne-eqb}
-use Rattle.rules.specs.Tables.{Tables, tables, seatWidth, seatCountOf, nodeWord, putNode, linkWord, seatWord, putSeat, clearWords, kindAt, markAt, startAt, endAt, phaseAt, ownAt, prevAt, curAt, countWord, setCount, phase}
-use Rattle.rules.specs.Shape.{sound}
+use Rattle.rules.specs.Tables.{Tables, tables, seatWidth, nodeWord, putNode, linkWord, seatWord, putSeat, clearWords, kindAt, markAt, startAt, endAt, phaseAt, ownAt, prevAt, curAt, countWord, setCount}
 use Rattle.rules.specs.Comparison.{claimOf, compare, shared}
 use Rattle.rules.specs.Answers.{Answer, on, wait, held, back, waiting, answerOf}
-use Rattle.rules.specs.Steps.{moveTo, joined, unlink, pass, linkIn, startValidating, lookAgain, insert, kindOf, hold, withdraw, leave, walking, waitingToEnter, readerValidating, writerValidating, validating, readerWaiting}
+use Rattle.rules.specs.Steps.{entering, moveTo, joined, unlink, pass, linkIn, startValidating, lookAgain, insert, kindOf, hold, withdraw, leave, walking, waitingToEnter, readerValidating, writerValidating, validating, readerWaiting}
 use Rattle.rules.specs.declared.SharedRun.{SharedRun}
 use Rattle.rules.proofs.Laws.Answers.{answers-wait, answers-held, answers-back}
-use Rattle.rules.proofs.Laws.Counts.{count-few, holder-counts}
 use Rattle.comparison.proofs.Signs.{compare-fits, at-zero, below-zero, above-zero}
-use Rattle.steps.specs.Parts.{skip, skipAndLink, walkByComparison, wakeTo, isPast, readOn, endsBefore, writeOn, markAndClear}
+use Rattle.steps.specs.Parts.{skip, skipAndLink, walkByComparison, wakeTo, isPast, readOn, endsBefore, writeOn, countOfKind, markAndClear}
 
 -- ---- tests
 pub joined-is : (n t : List ℕ) (s v c m x : ℕ) → x ≡ linkWord n v → m ≡ nodeWord n v markAt → c ≡ seatWord t s curAt → v ≡ seatWord t s prevAt
@@ -39,12 +37,12 @@ pub before-is : (n t : List ℕ) (s o c e x : ℕ) → x ≡ nodeWord n o startA
 unfolding endsBefore
 before-is n t s o c e x px pe pc po = rw (px, pe, pc, po)
 
--- ---- the counts: in sound tables a few more fit, and one less at a seat that holds
-pub count-fits : (n t : List ℕ) (k x m : ℕ) → x ≡ countWord (tables n []) k → sound (tables n t) ≡ true → m ≤ 64 → Fits w32 (x + m)
-count-fits n t k x m e z i = let h : x ≤ 64 = rw e (count-few (tables n t) z k) in record { fits = omega arith }
+-- ---- the counts: one more fits, and there is one to take off
+pub count-fits : (n t : List ℕ) (s k x : ℕ) → x ≡ countWord (tables n []) k → k ≡ kindOf (tables n t) s → countOfKind (tables n t) s < 4294967295 → Fits w32 (x + 1)
+count-fits n t s k x e q h = let i : x < 4294967295 = rw (e, q) h in record { fits = omega arith }
 
-pub count-some : (n t : List ℕ) (s k x : ℕ) → x ≡ countWord (tables n []) k → k ≡ kindOf (tables n t) s → sound (tables n t) ≡ true → s < seatCountOf t → phase (tables n t) s ≡ 5 → 1 ≤ x
-count-some n t s k x e q z h p = rw (e, q) (holder-counts (tables n t) z s h p)
+pub count-some : (n t : List ℕ) (s k x : ℕ) → x ≡ countWord (tables n []) k → k ≡ kindOf (tables n t) s → 1 ≤ countOfKind (tables n t) s → 1 ≤ x
+count-some n t s k x e q h = rw (e, q) h
 
 -- ---- hold, withdraw and release
 pub hold-is : (n n′ t t′ : List ℕ) (s k x : ℕ) → n′ ≡ setCount (tables n []) k (x + 1) .nodes → t′ ≡ moveTo (tables [] t) s 5 0 0 .seats → x ≡ countWord (tables n []) k → k ≡ kindOf (tables n t) s
@@ -239,6 +237,11 @@ enter-is n t t′ s w = w
 pub reader-is : (n t t′ : List ℕ) (s : ℕ) → tables n t′ ≡ wakeTo 3 (tables n t) s → tables n t′ ≡ readerWaiting (tables n t) s
 unfolding wakeTo readerWaiting
 reader-is n t t′ s w = w
+
+-- ---- entering
+pub enters-is : (n t t₁ t′ : List ℕ) (s h : ℕ) → t′ ≡ putSeat t₁ s curAt h → t₁ ≡ putSeat t s phaseAt 1 → h ≡ linkWord n 0 → tables n t′ ≡ entering (tables n t) s
+unfolding entering
+enters-is n t t₁ t′ s h p q e = rw (p, q, e)
 
 -- ---- the answer
 module _ (n t : List ℕ) (s : ℕ) where

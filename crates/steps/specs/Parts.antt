@@ -2,9 +2,9 @@
 use Prim.Native.Nat.{ℕ}
 use mathlib.Core.Bool.{Bool, _||_}
 use Rattle.rules.specs.Notation.{if_then_else_, _is_, _≤?_}
-use Rattle.rules.specs.Tables.{Tables, start, end, marked, next, own, prev, cur, setLink, setMark, setPhase, setCur, clearSeat}
+use Rattle.rules.specs.Tables.{Tables, countWord, start, end, marked, next, own, prev, cur, setLink, setMark, setPhase, setCur, clearSeat}
 use Rattle.rules.specs.Comparison.{claimOf, reads, compare, byComparison}
-use Rattle.rules.specs.Steps.{unlink, pass, insert, withdraw}
+use Rattle.rules.specs.Steps.{unlink, pass, insert, kindOf, withdraw}
 
 -- of unlink: cur becomes cur's next, without and with the link of prev
 abbrev pub skip : Tables → ℕ → Tables
@@ -42,6 +42,10 @@ writeOn t s =
     if marked t (cur t s) then unlink t s
     else if end t (cur t s) ≤? start t (own t s) then pass t s
     else withdraw t s
+
+-- of hold and release: how many hold with a claim of the seat's kind
+abbrev pub countOfKind : Tables → ℕ → ℕ
+countOfKind t s = countWord t (kindOf t s)
 
 -- of release
 abbrev pub markAndClear : Tables → ℕ → Tables

@@ -109,6 +109,13 @@ pub store-seat : (l l′ : List ℕ) (s f p v : ℕ) → l′ ≡ set l p v → 
 unfolding putSeat
 store-seat l l′ s f p v e q = rw q at e
 
+-- in the part of one seat
+pub read-field : (l : List ℕ) (f r : ℕ) → r ≡ getD l f 0 → r ≡ seatWord l 0 f
+read-field l f r e = read-seat l 0 f f r e (omega arith)
+
+pub store-field : (l l′ : List ℕ) (f v : ℕ) → l′ ≡ set l f v → l′ ≡ putSeat l 0 f v
+store-field l l′ f v e = store-seat l l′ 0 f f v e (omega arith)
+
 -- S seats take no more words than there are, so a seat that the table has has all of its words there
 pub seats-within : (l : List ℕ) (n : ℕ) → n ≡ seatCountOf l → seatWidth * n ≤ length l
 unfolding seatCountOf

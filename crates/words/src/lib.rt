@@ -243,14 +243,42 @@ pub fn put_seat(seats: &mut [u32], s: u32, field: u32, value: u32)
     put(seats, seat_place(s, field), value);
 }
 
-// 0 in every word of a seat
-pub fn clear_seat(seats: &mut [u32], s: u32)
-    ensures { λ r. ⌜ now (seats .exit) ≡ clearWords seatWidth (now (seats .entry)) s ⌝ }
+// ---- the words of one seat, lent as a part of the table: that part is a table of the seat alone, in which its number is 0
+
+// where the part starts
+pub fn seat_start(s: u32) -> usize
+    ensures { λ r. ⌜ r ≡ seatWidth * s ⌝ }
 {
-    let mut field: u32 = 0;
-    while (field as usize) < SEAT_WIDTH {
-        put_seat(seats, s, field, 0);
-        field += 1;
+    SEAT_WIDTH * s as usize
+}
+
+// and where it ends
+pub fn seat_end(s: u32) -> usize
+    ensures { λ r. ⌜ r ≡ seatWidth * s + seatWidth ⌝ }
+{
+    SEAT_WIDTH * s as usize + SEAT_WIDTH
+}
+
+pub fn field(seat: &[u32], at: u32) -> u32
+    ensures { λ r. ⌜ r ≡ seatWord (now (seat .entry)) 0 at ⌝ }
+{
+    word(seat, at as usize)
+}
+
+pub fn put_field(seat: &mut [u32], at: u32, value: u32)
+    ensures { λ r. ⌜ now (seat .exit) ≡ putSeat (now (seat .entry)) 0 at value ⌝ }
+{
+    put(seat, at as usize, value);
+}
+
+// 0 in every word of it
+pub fn clear_seat(seat: &mut [u32])
+    ensures { λ r. ⌜ now (seat .exit) ≡ clearWords seatWidth (now (seat .entry)) 0 ⌝ }
+{
+    let mut at: u32 = 0;
+    while (at as usize) < SEAT_WIDTH {
+        put_field(seat, at, 0);
+        at += 1;
     }
 }
 

@@ -4,8 +4,8 @@ use borrow.Author.Needs.{needs}
 use Rattle.steps.proofs.answer.Statement.{statement}
 use Rattle.steps.proofs.answer.Tie as tie
 
-seat-word-within-requires : tie.Need-seat-word-within-requires
-seat-word-within-requires c κs = search needs
+field-requires : tie.Need-field-requires
+field-requires c κs = search needs
 
 waiting-requires : tie.Need-waiting-requires
 waiting-requires c κs = search needs
@@ -24,4 +24,4 @@ returns-4 c = search answer-on
 
 pub answer-spec : {M : Type 1} → statement M
 answer-spec =
-    tie.close (tie.spec seat-word-within-requires waiting-requires returns returns-2 returns-3 returns-4)
+    tie.close (tie.spec field-requires waiting-requires returns returns-2 returns-3 returns-4)

@@ -3,8 +3,8 @@ use borrow.Author.Needs.{needs}
 use Rattle.steps.proofs.kind_of.Statement.{statement}
 use Rattle.steps.proofs.kind_of.Tie as tie
 
-seat-word-requires : tie.Need-seat-word-requires
-seat-word-requires c κs = search needs
+field-requires : tie.Need-field-requires
+field-requires c κs = search needs
 
 node-word-requires : tie.Need-node-word-requires
 node-word-requires c κs = search needs
@@ -13,4 +13,4 @@ returns : tie.Need-returns
 returns c = cc
 
 pub kind-of-spec : {M : Type 1} → statement M
-kind-of-spec = tie.close (tie.spec seat-word-requires node-word-requires returns)
+kind-of-spec = tie.close (tie.spec field-requires node-word-requires returns)

@@ -4,14 +4,14 @@ use borrow.Author.Needs.{needs}
 use Rattle.steps.proofs.link_in.Statement.{statement}
 use Rattle.steps.proofs.link_in.Tie as tie
 
-seat-word-requires : tie.Need-seat-word-requires
-seat-word-requires c κs = search needs
+field-requires : tie.Need-field-requires
+field-requires c κs = search needs
 
-seat-word-requires-2 : tie.Need-seat-word-requires-2
-seat-word-requires-2 c κs = search needs
+field-requires-2 : tie.Need-field-requires-2
+field-requires-2 c κs = search needs
 
-seat-word-requires-3 : tie.Need-seat-word-requires-3
-seat-word-requires-3 c κs = search needs
+field-requires-3 : tie.Need-field-requires-3
+field-requires-3 c κs = search needs
 
 put-link-requires : tie.Need-put-link-requires
 put-link-requires c κs = search needs
@@ -30,9 +30,9 @@ pub link-in-spec : {M : Type 1} → statement M
 link-in-spec =
     tie.close
     (tie.spec
-    seat-word-requires
-    seat-word-requires-2
-    seat-word-requires-3
+    field-requires
+    field-requires-2
+    field-requires-3
     put-link-requires
     put-link-requires-2
     same-length

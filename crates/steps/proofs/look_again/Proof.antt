@@ -4,8 +4,8 @@ use borrow.Author.Needs.{needs}
 use Rattle.steps.proofs.look_again.Statement.{statement}
 use Rattle.steps.proofs.look_again.Tie as tie
 
-seat-word-requires : tie.Need-seat-word-requires
-seat-word-requires c κs = search needs
+field-requires : tie.Need-field-requires
+field-requires c κs = search needs
 
 node-word-requires : tie.Need-node-word-requires
 node-word-requires c κs = search needs
@@ -13,11 +13,11 @@ node-word-requires c κs = search needs
 link-requires : tie.Need-link-requires
 link-requires c κs = search needs
 
-put-seat-requires : tie.Need-put-seat-requires
-put-seat-requires c κs = search needs
+put-field-requires : tie.Need-put-field-requires
+put-field-requires c κs = search needs
 
-put-seat-requires-2 : tie.Need-put-seat-requires-2
-put-seat-requires-2 c κs = search needs
+put-field-requires-2 : tie.Need-put-field-requires-2
+put-field-requires-2 c κs = search needs
 
 same-length : tie.Need-same-length
 same-length c = search needs
@@ -28,8 +28,8 @@ returns c = search again-from-head
 link-requires-2 : tie.Need-link-requires-2
 link-requires-2 c κs = search needs
 
-put-seat-requires-3 : tie.Need-put-seat-requires-3
-put-seat-requires-3 c κs = search needs
+put-field-requires-3 : tie.Need-put-field-requires-3
+put-field-requires-3 c κs = search needs
 
 same-length-2 : tie.Need-same-length-2
 same-length-2 c = search needs
@@ -41,14 +41,14 @@ pub look-again-spec : {M : Type 1} → statement M
 look-again-spec =
     tie.close
     (tie.spec
-    seat-word-requires
+    field-requires
     node-word-requires
     link-requires
-    put-seat-requires
-    put-seat-requires-2
+    put-field-requires
+    put-field-requires-2
     same-length
     returns
     link-requires-2
-    put-seat-requires-3
+    put-field-requires-3
     same-length-2
     returns-2)

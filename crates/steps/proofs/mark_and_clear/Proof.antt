@@ -4,8 +4,8 @@ use borrow.Author.Needs.{needs}
 use Rattle.steps.proofs.mark_and_clear.Statement.{statement}
 use Rattle.steps.proofs.mark_and_clear.Tie as tie
 
-seat-word-requires : tie.Need-seat-word-requires
-seat-word-requires c κs = search needs
+field-requires : tie.Need-field-requires
+field-requires c κs = search needs
 
 put-node-requires : tie.Need-put-node-requires
 put-node-requires c κs = search needs
@@ -26,7 +26,7 @@ pub mark-and-clear-spec : {M : Type 1} → statement M
 mark-and-clear-spec =
     tie.close
     (tie.spec
-    seat-word-requires
+    field-requires
     put-node-requires
     clear-seat-requires
     same-length

@@ -4,17 +4,17 @@ use borrow.Author.Needs.{needs}
 use Rattle.steps.proofs.pass.Statement.{statement}
 use Rattle.steps.proofs.pass.Tie as tie
 
-seat-word-requires : tie.Need-seat-word-requires
-seat-word-requires c κs = search needs
+field-requires : tie.Need-field-requires
+field-requires c κs = search needs
 
 link-requires : tie.Need-link-requires
 link-requires c κs = search needs
 
-put-seat-requires : tie.Need-put-seat-requires
-put-seat-requires c κs = search needs
+put-field-requires : tie.Need-put-field-requires
+put-field-requires c κs = search needs
 
-put-seat-requires-2 : tie.Need-put-seat-requires-2
-put-seat-requires-2 c κs = search needs
+put-field-requires-2 : tie.Need-put-field-requires-2
+put-field-requires-2 c κs = search needs
 
 same-length : tie.Need-same-length
 same-length c = search needs
@@ -27,9 +27,9 @@ pub pass-spec : {M : Type 1} → statement M
 pass-spec =
     tie.close
     (tie.spec
-    seat-word-requires
+    field-requires
     link-requires
-    put-seat-requires
-    put-seat-requires-2
+    put-field-requires
+    put-field-requires-2
     same-length
     returns)

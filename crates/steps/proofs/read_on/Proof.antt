@@ -4,8 +4,8 @@ use borrow.Author.Needs.{needs}
 use Rattle.steps.proofs.read_on.Statement.{statement}
 use Rattle.steps.proofs.read_on.Tie as tie
 
-seat-word-requires : tie.Need-seat-word-requires
-seat-word-requires c κs = search needs
+field-requires : tie.Need-field-requires
+field-requires c κs = search needs
 
 node-word-requires : tie.Need-node-word-requires
 node-word-requires c κs = search needs
@@ -42,10 +42,10 @@ returns-2 c =
     let e = k .before .before in
     let m = e .before in
     let u = m .before .before in
-    read-reader _ _ _ _ _ (u .seat-word .ensures) _ (m .node-word .ensures) _ (k .node-word2 .ensures) (p .pass .ensures) (i .if2 .taken) (e .if1 .left)
+    read-reader _ _ _ _ _ (u .field .ensures) _ (m .node-word .ensures) _ (k .node-word2 .ensures) (p .pass .ensures) (i .if2 .taken) (e .if1 .left)
 
-put-seat-requires : tie.Need-put-seat-requires
-put-seat-requires c κs = search needs
+put-field-requires : tie.Need-put-field-requires
+put-field-requires c κs = search needs
 
 same-length-5 : tie.Need-same-length-5
 same-length-5 c = search needs
@@ -61,13 +61,13 @@ returns-3 c =
     let e = k .before .before in
     let m = e .before in
     let u = m .before .before in
-    read-writer _ _ _ _ _ (u .seat-word .ensures) _ (m .node-word .ensures) _ (k .node-word2 .ensures) (p .put-seat .ensures) (i .if2 .left) (e .if1 .left)
+    read-writer _ _ _ _ _ (u .field .ensures) _ (m .node-word .ensures) _ (k .node-word2 .ensures) (p .put-field .ensures) (i .if2 .left) (e .if1 .left)
 
 pub read-on-spec : {M : Type 1} → statement M
 read-on-spec =
     tie.close
     (tie.spec
-    seat-word-requires
+    field-requires
     node-word-requires
     unlink-requires
     same-length
@@ -78,7 +78,7 @@ read-on-spec =
     same-length-3
     same-length-4
     returns-2
-    put-seat-requires
+    put-field-requires
     same-length-5
     same-length-6
     returns-3)

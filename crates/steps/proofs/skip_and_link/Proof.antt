@@ -3,11 +3,11 @@ use borrow.Author.Needs.{needs}
 use Rattle.steps.proofs.skip_and_link.Statement.{statement}
 use Rattle.steps.proofs.skip_and_link.Tie as tie
 
-seat-word-requires : tie.Need-seat-word-requires
-seat-word-requires c κs = search needs
+field-requires : tie.Need-field-requires
+field-requires c κs = search needs
 
-seat-word-requires-2 : tie.Need-seat-word-requires-2
-seat-word-requires-2 c κs = search needs
+field-requires-2 : tie.Need-field-requires-2
+field-requires-2 c κs = search needs
 
 link-requires : tie.Need-link-requires
 link-requires c κs = search needs
@@ -15,8 +15,8 @@ link-requires c κs = search needs
 put-link-requires : tie.Need-put-link-requires
 put-link-requires c κs = search needs
 
-put-seat-requires : tie.Need-put-seat-requires
-put-seat-requires c κs = search needs
+put-field-requires : tie.Need-put-field-requires
+put-field-requires c κs = search needs
 
 same-length : tie.Need-same-length
 same-length c = search needs
@@ -31,11 +31,11 @@ pub skip-and-link-spec : {M : Type 1} → statement M
 skip-and-link-spec =
     tie.close
     (tie.spec
-    seat-word-requires
-    seat-word-requires-2
+    field-requires
+    field-requires-2
     link-requires
     put-link-requires
-    put-seat-requires
+    put-field-requires
     same-length
     same-length-2
     returns)

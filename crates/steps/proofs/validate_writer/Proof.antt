@@ -4,11 +4,11 @@ use borrow.Author.Needs.{needs}
 use Rattle.steps.proofs.validate_writer.Statement.{statement}
 use Rattle.steps.proofs.validate_writer.Tie as tie
 
-seat-word-requires : tie.Need-seat-word-requires
-seat-word-requires c κs = search needs
+field-requires : tie.Need-field-requires
+field-requires c κs = search needs
 
-seat-word-requires-2 : tie.Need-seat-word-requires-2
-seat-word-requires-2 c κs = search needs
+field-requires-2 : tie.Need-field-requires-2
+field-requires-2 c κs = search needs
 
 hold-requires : tie.Need-hold-requires
 hold-requires c κs = search needs
@@ -50,8 +50,8 @@ pub validate-writer-spec : {M : Type 1} → statement M
 validate-writer-spec =
     tie.close
     (tie.spec
-    seat-word-requires
-    seat-word-requires-2
+    field-requires
+    field-requires-2
     hold-requires
     same-length
     same-length-2

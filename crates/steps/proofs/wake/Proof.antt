@@ -4,14 +4,14 @@ use borrow.Author.Needs.{needs}
 use Rattle.steps.proofs.wake.Statement.{statement}
 use Rattle.steps.proofs.wake.Tie as tie
 
-seat-word-requires : tie.Need-seat-word-requires
-seat-word-requires c κs = search needs
+field-requires : tie.Need-field-requires
+field-requires c κs = search needs
 
 node-word-requires : tie.Need-node-word-requires
 node-word-requires c κs = search needs
 
-put-seat-requires : tie.Need-put-seat-requires
-put-seat-requires c κs = search needs
+put-field-requires : tie.Need-put-field-requires
+put-field-requires c κs = search needs
 
 same-length : tie.Need-same-length
 same-length c = search needs
@@ -29,9 +29,9 @@ pub wake-spec : {M : Type 1} → statement M
 wake-spec =
     tie.close
     (tie.spec
-    seat-word-requires
+    field-requires
     node-word-requires
-    put-seat-requires
+    put-field-requires
     same-length
     returns
     same-length-2

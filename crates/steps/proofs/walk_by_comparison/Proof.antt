@@ -4,17 +4,17 @@ use borrow.Author.Needs.{needs}
 use Rattle.steps.proofs.walk_by_comparison.Statement.{statement}
 use Rattle.steps.proofs.walk_by_comparison.Tie as tie
 
-seat-word-requires : tie.Need-seat-word-requires
-seat-word-requires c κs = search needs
+field-requires : tie.Need-field-requires
+field-requires c κs = search needs
 
-seat-word-requires-2 : tie.Need-seat-word-requires-2
-seat-word-requires-2 c κs = search needs
+field-requires-2 : tie.Need-field-requires-2
+field-requires-2 c κs = search needs
 
 compare-nodes-requires : tie.Need-compare-nodes-requires
 compare-nodes-requires c κs = search needs
 
-put-seat-requires : tie.Need-put-seat-requires
-put-seat-requires c κs = search needs
+put-field-requires : tie.Need-put-field-requires
+put-field-requires c κs = search needs
 
 same-length : tie.Need-same-length
 same-length c = search needs
@@ -53,10 +53,10 @@ pub walk-by-comparison-spec : {M : Type 1} → statement M
 walk-by-comparison-spec =
     tie.close
     (tie.spec
-    seat-word-requires
-    seat-word-requires-2
+    field-requires
+    field-requires-2
     compare-nodes-requires
-    put-seat-requires
+    put-field-requires
     same-length
     same-length-2
     returns

@@ -4,8 +4,8 @@ use borrow.Author.Needs.{needs}
 use Rattle.steps.proofs.write_on.Statement.{statement}
 use Rattle.steps.proofs.write_on.Tie as tie
 
-seat-word-requires : tie.Need-seat-word-requires
-seat-word-requires c κs = search needs
+field-requires : tie.Need-field-requires
+field-requires c κs = search needs
 
 node-word-requires : tie.Need-node-word-requires
 node-word-requires c κs = search needs
@@ -42,7 +42,7 @@ returns-2 c =
     let e = b .before .before .before in
     let m = e .before in
     let u = m .before .before in
-    write-past _ _ _ _ _ (u .seat-word .ensures) _ (m .node-word .ensures) _ (b .ends-before .ensures) (p .pass .ensures) (i .if2 .taken) (e .if1 .left)
+    write-past _ _ _ _ _ (u .field .ensures) _ (m .node-word .ensures) _ (b .ends-before .ensures) (p .pass .ensures) (i .if2 .taken) (e .if1 .left)
 
 withdraw-requires : tie.Need-withdraw-requires
 withdraw-requires c κs = search needs
@@ -60,7 +60,7 @@ pub write-on-spec : {M : Type 1} → statement M
 write-on-spec =
     tie.close
     (tie.spec
-    seat-word-requires
+    field-requires
     node-word-requires
     unlink-requires
     same-length

@@ -10,10 +10,10 @@ use Rattle.words.proofs.clear_seat.Statement.{statement}
 use Rattle.words.proofs.clear_seat.Tie as tie
 
 abbrev Inv-loop : tie.InvT-loop
-Inv-loop seats₀ s field₀ seats field = (field ≤ seatWidth) × (length seats ≡ length seats₀) × (seats ≡ clearWords field seats₀ s)
+Inv-loop seat₀ at₀ seat at = (at ≤ seatWidth) × (length seat ≡ length seat₀) × (seat ≡ clearWords at seat₀ 0)
 
 abbrev μ-loop : tie.MeasureT-loop
-μ-loop seats₀ s field₀ seats field = seatWidth - field
+μ-loop seat₀ at₀ seat at = seatWidth - at
 
 loop-holds : tie.Need-loop-holds Inv-loop μ-loop
 loop-holds c = (omega arith, refl, clear-none _ _)
@@ -21,11 +21,11 @@ loop-holds c = (omega arith, refl, clear-none _ _)
 cast-loop : tie.Need-cast-loop Inv-loop μ-loop
 cast-loop c = search needs
 
-put-seat-requires : tie.Need-put-seat-requires Inv-loop μ-loop
-put-seat-requires c κs = search needs
+put-field-requires : tie.Need-put-field-requires Inv-loop μ-loop
+put-field-requires c κs = search needs
 
-add-field : tie.Need-add-field Inv-loop μ-loop
-add-field c = omega arith
+add-at : tie.Need-add-at Inv-loop μ-loop
+add-at c = omega arith
 
 loop-less : tie.Need-loop-less Inv-loop μ-loop
 loop-less c = omega arith
@@ -47,8 +47,8 @@ clear-seat-spec =
     μ-loop
     loop-holds
     cast-loop
-    put-seat-requires
-    add-field
+    put-field-requires
+    add-at
     loop-less
     loop-again
     same-length

@@ -1,0 +1,206 @@
+-- Each rule over a seat's own words is the rule over the whole seat table, since it reads and stores the words of its own seat alone. The seat's words
+-- are a table of one seat, 0; `before` and `behind` are what stands around them in the whole table, where the seat's number is s.
+use Prim.Native.Nat.{ℕ, zero, suc, _+_, _-_, _*_, _≤_, _<_}
+use mathlib.Core.Path.{_≡_, refl, sym, ap, _∙_}
+use mathlib.Core.Bool.{Bool, true, false, _||_}
+use mathlib.Core.List.{List, [], _∷_, _++_}
+use native.Mathlib.Omega.{arith}
+use native.Mathlib.Nat.{le-of-suc-le-suc}
+use lib.IntN.{ℤ, pos, negsuc}
+use lib.ListN.{length, getD, set, take, drop, length-drop, take-append-drop, List·getD-append}
+use lib.Seq.{length-take-le, getD-append-add, set-append-left}
+use Rattle.rules.specs.Notation.{if_then_else_, _is_, _≤?_}
+use Rattle.rules.specs.Tables.{Tables, tables, seatWidth, phaseAt, ownAt, prevAt, curAt, seatWord, putSeat, clearWords, start, end, marked, link, next, head, own, prev, cur, setLink, setMark, setPhase, setPrev, setCur, countWord, setCount}
+use Rattle.rules.specs.Comparison.{claimOf, reads, compare, byComparison}
+use Rattle.rules.specs.Answers.{answerOf}
+use Rattle.rules.specs.Steps.{entering, moveTo, joined, unlink, pass, linkIn, startValidating, lookAgain, insert, kindOf, hold, withdraw, leave, walking, waitingToEnter, readerValidating, writerValidating, validating, readerWaiting}
+use Rattle.rules.proofs.Laws.Words.{put-seat-length, seat-within}
+
+-- ---- lists
+set-behind : (x l : List ℕ) (i v : ℕ) → set (x ++ l) (length x + i) v ≡ x ++ set l i v
+set-behind [] l i v = ap (λ k. set l k v) (omega arith)
+set-behind (a ∷ x) l i v =
+    let e : length (a ∷ x) + i ≡ suc (length x + i) = omega arith in
+    ap (λ k. set (a ∷ (x ++ l)) k v) e ∙ ap (λ r. a ∷ r) (set-behind x l i v)
+
+module _ (before behind : List ℕ) (s : ℕ) (at-seat : length before ≡ seatWidth * s) where
+  abbrev whole : List ℕ → List ℕ
+  whole l = before ++ (l ++ behind)
+
+  -- with the seat's words in their place
+  abbrev pub placed : Tables → Tables
+  placed u = tables (u .nodes) (whole (u .seats))
+
+  pub record Placed (t u : Tables) : Type 0 where
+    pub same : t ≡ placed u
+
+  -- all of the seat's words are there
+  abbrev pub Full : Tables → Type 0
+  Full u = seatWidth ≤ length (u .seats)
+
+  -- ---- reads and stores
+  read : (u : Tables) → Full u → (f : ℕ) → f < seatWidth → seatWord (whole (u .seats)) s f ≡ seatWord (u .seats) 0 f
+  unfolding seatWord
+  read u h f i =
+      let l = u .seats in
+      let e : f ≡ seatWidth * 0 + f = omega arith in
+      ap (λ k. getD (whole l) (k + f) 0) (sym at-seat) ∙ getD-append-add before (l ++ behind) f 0 ∙ List·getD-append l behind 0 f (omega arith)
+      ∙ ap (λ k. getD l k 0) e
+
+  put : (l : List ℕ) → seatWidth ≤ length l → (f v : ℕ) → f < seatWidth → putSeat (whole l) s f v ≡ whole (putSeat l 0 f v)
+  unfolding putSeat
+  put l h f v i =
+      let e : f ≡ seatWidth * 0 + f = omega arith in
+      ap (λ k. set (whole l) (k + f) v) (sym at-seat) ∙ set-behind before (l ++ behind) f v ∙ ap (λ r. before ++ r) (set-append-left l behind f v (omega arith))
+      ∙ ap (λ k. whole (set l k v)) e
+
+  still : (l : List ℕ) (f v : ℕ) → seatWidth ≤ length l → seatWidth ≤ length (putSeat l 0 f v)
+  still l f v h = rw (put-seat-length l 0 f v) h
+
+  -- ---- the seat alone
+  phase-same : (u : Tables) → Full u → (p : ℕ) → setPhase (placed u) s p ≡ placed (setPhase u 0 p)
+  phase-same u h p = rw (put (u .seats) h phaseAt p (omega arith))
+
+  cur-same : (u : Tables) → Full u → (c : ℕ) → setCur (placed u) s c ≡ placed (setCur u 0 c)
+  cur-same u h c = rw (put (u .seats) h curAt c (omega arith))
+
+  place-same : (u : Tables) → Full u → (q c : ℕ) → setCur (setPrev (placed u) s q) s c ≡ placed (setCur (setPrev u 0 q) 0 c)
+  place-same u h q c =
+      rw (put (u .seats) h prevAt q (omega arith), put (putSeat (u .seats) 0 prevAt q) (still (u .seats) prevAt q h) curAt c (omega arith))
+
+  move-same : (u : Tables) → Full u → (p q c : ℕ) → moveTo (placed u) s p q c ≡ placed (moveTo u 0 p q c)
+  move-same u h p q c =
+      rw (put (u .seats) h phaseAt p (omega arith)) (place-same (setPhase u 0 p) (still (u .seats) phaseAt p h) q c)
+
+  clear-same : (l : List ℕ) → seatWidth ≤ length l → (n : ℕ) → n ≤ seatWidth → clearWords n (whole l) s ≡ whole (clearWords n l 0)
+  unfolding clearWords
+  clear-same l h zero i = refl
+  clear-same l h (suc n) i = rw (clear-same l h n (omega arith)) (put (clearWords n l 0) (full-still n) n 0 (omega arith))
+    where
+      full-still : (n : ℕ) → seatWidth ≤ length (clearWords n l 0)
+      full-still zero = h
+      full-still (suc n) = still (clearWords n l 0) n 0 (full-still n)
+
+  -- ---- either way
+  if-placed : (b : Bool) {t u x y : Tables} → Placed t x → Placed u y → Placed (if b then t else u) (if b then x else y)
+  if-placed true e f = e
+  if-placed false e f = f
+
+  comparison-placed : (z : ℤ) {t u v x y w : Tables} → Placed t x → Placed u y → Placed v w → Placed (byComparison z t u v) (byComparison z x y w)
+  comparison-placed (pos (suc n)) e f g = e
+  comparison-placed (pos zero) e f g = f
+  comparison-placed (negsuc n) e f g = g
+
+  -- ---- the rules
+  module _ (u : Tables) (h : Full u) where
+    phase-placed : (p : ℕ) → Placed (setPhase (placed u) s p) (setPhase u 0 p)
+    phase-placed p = record { same = phase-same u h p }
+
+    cur-placed : (c : ℕ) → Placed (setCur (placed u) s c) (setCur u 0 c)
+    cur-placed c = record { same = cur-same u h c }
+
+    place-placed : (q c : ℕ) → Placed (setCur (setPrev (placed u) s q) s c) (setCur (setPrev u 0 q) 0 c)
+    place-placed q c = record { same = place-same u h q c }
+
+    move-placed : (p q c : ℕ) → Placed (moveTo (placed u) s p q c) (moveTo u 0 p q c)
+    move-placed p q c = record { same = move-same u h p q c }
+
+    read-own : own (placed u) s ≡ own u 0
+    read-own = read u h ownAt (omega arith)
+
+    read-prev : prev (placed u) s ≡ prev u 0
+    read-prev = read u h prevAt (omega arith)
+
+    read-cur : cur (placed u) s ≡ cur u 0
+    read-cur = read u h curAt (omega arith)
+
+    joined-same : joined (placed u) s ≡ joined u 0
+    unfolding joined
+    joined-same = rw (read-prev, read-cur)
+
+    pass-placed : Placed (pass (placed u) s) (pass u 0)
+    unfolding pass
+    pass-placed = rw read-cur (place-placed (cur u 0) (next u (cur u 0)))
+
+    link-in-same : linkIn (placed u) s ≡ placed (linkIn u 0)
+    unfolding linkIn
+    link-in-same = rw (read-own, read-prev, read-cur)
+
+    start-placed : Placed (startValidating (placed u) s) (startValidating u 0)
+    unfolding startValidating
+    start-placed = rw read-own (if-placed (reads (claimOf u (own u 0))) (move-placed 3 (own u 0) (next u (own u 0))) (move-placed 3 0 (head u)))
+
+    again-placed : Placed (lookAgain (placed u) s) (lookAgain u 0)
+    unfolding lookAgain
+    again-placed = rw read-prev (if-placed (marked u (prev u 0)) (place-placed 0 (head u)) (cur-placed (link u (prev u 0))))
+
+    hold-placed : Placed (hold (placed u) s) (hold u 0)
+    unfolding hold
+    hold-placed = record { same = rw read-own (ap (λ t. setCount t (kindOf u 0) (countWord u (kindOf u 0) + 1)) (move-same u h 5 0 0)) }
+
+    pub leave-placed : Placed (leave (placed u) s) (leave u 0)
+    unfolding leave
+    leave-placed = record { same = rw (read-own, clear-same (u .seats) h seatWidth (omega arith)) }
+
+  module _ (u : Tables) (h : Full u) where
+    unlink-placed : Placed (unlink (placed u) s) (unlink u 0)
+    unfolding unlink
+    unlink-placed =
+        rw (joined-same u h, read-prev u h, read-cur u h)
+        (if-placed (joined u 0) (cur-placed (setLink u (prev u 0) (next u (cur u 0))) h (next u (cur u 0))) (cur-placed u h (next u (cur u 0))))
+
+    withdraw-placed : Placed (withdraw (placed u) s) (withdraw u 0)
+    unfolding withdraw
+    withdraw-placed = rw (read-own u h) (move-placed (setMark u (own u 0) 1) h 6 0 0)
+
+    insert-placed : Placed (insert (placed u) s) (insert u 0)
+    unfolding insert linkIn
+    insert-placed =
+        rw (joined-same u h)
+        (if-placed (joined u 0) (rw (link-in-same u h) (start-placed (linkIn u 0) h)) (again-placed u h))
+
+    reader-placed : Placed (readerValidating (placed u) s) (readerValidating u 0)
+    unfolding readerValidating
+    reader-placed =
+        rw (read-cur u h, read-own u h)
+        (if-placed (cur u 0 is 0 || end u (own u 0) ≤? start u (cur u 0)) (hold-placed u h)
+        (if-placed (marked u (cur u 0)) unlink-placed
+        (if-placed (reads (claimOf u (cur u 0))) (pass-placed u h) (phase-placed u h 4))))
+
+    writer-placed : Placed (writerValidating (placed u) s) (writerValidating u 0)
+    unfolding writerValidating
+    writer-placed =
+        rw (read-cur u h, read-own u h)
+        (if-placed (cur u 0 is own u 0) (hold-placed u h)
+        (if-placed (cur u 0 is 0) withdraw-placed
+        (if-placed (marked u (cur u 0)) unlink-placed
+        (if-placed (end u (cur u 0) ≤? start u (own u 0)) (pass-placed u h) withdraw-placed))))
+
+    pub walking-placed : Placed (walking (placed u) s) (walking u 0)
+    unfolding walking
+    walking-placed =
+        rw (read-cur u h, read-own u h)
+        (if-placed (cur u 0 is 0) insert-placed
+        (if-placed (marked u (cur u 0)) unlink-placed
+        (comparison-placed (compare (claimOf u (cur u 0)) (claimOf u (own u 0))) (pass-placed u h) (phase-placed u h 2) insert-placed)))
+
+    pub waiting-placed : Placed (waitingToEnter (placed u) s) (waitingToEnter u 0)
+    unfolding waitingToEnter
+    waiting-placed = rw (read-cur u h) (if-placed (marked u (cur u 0)) (phase-placed u h 1) (record { same = refl }))
+
+    pub validating-placed : Placed (validating (placed u) s) (validating u 0)
+    unfolding validating
+    validating-placed = rw (read-own u h) (if-placed (reads (claimOf u (own u 0))) reader-placed writer-placed)
+
+    pub reader-waiting-placed : Placed (readerWaiting (placed u) s) (readerWaiting u 0)
+    unfolding readerWaiting
+    reader-waiting-placed = rw (read-cur u h) (if-placed (marked u (cur u 0)) (phase-placed u h 3) (record { same = refl }))
+
+    pub entering-placed : Placed (entering (placed u) s) (entering u 0)
+    unfolding entering
+    entering-placed =
+        record { same = ap (λ t. setCur t s (head u)) (phase-same u h 1) ∙ cur-same (setPhase u 0 1) (still (u .seats) phaseAt 1 h) (head u) }
+
+    pub answer-placed : answerOf (placed u) s ≡ answerOf u 0
+    unfolding answerOf
+    answer-placed = rw (read u h phaseAt (omega arith), read-own u h, read-cur u h)
