@@ -1,33 +1,37 @@
 -- The public calls as one law for each way through the code: n and t are the tables before, n′ and t′ after.
-use Prim.Native.Nat.{ℕ, suc, _+_, _≤_, _<_}
+use Prim.Native.Nat.{ℕ, suc, _+_, _≤_, _<_, _-_, _*_}
 use mathlib.Core.Path.{_≡_, refl, sym, ap, _∙_}
 use mathlib.Core.Bool.{Bool, true, false, not}
-use mathlib.Core.List.{List, [], _∷_}
+use mathlib.Core.List.{List, [], _∷_, _++_}
 use mathlib.Core.Logic.{_≢_, _⊎_, ⊎-elim}
 use native.Mathlib.Omega.{arith}
 use native.Mathlib.Nat.{eq-or-lt-of-le}
-use lib.ListN.{length, getD, set}
+use lib.ListN.{length, getD, set, take, drop}
 use lib.Seq.{getD-set-same, getD-set-other}
 use borrow.Author.Tests.{eq-eqb, ne-eqb, le-leb, lt-leb, le-ltb, lt-ltb, not-true, not-false}
 use Rattle.rules.specs.Notation.{_is_}
-use Rattle.rules.specs.Tables.{tables, titleAt, putTop, title, zeros, fresh, seatWord, seatCountOf, phaseAt}
+use Rattle.rules.specs.Tables.{tables, titleAt, putTop, title, zeros, fresh, seatWord, seatCountOf, phaseAt, seatWidth}
 use Rattle.rules.specs.Comparison.{claim}
 use Rattle.rules.specs.Shape.{lengthsFit, sound, isKind}
 use Rattle.rules.specs.Reach.{countFree}
 use Rattle.rules.specs.Fetch.{fetched, fetch}
-use Rattle.rules.specs.Answers.{Answer, node, out, refused, done, answerOf}
-use Rattle.rules.specs.Steps.{leave}
-use Rattle.rules.specs.Calls.{clear, reserved, reserve, step, release}
+use Rattle.rules.specs.Answers.{Answer, node, out, refused, done, answerOf, on}
+use Rattle.rules.specs.Steps.{leave, entering}
+use Rattle.rules.specs.Calls.{clear, reserved, reserve, step, release, enter}
 use Rattle.rules.specs.Run.{refusalOf}
 use Rattle.rules.specs.FreeCount.{Counted, freeCount}
 use Rattle.rules.proofs.Laws.Words.{same-seat-count}
 use Rattle.rules.proofs.Laws.Answers.{refused-as}
+use Rattle.rules.proofs.Laws.Counts.{holder-counts}
 use Rattle.rules.proofs.Laws.Shape.{lengths-fit}
 use Rattle.rules.proofs.Rules.Accepting.{answers-from-phase, step-has-seat}
+use Rattle.rules.proofs.Frames.Reserved.{entering-says-on}
+use Rattle.steps.specs.Parts.{countOfKind}
+use Rattle.steps.proofs.OwnWords as own
 use Rattle.phases.specs.Parts.{unanswered}
 use Rattle.phases.proofs.Ways.{its-refusal, its-tables}
 use Rattle.fetch.proofs.Ways.{none-kept}
-use Rattle.claims.specs.Parts.{reserveFetching, reserveClaim, releaseSeat}
+use Rattle.claims.specs.Parts.{reserveFetching, reserveClaim, releaseSeat, enterSeat}
 
 -- ---- zeros
 pub record ZeroBelow (l : List ℕ) (i : ℕ) : Type 0 where
@@ -100,10 +104,29 @@ module _ (n t : List ℕ) (s x y k : ℕ) where
         pub reserve-idle : (n′ t′ : List ℕ) (r : Answer) → done r (tables n′ t′) ≡ reserveFetching (tables n t) s (claim x y k) → p ≡ 0 → not b ≡ false → done r (tables n′ t′) ≡ reserveClaim (tables n t) s (claim x y k)
         reserve-idle n′ t′ r w q e = rw (lt-leb y x some, ← isTitle, le-ltb z y within, sym isKindOf ∙ not-false b e, eq-eqb (seatWord t s phaseAt) 0 (sym isPhase ∙ q)) w
 
--- ---- release, past 2
+-- ---- enter and release, past 2: the part from a up to e, which are the seat's own words, is lent, and l′ is what they are then
 module _ (n t : List ℕ) (s p : ℕ) (isPhase : p ≡ seatWord t s phaseAt) where
-  pub release-holder : (n′ t′ : List ℕ) → tables n′ t′ ≡ leave (tables n t) s → p ≡ 5 → done out (tables n′ t′) ≡ releaseSeat (tables n t) s
-  release-holder n′ t′ w e = rw (eq-eqb (seatWord t s phaseAt) 5 (sym isPhase ∙ e), w)
+  module _ (a e : ℕ) (starts : a ≡ seatWidth * s) (ends : e ≡ seatWidth * s + seatWidth) (is-seat : s < seatCountOf t) (l′ : List ℕ) where
+    abbrev own-words : List ℕ
+    own-words = take (e - a) (drop a t)
+
+    abbrev back : List ℕ
+    back = take a t ++ (l′ ++ drop (e - a) (drop a t))
+
+    pub enter-reserved : tables n l′ ≡ entering (tables n own-words) 0 → p ≡ 7 → done on (tables n back) ≡ enterSeat (tables n t) s
+    enter-reserved w q =
+        let says = entering-says-on (tables n t) s (let h = own.part-within t s a e starts ends is-seat in omega arith) in
+        rw (eq-eqb (seatWord t s phaseAt) 7 (sym isPhase ∙ q), own.enters t s a e starts ends is-seat n n l′ w)
+        (ap (λ (x : Answer). done x (entering (tables n t) s)) (sym says))
+
+    pub release-holder : (n′ : List ℕ) → tables n′ l′ ≡ leave (tables n own-words) 0 → p ≡ 5 → done out (tables n′ back) ≡ releaseSeat (tables n t) s
+    release-holder n′ w q = rw (eq-eqb (seatWord t s phaseAt) 5 (sym isPhase ∙ q), own.leaves t s a e starts ends is-seat n n′ l′ w)
+
+    pub one-to-take-off : sound (tables n t) ≡ true → p ≡ 5 → 1 ≤ countOfKind (tables n own-words) 0
+    one-to-take-off z q = rw (own.same-kind t s a e starts ends is-seat n) (holder-counts (tables n t) z s is-seat (sym isPhase ∙ q))
+
+  pub enter-other : (p ≡ 7 → ⊥) → done (refused 14) (tables n t) ≡ enterSeat (tables n t) s
+  enter-other d = rw (ne-eqb (seatWord t s phaseAt) 7 (λ e. d (isPhase ∙ e)))
 
   pub release-other : (p ≡ 5 → ⊥) → done (refused 7) (tables n t) ≡ releaseSeat (tables n t) s
   release-other d = rw (ne-eqb (seatWord t s phaseAt) 5 (λ e. d (isPhase ∙ e)))
@@ -114,6 +137,10 @@ module _ (n t : List ℕ) (s : ℕ) where
     pub reserve-damaged : (x y k : ℕ) → b ≡ false → done (refused 1) (tables n t) ≡ reserve (tables n t) s (claim x y k)
     unfolding reserve
     reserve-damaged x y k e = rw (sym isSound ∙ e)
+
+    pub enter-damaged : b ≡ false → done (refused 1) (tables n t) ≡ enter (tables n t) s
+    unfolding enter
+    enter-damaged e = rw (sym isSound ∙ e)
 
     pub step-damaged : b ≡ false → done (refused 1) (tables n t) ≡ step (tables n t) s
     unfolding step
@@ -130,6 +157,14 @@ module _ (n t : List ℕ) (s : ℕ) where
     pub reserve-seat : (n′ t′ : List ℕ) (r : Answer) (x y k c : ℕ) → done r (tables n′ t′) ≡ reserveClaim (tables n t) s (claim x y k) → c ≡ seatCountOf t → s < c → b ≡ true → done r (tables n′ t′) ≡ reserve (tables n t) s (claim x y k)
     unfolding reserve
     reserve-seat n′ t′ r x y k c w p h e = rw (sym isSound ∙ e, ← p, lt-leb c s h) w
+
+    pub enter-past : (c : ℕ) → c ≡ seatCountOf t → c ≤ s → b ≡ true → done (refused 2) (tables n t) ≡ enter (tables n t) s
+    unfolding enter
+    enter-past c p h e = rw (sym isSound ∙ e, ← p, le-leb c s h)
+
+    pub enter-seat : (t′ : List ℕ) (r : Answer) (c : ℕ) → done r (tables n t′) ≡ enterSeat (tables n t) s → c ≡ seatCountOf t → s < c → b ≡ true → done r (tables n t′) ≡ enter (tables n t) s
+    unfolding enter
+    enter-seat t′ r c w p h e = rw (sym isSound ∙ e, ← p, lt-leb c s h) w
 
     pub release-past : (c : ℕ) → c ≡ seatCountOf t → c ≤ s → b ≡ true → done (refused 2) (tables n t) ≡ release (tables n t) s
     unfolding release
@@ -158,10 +193,14 @@ module _ (n t n′ t′ : List ℕ) (s r : ℕ) (stepped : done r (tables n′ t
   pub still-there : r ≡ 0 → length t′ ≡ length t → s < seatCountOf t′
   still-there z e = rw (same-seat-count (tables n t) (tables n t′) e) (step-has-seat (tables n t) s (sym refusal ∙ z))
 
-  pub step-answered : (a : Answer) → a ≡ answerOf (tables n′ t′) s → r ≡ 0 → done a (tables n′ t′) ≡ step (tables n t) s
-  step-answered a e z =
+  module _ (z : r ≡ 0) (x y : ℕ) (starts : x ≡ seatWidth * s) (ends : y ≡ seatWidth * s + seatWidth) (long : length t′ ≡ length t) where
+    pub part-there : y ≤ length t′
+    part-there = own.part-within t′ s x y starts ends (still-there z long)
+
+    pub step-answered : (a : Answer) → a ≡ answerOf (tables n′ (take (y - x) (drop x t′))) 0 → done a (tables n′ t′) ≡ step (tables n t) s
+    step-answered a e =
       let said : step (tables n t) s .answer ≡ answerOf (step (tables n t) s .after) s = answers-from-phase (tables n t) s (sym refusal ∙ z) in
-      rw (e, after) (ap (λ (x : Answer). done x (step (tables n t) s .after)) (sym said))
+      rw (e ∙ own.same-answer t′ s x y starts ends (still-there z long) n′, after) (ap (λ (x : Answer). done x (step (tables n t) s .after)) (sym said))
 
   pub step-turned-away : r ≢ 0 → done (refused r) (tables n′ t′) ≡ step (tables n t) s
   step-turned-away d =

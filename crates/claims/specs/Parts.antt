@@ -7,8 +7,8 @@ use Rattle.rules.specs.Tables.{Tables, title, phase}
 use Rattle.rules.specs.Comparison.{Claim}
 use Rattle.rules.specs.Shape.{isKind}
 use Rattle.rules.specs.Fetch.{fetch}
-use Rattle.rules.specs.Answers.{Answer, out, refused, Done, done, _when_, refusing}
-use Rattle.rules.specs.Steps.{leave}
+use Rattle.rules.specs.Answers.{Answer, out, refused, Done, done, _when_, refusing, answered}
+use Rattle.rules.specs.Steps.{entering, leave}
 use Rattle.rules.specs.Calls.{reserved}
 
 -- of reserve, past 5 and past 2
@@ -21,6 +21,10 @@ reserveClaim t s c =
     ((3 when c .end ≤? c .start) ∷ (11 when title t <? c .end) ∷ (4 when not (isKind (c .kind))) ∷ (5 when not (phase t s is 0)) ∷ [])
     t
     (reserveFetching t s c)
+
+-- of enter, past 2
+abbrev pub enterSeat : Tables → ℕ → Done Answer
+enterSeat t s = refusing refused ((14 when not (phase t s is 7)) ∷ []) t (answered (entering t s) s)
 
 -- of release, past 2
 abbrev pub releaseSeat : Tables → ℕ → Done Answer

@@ -1,6 +1,6 @@
-// The public calls on the two lent tables: clear, begin, step, release and free count. None asks anything of its caller: any tables and
+// The public calls on the two lent tables: clear, reserve, enter, step, release and free count. None asks anything of its caller: any tables and
 // any numbers are taken. Each has one promise, an equation with its rule: the answer and every word of both tables afterwards. A refused
-// call leaves both as found.
+// call leaves both as found. Enter and free count are lent the node table to read only.
 ghost use mathlib.Core.Path.{_≡_};
 ghost use mathlib.Core.Bool.{true};
 ghost use lib.ListN.{length};
@@ -109,6 +109,36 @@ pub fn reserve(nodes: &mut [u32], seats: &mut [u32], s: u32, start: u32, end: u3
     Reply::Refused(1)
 }
 
+// ---- enter
+
+fn enter_seat(nodes: &[u32], seats: &mut [u32], s: u32) -> Reply
+    requires { ⌜ s < seatCountOf (now seats) ⌝ }
+    ensures { λ r. ⌜ done (means r) (tables (now (nodes .entry)) (now (seats .exit))) ≡ part.enterSeat (tables (now (nodes .entry)) (now (seats .entry))) s ⌝ }
+{
+    let phase = words::seat_word_within(seats, s, words::PHASE);
+    let start = words::seat_start(s);
+    let end = words::seat_end(s);
+    match phase {
+        7 => {
+            steps::enter(nodes, &mut seats[start..end]);
+            Reply::On
+        }
+        0..=6 | 8..=4294967295 => Reply::Refused(14),
+    }
+}
+
+pub fn enter(nodes: &[u32], seats: &mut [u32], s: u32) -> Reply
+    ensures { λ r. ⌜ done (means r) (tables (now (nodes .entry)) (now (seats .exit))) ≡ call.enter (tables (now (nodes .entry)) (now (seats .entry))) s ⌝ }
+{
+    if shape::is_sound(nodes, seats) {
+        if (s as usize) < words::seat_count(seats) {
+            return enter_seat(nodes, seats, s);
+        }
+        return Reply::Refused(2);
+    }
+    Reply::Refused(1)
+}
+
 // ---- step
 
 // the step, and the answer from the seat's new phase
@@ -118,7 +148,9 @@ fn step_and_answer(nodes: &mut [u32], seats: &mut [u32], s: u32) -> Reply
 {
     let refusal = phases::step_known(nodes, seats, s);
     if refusal == 0 {
-        return steps::answer(nodes, seats, s);
+        let start = words::seat_start(s);
+        let end = words::seat_end(s);
+        return steps::answer(nodes, &seats[start..end]);
     }
     Reply::Refused(refusal)
 }
@@ -139,10 +171,12 @@ fn release_seat(nodes: &mut [u32], seats: &mut [u32], s: u32) -> Reply
     requires { ⌜ s < seatCountOf (now seats) ⌝ }
     ensures { λ r. ⌜ done (means r) (tables (now (nodes .exit)) (now (seats .exit))) ≡ part.releaseSeat (tables (now (nodes .entry)) (now (seats .entry))) s ⌝ }
 {
-    let phase = words::seat_word(seats, s, words::PHASE);
+    let phase = words::seat_word_within(seats, s, words::PHASE);
+    let start = words::seat_start(s);
+    let end = words::seat_end(s);
     match phase {
         5 => {
-            steps::leave(nodes, seats, s);
+            steps::leave(nodes, &mut seats[start..end]);
             Reply::Out
         }
         0..=4 | 6..=4294967295 => Reply::Refused(7),

@@ -1,21 +1,21 @@
 -- A rule for each way through the code: what a function has learnt on that way gives what it promises.
-use Prim.Native.Nat.{ℕ, _+_, _-_}
+use Prim.Native.Nat.{ℕ, _+_, _-_, _<_}
 use mathlib.Core.Path.{_≡_, sym, ap, _∙_}
 use mathlib.Core.Bool.{true}
 use mathlib.Core.List.{List, []}
-use mathlib.Core.Logic.{_≢_, inr}
+use mathlib.Core.Logic.{_≢_}
 use native.Mathlib.Omega.{arith}
 use borrow.Author.Tests.{eq-eqb, ne-eqb}
 use Rattle.rules.specs.Notation.{_is_}
-use Rattle.rules.specs.Tables.{Tables, tables, phaseAt, ownAt, prevAt, curAt, linkWord, seatWord, putSeat, nodeCountOf, nodeCount, seatCount, phase, prev}
+use Rattle.rules.specs.Tables.{Tables, tables, seatWidth, phaseAt, ownAt, prevAt, curAt, linkWord, seatWord, putSeat, nodeCountOf, nodeCount, seatCount, phase, prev, cur}
 use Rattle.rules.specs.Comparison.{Claim}
 use Rattle.rules.specs.Shape.{sound}
 use Rattle.rules.specs.Reach.{free, lowestFree, countFree}
 use Rattle.rules.specs.Stores.{ListEnds}
-use Rattle.rules.specs.Fetch.{takenOut, writeClaim, enterAtHead, takeNode, Fetched, fetched, fetchAgain, fetch}
+use Rattle.rules.specs.Fetch.{takenOut, writeClaim, reserveFor, takeNode, Fetched, fetched, fetchAgain, fetch}
 use Rattle.rules.proofs.Ground.Counting.{count-cut}
 use Rattle.rules.proofs.Laws.Words.{seat-put-field, put-seat-self}
-use Rattle.rules.proofs.Laws.Shape.{is-sound}
+use Rattle.rules.proofs.Laws.Shape.{is-sound, in-6}
 use Rattle.rules.proofs.Rules.Reasons.{fetch-none}
 use Rattle.nodesets.specs.Set.{has, members}
 use Rattle.reach.specs.FreeSet.{IsFreeSet}
@@ -35,28 +35,39 @@ unfolding countFree members
 count-read ws t c r p f e = p ∙ rw (← e) (count-cut (nodeCount t) 256 (λ m. has ws (m + 1)) (λ m. free t c (m + 1)) (f .few) (f .free-nodes))
 
 -- ---- what is stored
--- no prev is stored where there is none
-pub entered : (nodes seats seats₁ seats₂ seats₃ : List ℕ) (s a first : ℕ) → prev (tables [] seats) s ≡ 0 → first ≡ linkWord nodes 0
-    → seats₁ ≡ putSeat seats s phaseAt 1 → seats₂ ≡ putSeat seats₁ s ownAt a → seats₃ ≡ putSeat seats₂ s curAt first
-    → tables nodes seats₃ ≡ enterAtHead (tables nodes seats) s a
-unfolding enterAtHead
-entered nodes seats seats₁ seats₂ seats₃ s a first z p q₁ q₂ q₃ =
-    let none : seatWord (putSeat (putSeat seats s phaseAt 1) s ownAt a) s prevAt ≡ 0 =
-    seat-put-field (putSeat seats s phaseAt 1) s s ownAt prevAt a (omega arith) (omega arith) (omega arith)
-    ∙ seat-put-field seats s s phaseAt prevAt 1 (omega arith) (omega arith) (omega arith) ∙ z in
-    rw (put-seat-self (putSeat (putSeat seats s phaseAt 1) s ownAt a) s prevAt 0 none, ← p, ← q₁, ← q₂, ← q₃)
+-- no prev and no cur are stored where there are none
+module _ (seats : List ℕ) (s a : ℕ) where
+  abbrev with-node : List ℕ
+  with-node = putSeat (putSeat seats s phaseAt 7) s ownAt a
+
+  left-at-0 : (f : ℕ) → f < seatWidth → phaseAt ≢ f → ownAt ≢ f → seatWord seats s f ≡ 0 → putSeat with-node s f 0 ≡ with-node
+  left-at-0 f h d d′ z =
+      put-seat-self with-node s f 0
+      (seat-put-field (putSeat seats s phaseAt 7) s s ownAt f a (omega arith) h d′ ∙ seat-put-field seats s s phaseAt f 7 (omega arith) h d ∙ z)
+
+  pub reserves : (seats₁ seats₂ : List ℕ) → prev (tables [] seats) s ≡ 0 → cur (tables [] seats) s ≡ 0
+      → seats₁ ≡ putSeat seats s phaseAt 7 → seats₂ ≡ putSeat seats₁ s ownAt a → seats₂ ≡ reserveFor (tables [] seats) s a .seats
+  unfolding reserveFor
+  reserves seats₁ seats₂ z z′ q₁ q₂ =
+      rw (left-at-0 prevAt (omega arith) (omega arith) (omega arith) z, left-at-0 curAt (omega arith) (omega arith) (omega arith) z′, ← q₁, ← q₂)
 
 -- who fetches has none
 module _ (nodes seats : List ℕ) (s : ℕ) (ok : sound (tables nodes seats) ≡ true) where
   pub idle-no-prev : phase (tables nodes seats) s ≡ 0 → prev (tables [] seats) s ≡ 0
   idle-no-prev e = is-sound (tables nodes seats) ok .seat s .idle e prevAt (omega arith)
 
-  pub withdrawn-no-prev : phase (tables nodes seats) s ≡ 6 → prev (tables [] seats) s ≡ 0
-  withdrawn-no-prev e = is-sound (tables nodes seats) ok .seat s .resting (inr e) .0
+  pub idle-no-cur : phase (tables nodes seats) s ≡ 0 → cur (tables [] seats) s ≡ 0
+  idle-no-cur e = is-sound (tables nodes seats) ok .seat s .idle e curAt (omega arith)
 
-pub taken : (nodes nodes′ seats seats′ : List ℕ) (s a : ℕ) (c : Claim) → tables nodes′ seats′ ≡ enterAtHead (tables nodes′ seats) s a → nodes′ ≡ writeClaim (tables nodes []) a c .nodes → tables nodes′ seats′ ≡ takeNode (tables nodes seats) s a c
-unfolding takeNode writeClaim
-taken nodes nodes′ seats seats′ s a c p q = p ∙ ap (λ (l : List ℕ). enterAtHead (tables l seats) s a) q
+  pub withdrawn-no-prev : phase (tables nodes seats) s ≡ 6 → prev (tables [] seats) s ≡ 0
+  withdrawn-no-prev e = is-sound (tables nodes seats) ok .seat s .resting (in-6 e) .0
+
+  pub withdrawn-no-cur : phase (tables nodes seats) s ≡ 6 → cur (tables [] seats) s ≡ 0
+  withdrawn-no-cur e = is-sound (tables nodes seats) ok .seat s .resting (in-6 e) .1
+
+pub taken : (nodes nodes′ seats seats′ : List ℕ) (s a : ℕ) (c : Claim) → seats′ ≡ reserveFor (tables [] seats) s a .seats → nodes′ ≡ writeClaim (tables nodes []) a c .nodes → tables nodes′ seats′ ≡ takeNode (tables nodes seats) s a c
+unfolding takeNode writeClaim reserveFor
+taken nodes nodes′ seats seats′ s a c p q = rw (p, q)
 
 -- ---- fetch
 module _ (nodes seats nodes′ seats′ : List ℕ) (s a : ℕ) (c : Claim) where

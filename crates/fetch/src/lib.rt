@@ -4,13 +4,13 @@ ghost use mathlib.Core.Path.{_≡_};
 ghost use mathlib.Core.Bool.{true};
 ghost use mathlib.Core.List.{[], _∷_};
 ghost use lib.ListN.{drop};
-ghost use Rattle.rules.specs.Tables.{tables, prev, putLink};
+ghost use Rattle.rules.specs.Tables.{tables, prev, cur, putLink};
 ghost use Rattle.rules.specs.Comparison.{claim};
 ghost use Rattle.rules.specs.Shape.{sound};
 ghost use Rattle.rules.specs.Reach.{countFree};
 ghost use Rattle.rules.specs.Stores.{store, stores, ListEnds};
 ghost use Rattle.reach.specs.Walks.{Links};
-ghost use Rattle.rules.specs.Fetch.{takenOut, writeClaim, enterAtHead, takeNode, fetched, fetchAgain, fetch as fetchRule};
+ghost use Rattle.rules.specs.Fetch.{takenOut, writeClaim, reserveFor, takeNode, fetched, fetchAgain, fetch as fetchRule};
 
 // How many nodes are free, every seat counted: no seat has the number of seats.
 pub fn free_count(nodes: &[u32], seats: &[u32]) -> u32
@@ -34,23 +34,23 @@ fn write_claim(nodes: &mut [u32], a: u32, start: u32, end: u32, kind: u32)
     words::put_node(nodes, a, words::MARK, 0);
 }
 
-// A seat that fetches is idle or has withdrawn, and has no prev: that word is 0 already, and is not stored.
-fn enter_at_head(nodes: &[u32], seats: &mut [u32], s: u32, a: u32)
+// A seat that fetches is idle or has withdrawn, and has no prev and no cur: those words are 0 already, and are not stored.
+fn reserve_for(seats: &mut [u32], s: u32, a: u32)
     requires { ⌜ prev (tables [] (now seats)) s ≡ 0 ⌝ }
-    ensures { λ r. ⌜ tables (now (nodes .entry)) (now (seats .exit)) ≡ enterAtHead (tables (now (nodes .entry)) (now (seats .entry))) s a ⌝ }
+    requires { ⌜ cur (tables [] (now seats)) s ≡ 0 ⌝ }
+    ensures { λ r. ⌜ now (seats .exit) ≡ reserveFor (tables [] (now (seats .entry))) s a .seats ⌝ }
 {
-    let head = words::link(nodes, 0);
-    words::put_seat(seats, s, words::PHASE, 1);
+    words::put_seat(seats, s, words::PHASE, 7);
     words::put_seat(seats, s, words::OWN, a);
-    words::put_seat(seats, s, words::CUR, head);
 }
 
 fn take_node(nodes: &mut [u32], seats: &mut [u32], s: u32, a: u32, start: u32, end: u32, kind: u32)
     requires { ⌜ prev (tables [] (now seats)) s ≡ 0 ⌝ }
+    requires { ⌜ cur (tables [] (now seats)) s ≡ 0 ⌝ }
     ensures { λ r. ⌜ tables (now (nodes .exit)) (now (seats .exit)) ≡ takeNode (tables (now (nodes .entry)) (now (seats .entry))) s a (claim start end kind) ⌝ }
 {
     write_claim(nodes, a, start, end, kind);
-    enter_at_head(nodes, seats, s, a);
+    reserve_for(seats, s, a);
 }
 
 // ---- taking marked nodes out, by the fewest stores
@@ -102,6 +102,7 @@ fn take_out(nodes: &mut [u32])
 fn fetch_again(nodes: &mut [u32], seats: &mut [u32], s: u32, start: u32, end: u32, kind: u32) -> u32
     requires { ⌜ sound (tables (now nodes) (now seats)) ≡ true ⌝ }
     requires { ⌜ prev (tables [] (now seats)) s ≡ 0 ⌝ }
+    requires { ⌜ cur (tables [] (now seats)) s ≡ 0 ⌝ }
     ensures { λ r. ⌜ fetched r (tables (now (nodes .exit)) (now (seats .exit))) ≡ fetchAgain (tables (now (nodes .entry)) (now (seats .entry))) s (claim start end kind) ⌝ }
 {
     let a = reach::lowest_free_after(nodes, seats, s);
@@ -117,6 +118,7 @@ fn fetch_again(nodes: &mut [u32], seats: &mut [u32], s: u32, start: u32, end: u3
 pub fn fetch(nodes: &mut [u32], seats: &mut [u32], s: u32, start: u32, end: u32, kind: u32) -> u32
     requires { ⌜ sound (tables (now nodes) (now seats)) ≡ true ⌝ }
     requires { ⌜ prev (tables [] (now seats)) s ≡ 0 ⌝ }
+    requires { ⌜ cur (tables [] (now seats)) s ≡ 0 ⌝ }
     ensures { λ r. ⌜ fetched r (tables (now (nodes .exit)) (now (seats .exit))) ≡ fetchRule (tables (now (nodes .entry)) (now (seats .entry))) s (claim start end kind) ⌝ }
 {
     let a = reach::lowest_free(nodes, seats, s);

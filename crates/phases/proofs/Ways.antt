@@ -1,22 +1,26 @@
 -- A step of a seat as one law for each way through the code: n and t are the tables before, n′ and t′ after.
-use Prim.Native.Nat.{ℕ, zero, suc, _≤_, _<_}
+use Prim.Native.Nat.{ℕ, _≤_, _<_, _+_, _-_, _*_}
 use mathlib.Core.Path.{_≡_, refl, sym, ap, _∙_}
 use mathlib.Core.Bool.{true}
-use mathlib.Core.List.{List, []}
+use mathlib.Core.List.{List, [], _++_}
 use mathlib.Core.Logic.{_≢_}
 use native.Mathlib.Omega.{arith}
+use lib.ListN.{take, drop}
 use borrow.Author.Tests.{ne-eqb, le-leb, lt-leb}
-use Rattle.rules.specs.Tables.{Tables, tables, nodeWord, seatWord, seatCountOf, phaseAt, ownAt, startAt, endAt, kindAt}
+use Rattle.rules.specs.Tables.{Tables, tables, nodeWord, seatWord, seatCountOf, phaseAt, ownAt, startAt, endAt, kindAt, seatWidth}
 use Rattle.rules.specs.Comparison.{claim, claimOf}
 use Rattle.rules.specs.Shape.{sound}
 use Rattle.rules.specs.Fetch.{fetched, fetch}
 use Rattle.rules.specs.Answers.{Answer, Done, done, answered}
-use Rattle.rules.specs.Steps.{walking, waitingToEnter, validating, readerWaiting, refetched, withdrawn, stepByPhase}
+use Rattle.rules.specs.Steps.{walking, waitingToEnter, validating, readerWaiting, refetched, withdrawn, stepByPhase, entering, kindOf}
 use Rattle.rules.specs.Calls.{step}
 use Rattle.rules.specs.Run.{refusalOf}
 use Rattle.rules.proofs.Laws.Answers.{answer-accepts}
 use Rattle.rules.proofs.Laws.Shape.{is-sound}
-use Rattle.rules.proofs.Rules.Reasons.{by-phase-1, by-phase-2, by-phase-3, by-phase-4, by-phase-5}
+use Rattle.rules.proofs.Rules.Reasons.{by-phase-1, by-phase-2, by-phase-3, by-phase-4, by-phase-5, by-phase-7}
+use Rattle.rules.proofs.Laws.Counts.{count-few}
+use Rattle.steps.specs.Parts.{countOfKind}
+use Rattle.steps.proofs.OwnWords as own
 use Rattle.fetch.proofs.Ways.{none-kept}
 use Rattle.phases.specs.Parts.{unanswered, stepBusy}
 
@@ -39,15 +43,14 @@ module _ (n t n′ t′ : List ℕ) (s x y k a : ℕ) (isFetched : fetched a (ta
   refetch-node d = rw (← same-claim, ← isFetched, ne-eqb a 0 d) (accepted (tables n′ t′) s)
 
 -- ---- by the phase
-no-more : (p : ℕ) → p ≤ 6 → p ≢ 0 → p ≢ 1 → p ≢ 2 → p ≢ 3 → p ≢ 4 → p ≢ 5 → p ≢ 6 → ⊥
-no-more zero h d0 d1 d2 d3 d4 d5 d6 = d0 refl
-no-more (suc zero) h d0 d1 d2 d3 d4 d5 d6 = d1 refl
-no-more (suc (suc zero)) h d0 d1 d2 d3 d4 d5 d6 = d2 refl
-no-more (suc (suc (suc zero))) h d0 d1 d2 d3 d4 d5 d6 = d3 refl
-no-more (suc (suc (suc (suc zero)))) h d0 d1 d2 d3 d4 d5 d6 = d4 refl
-no-more (suc (suc (suc (suc (suc zero))))) h d0 d1 d2 d3 d4 d5 d6 = d5 refl
-no-more (suc (suc (suc (suc (suc (suc zero)))))) h d0 d1 d2 d3 d4 d5 d6 = d6 refl
-no-more (suc (suc (suc (suc (suc (suc (suc k))))))) h _ _ _ _ _ _ _ = omega arith
+from-4 : (p : ℕ) → p ≢ 0 → p ≢ 1 → p ≢ 2 → p ≢ 3 → 4 ≤ p
+from-4 p d0 d1 d2 d3 = omega arith
+
+from-8 : (p : ℕ) → 4 ≤ p → p ≢ 4 → p ≢ 5 → p ≢ 6 → p ≢ 7 → 8 ≤ p
+from-8 p h d4 d5 d6 d7 = omega arith
+
+no-more : (p : ℕ) → p ≤ 7 → 8 ≤ p → ⊥
+no-more p h i = omega arith
 
 module _ (n t : List ℕ) (s p : ℕ) (isPhase : p ≡ seatWord t s phaseAt) where
   pub step-idle : p ≡ 0 → done 6 (tables n t) ≡ unanswered (stepBusy (tables n t) s)
@@ -61,26 +64,40 @@ module _ (n t : List ℕ) (s p : ℕ) (isPhase : p ≡ seatWord t s phaseAt) whe
   step-five e = by-rule _ _ refl (omega arith) (by-phase-5 (tables n t) s (sym isPhase ∙ e))
 
   -- no other phase is sound
-  pub step-none : sound (tables n t) ≡ true → p ≢ 0 → p ≢ 1 → p ≢ 2 → p ≢ 3 → p ≢ 4 → p ≢ 5 → p ≢ 6 → done 1 (tables n t) ≡ unanswered (stepBusy (tables n t) s)
-  step-none z d0 d1 d2 d3 d4 d5 d6 = absurd (no-more p (rw isPhase (is-sound (tables n t) z .seat s .phase-small)) d0 d1 d2 d3 d4 d5 d6)
+  pub step-none : sound (tables n t) ≡ true → p ≢ 0 → p ≢ 1 → p ≢ 2 → p ≢ 3 → p ≢ 4 → p ≢ 5 → p ≢ 6 → p ≢ 7 → done 1 (tables n t) ≡ unanswered (stepBusy (tables n t) s)
+  step-none z d0 d1 d2 d3 d4 d5 d6 d7 = absurd (no-more p (rw isPhase (is-sound (tables n t) z .seat s .phase-small)) (from-8 p (from-4 p d0 d1 d2 d3) d4 d5 d6 d7))
 
-  module _ (t′ : List ℕ) where
-    pub step-two : tables n t′ ≡ waitingToEnter (tables n t) s → p ≡ 2 → done 0 (tables n t′) ≡ unanswered (stepBusy (tables n t) s)
-    step-two w e = by-rule _ _ w (omega arith) (by-phase-2 (tables n t) s (sym isPhase ∙ e))
+  pub step-six : (n′ t′ : List ℕ) (r : ℕ) → done r (tables n′ t′) ≡ unanswered (withdrawn (tables n t) s) → p ≡ 6 → done r (tables n′ t′) ≡ unanswered (stepBusy (tables n t) s)
+  unfolding stepByPhase
+  step-six n′ t′ r w e = rw (sym isPhase ∙ e) w
 
-    pub step-four : tables n t′ ≡ readerWaiting (tables n t) s → p ≡ 4 → done 0 (tables n t′) ≡ unanswered (stepBusy (tables n t) s)
-    step-four w e = by-rule _ _ w (omega arith) (by-phase-4 (tables n t) s (sym isPhase ∙ e))
+  -- the others are lent the part from a up to e, which are the seat's own words: l′ is what they are then
+  module _ (a e : ℕ) (starts : a ≡ seatWidth * s) (ends : e ≡ seatWidth * s + seatWidth) (is-seat : s < seatCountOf t) (l′ : List ℕ) where
+    abbrev own-words : List ℕ
+    own-words = take (e - a) (drop a t)
+
+    abbrev back : List ℕ
+    back = take a t ++ (l′ ++ drop (e - a) (drop a t))
+
+    pub step-two : tables n l′ ≡ waitingToEnter (tables n own-words) 0 → p ≡ 2 → done 0 (tables n back) ≡ unanswered (stepBusy (tables n t) s)
+    step-two w q = by-rule _ _ (own.waits-to-enter t s a e starts ends is-seat n n l′ w) (omega arith) (by-phase-2 (tables n t) s (sym isPhase ∙ q))
+
+    pub step-four : tables n l′ ≡ readerWaiting (tables n own-words) 0 → p ≡ 4 → done 0 (tables n back) ≡ unanswered (stepBusy (tables n t) s)
+    step-four w q = by-rule _ _ (own.waits-as-reader t s a e starts ends is-seat n n l′ w) (omega arith) (by-phase-4 (tables n t) s (sym isPhase ∙ q))
+
+    pub step-seven : tables n l′ ≡ entering (tables n own-words) 0 → p ≡ 7 → done 0 (tables n back) ≡ unanswered (stepBusy (tables n t) s)
+    step-seven w q = by-rule _ _ (own.enters t s a e starts ends is-seat n n l′ w) (omega arith) (by-phase-7 (tables n t) s (sym isPhase ∙ q))
 
     module _ (n′ : List ℕ) where
-      pub step-one : tables n′ t′ ≡ walking (tables n t) s → p ≡ 1 → done 0 (tables n′ t′) ≡ unanswered (stepBusy (tables n t) s)
-      step-one w e = by-rule _ _ w (omega arith) (by-phase-1 (tables n t) s (sym isPhase ∙ e))
+      pub step-one : tables n′ l′ ≡ walking (tables n own-words) 0 → p ≡ 1 → done 0 (tables n′ back) ≡ unanswered (stepBusy (tables n t) s)
+      step-one w q = by-rule _ _ (own.walks t s a e starts ends is-seat n n′ l′ w) (omega arith) (by-phase-1 (tables n t) s (sym isPhase ∙ q))
 
-      pub step-three : tables n′ t′ ≡ validating (tables n t) s → p ≡ 3 → done 0 (tables n′ t′) ≡ unanswered (stepBusy (tables n t) s)
-      step-three w e = by-rule _ _ w (omega arith) (by-phase-3 (tables n t) s (sym isPhase ∙ e))
+      pub step-three : tables n′ l′ ≡ validating (tables n own-words) 0 → p ≡ 3 → done 0 (tables n′ back) ≡ unanswered (stepBusy (tables n t) s)
+      step-three w q = by-rule _ _ (own.validates t s a e starts ends is-seat n n′ l′ w) (omega arith) (by-phase-3 (tables n t) s (sym isPhase ∙ q))
 
-      pub step-six : (r : ℕ) → done r (tables n′ t′) ≡ unanswered (withdrawn (tables n t) s) → p ≡ 6 → done r (tables n′ t′) ≡ unanswered (stepBusy (tables n t) s)
-      unfolding stepByPhase
-      step-six r w e = rw (sym isPhase ∙ e) w
+-- in sound tables one more is still a count
+pub room-to-count : (n t l : List ℕ) → sound (tables n t) ≡ true → countOfKind (tables n l) 0 < 4294967295
+room-to-count n t l z = let h = count-few (tables n t) z (kindOf (tables n l) 0) in omega arith
 
 -- ---- the call, its tables sound
 module _ (n t : List ℕ) (s c : ℕ) (isCount : c ≡ seatCountOf t) (isSound : sound (tables n t) ≡ true) where

@@ -3,7 +3,8 @@
 // the tables and come here.
 ghost use mathlib.Core.Path.{_≡_};
 ghost use mathlib.Core.Bool.{true};
-ghost use Rattle.rules.specs.Tables.{tables, phase};
+ghost use Prim.Native.Nat.{_<_};
+ghost use Rattle.rules.specs.Tables.{tables, seatCountOf, phase};
 ghost use Rattle.rules.specs.Shape.{sound};
 ghost use Rattle.rules.specs.Answers.{done};
 ghost use Rattle.rules.specs.Steps as rule;
@@ -27,33 +28,40 @@ fn fetch_again(nodes: &mut [u32], seats: &mut [u32], s: u32) -> u32
     0
 }
 
-// the phase decides the step
+// the phase decides the step; all but fetch, which looks at every seat, are lent the seat's own words
 fn step_by_phase(nodes: &mut [u32], seats: &mut [u32], s: u32) -> u32
     requires { ⌜ sound (tables (now nodes) (now seats)) ≡ true ⌝ }
+    requires { ⌜ s < seatCountOf (now seats) ⌝ }
     ensures { λ r. ⌜ done r (tables (now (nodes .exit)) (now (seats .exit))) ≡ part.unanswered (part.stepBusy (tables (now (nodes .entry)) (now (seats .entry))) s) ⌝ }
 {
-    let phase = words::seat_word(seats, s, words::PHASE);
+    let phase = words::seat_word_within(seats, s, words::PHASE);
+    let start = words::seat_start(s);
+    let end = words::seat_end(s);
     match phase {
         0 => 6,
         1 => {
-            steps::walk(nodes, seats, s);
+            steps::walk(nodes, &mut seats[start..end]);
             0
         }
         2 => {
-            steps::wait_to_enter(nodes, seats, s);
+            steps::wait_to_enter(nodes, &mut seats[start..end]);
             0
         }
         3 => {
-            steps::validate(nodes, seats, s);
+            steps::validate(nodes, &mut seats[start..end]);
             0
         }
         4 => {
-            steps::wait_as_reader(nodes, seats, s);
+            steps::wait_as_reader(nodes, &mut seats[start..end]);
             0
         }
         5 => 0,
         6 => fetch_again(nodes, seats, s),
-        7..=4294967295 => 1,
+        7 => {
+            steps::enter(nodes, &mut seats[start..end]);
+            0
+        }
+        8..=4294967295 => 1,
     }
 }
 

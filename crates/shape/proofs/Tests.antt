@@ -20,6 +20,7 @@ use Rattle.words.specs.Parts.{withZeros}
 use Rattle.words.proofs.Places.{same-count}
 use Rattle.shape.proofs.Part.{same-names, same-nodes, same-ends, same-seats, same-holders}
 use Rattle.shape.specs.Parts.{nodeSoundBy, nodesSoundBy, busySound, waitingSound, restingSound, seatsAndCountsSound, listEnds}
+use Rattle.rules.proofs.Ground.Deciding.{if-same}
 
 pub lengths-is : (l t : List ℕ) (u v : Bool) → u ≡ nodesFit (tables l []) → v ≡ seatsFit (tables [] t) → (u && v) ≡ lengthsFit (tables l t)
 unfolding lengthsFit nodesFit seatsFit
@@ -197,8 +198,8 @@ resting-case true true false f g h q r = refl
 resting-case true false c f g h q r = refl
 resting-case false b c f g h q r = refl
 
-six : {p : ℕ} → 5 ≤ p → p < 7 → p ≢ 5 → p ≡ 6
-six g h d = omega arith
+seven : {p : ℕ} → 5 ≤ p → p < 8 → p ≢ 5 → p ≢ 6 → p ≡ 7
+seven g h d d′ = omega arith
 
 module _ (l t : List ℕ) (s p o v c : ℕ) (isCur : c ≡ seatWord t s curAt) (isPrev : v ≡ seatWord t s prevAt) (isOwn : o ≡ seatWord t s ownAt) (isPhaseOf : p ≡ seatWord t s phaseAt) where
   zero-named : (a : ℕ) → eqb a 0 ≡ true → names (tables l []) a ≡ true
@@ -210,13 +211,13 @@ module _ (l t : List ℕ) (s p o v c : ℕ) (isCur : c ≡ seatWord t s curAt) (
       rw (← isPhaseOf, ← isCur, ← isPrev, ← isOwn, e)
       (idle-case (eqb o 0) (eqb v 0) (eqb c 0) (names (tables l []) o) (names (tables l []) v) (names (tables l []) c) (zero-named o) (zero-named v) (zero-named c))
 
-  -- what each clause says of a seat in a phase from 1 to 6
+  -- what each clause says of a seat in a phase from 1 to 7
   clauses : Bool → Bool → Bool
   clauses resting waiting = not (eqb o 0) && resting && waiting && names (tables l []) o && names (tables l []) v && names (tables l []) c
 
-  in-phase : (P : ℕ) → p ≡ P → P ≢ 0 → P ≤ 6 → clauses (not (eqb P 5 || eqb P 6) || eqb v 0 && eqb c 0) (not (eqb P 2 || eqb P 4) || not (eqb c 0)) ≡ seatSound (tables l t) s
+  in-phase : (P : ℕ) → p ≡ P → P ≢ 0 → P ≤ 7 → clauses (not (eqb P 5 || eqb P 6 || eqb P 7) || eqb v 0 && eqb c 0) (not (eqb P 2 || eqb P 4) || not (eqb c 0)) ≡ seatSound (tables l t) s
   unfolding seatSound isPhase idleOrOwning restingAtZero waitingAtCur names clauses
-  in-phase P e d h = rw (← isPhaseOf, ← isCur, ← isPrev, ← isOwn, e, ne-eqb P 0 d, le-leb P 6 h)
+  in-phase P e d h = rw (← isPhaseOf, ← isCur, ← isPrev, ← isOwn, e, ne-eqb P 0 d, le-leb P 7 h)
 
   pub seat-on-foot : (w : Bool) → w ≡ busySound (tables l []) o v c → (p ≡ 1) ⊎ (p ≡ 3) → w ≡ seatSound (tables l t) s
   unfolding clauses
@@ -234,22 +235,21 @@ module _ (l t : List ℕ) (s p o v c : ℕ) (isCur : c ≡ seatWord t s curAt) (
   unfolding clauses
   rested = resting-case (not (eqb o 0)) (eqb v 0) (eqb c 0) (names (tables l []) o) (names (tables l []) v) (names (tables l []) c) (zero-named v) (zero-named c)
 
-  -- 5 or 6 is what is left below 7
-  pub seat-resting : (w : Bool) → w ≡ restingSound (tables l []) o v c → p ≢ 0 → ((p ≡ 1) ⊎ (p ≡ 3) → ⊥) → ((p ≡ 2) ⊎ (p ≡ 4) → ⊥) → p < 7 → w ≡ seatSound (tables l t) s
+  -- 5, 6 or 7 is what is left below 8
+  pub seat-resting : (w : Bool) → w ≡ restingSound (tables l []) o v c → p ≢ 0 → ((p ≡ 1) ⊎ (p ≡ 3) → ⊥) → ((p ≡ 2) ⊎ (p ≡ 4) → ⊥) → p < 8 → w ≡ seatSound (tables l t) s
   seat-resting w h z f g small =
       let no-1 : p ≢ 1 = λ e. f (inl e) in
       let no-2 : p ≢ 2 = λ e. g (inl e) in
       let no-3 : p ≢ 3 = λ e. f (inr e) in
       let no-4 : p ≢ 4 = λ e. g (inr e) in
       let large : 5 ≤ p = omega arith in
-      elim (either (eqb p 5)) [
-        | inl e ↦ h ∙ rested ∙ in-phase 5 (eqb-true p 5 e) (omega arith) (omega arith)
-        | inr e ↦ h ∙ rested ∙ in-phase 6 (six large small (eqb-false p 5 e)) (omega arith) (omega arith)
-      ]
+      if-same p 5 (λ e. h ∙ rested ∙ in-phase 5 e (omega arith) (omega arith)) (λ d.
+      if-same p 6 (λ e. h ∙ rested ∙ in-phase 6 e (omega arith) (omega arith)) (λ d′.
+      h ∙ rested ∙ in-phase 7 (seven large small d d′) (omega arith) (omega arith)))
 
-  pub seat-no-phase : 7 ≤ p → false ≡ seatSound (tables l t) s
+  pub seat-no-phase : 8 ≤ p → false ≡ seatSound (tables l t) s
   unfolding seatSound isPhase
-  seat-no-phase h = rw (← isPhaseOf, lt-leb p 6 (omega arith))
+  seat-no-phase h = rw (← isPhaseOf, lt-leb p 7 (omega arith))
 
 -- ---- the walk along next: what is left gives the whole
 ends-zero : (t : Tables) (left a : ℕ) → a ≡ 0 → endsWithin left t a ≡ true

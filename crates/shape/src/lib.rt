@@ -106,7 +106,7 @@ fn waiting_sound(part: &[u32], n: u32, own: u32, prev: u32, cur: u32) -> bool
     busy_sound(part, n, own, prev, cur)
 }
 
-// in phases 5 and 6: of three names, only own is left to look up
+// in phases 5, 6 and 7: of three names, only own is left to look up
 fn resting_sound(part: &[u32], n: u32, own: u32, prev: u32, cur: u32) -> bool
     requires { ⌜ n ≡ nodeCountOf (withZeros (now part)) ⌝ }
     ensures { λ r. ⌜ r ≡ restingSound (tables (withZeros (now (part .entry))) []) own prev cur ⌝ }
@@ -131,8 +131,8 @@ fn seat_sound(part: &[u32], seats: &[u32], n: u32, s: u32) -> bool
         0 => (own == 0) & (prev == 0) & (cur == 0),
         1 | 3 => busy_sound(part, n, own, prev, cur),
         2 | 4 => waiting_sound(part, n, own, prev, cur),
-        5 | 6 => resting_sound(part, n, own, prev, cur),
-        7..=4294967295 => false,
+        5 | 6 | 7 => resting_sound(part, n, own, prev, cur),
+        8..=4294967295 => false,
     }
 }
 

@@ -10,7 +10,7 @@ use lib.IntN.{ℤ, pos, negsuc}
 use lib.ListN.{length, getD, set, take, drop, length-drop, take-append-drop, List·getD-append}
 use lib.Seq.{length-take-le, getD-append-add, set-append-left}
 use Rattle.rules.specs.Notation.{if_then_else_, _is_, _≤?_}
-use Rattle.rules.specs.Tables.{Tables, tables, seatWidth, phaseAt, ownAt, prevAt, curAt, seatWord, putSeat, clearWords, start, end, marked, link, next, head, own, prev, cur, setLink, setMark, setPhase, setPrev, setCur, countWord, setCount}
+use Rattle.rules.specs.Tables.{Tables, tables, seatWidth, phaseAt, ownAt, prevAt, curAt, seatWord, putSeat, clearWords, seatCountOf, kind, start, end, marked, link, next, head, own, prev, cur, setLink, setMark, setPhase, setPrev, setCur, countWord, setCount}
 use Rattle.rules.specs.Comparison.{claimOf, reads, compare, byComparison}
 use Rattle.rules.specs.Answers.{answerOf}
 use Rattle.rules.specs.Steps.{entering, moveTo, joined, unlink, pass, linkIn, startValidating, lookAgain, insert, kindOf, hold, withdraw, leave, walking, waitingToEnter, readerValidating, writerValidating, validating, readerWaiting}
@@ -204,3 +204,64 @@ module _ (before behind : List ℕ) (s : ℕ) (at-seat : length before ≡ seatW
     pub answer-placed : answerOf (placed u) s ≡ answerOf u 0
     unfolding answerOf
     answer-placed = rw (read u h phaseAt (omega arith), read-own u h, read-cur u h)
+
+-- ---- the part of a whole seat table in which the seat's words stand, from a up to e, is lent to a rule and comes back
+module _ (t : List ℕ) (s a e : ℕ) (starts : a ≡ seatWidth * s) (ends : e ≡ seatWidth * s + seatWidth) (is-seat : s < seatCountOf t) where
+  abbrev pub ownWords : List ℕ
+  ownWords = take (e - a) (drop a t)
+
+  abbrev around : List ℕ → List ℕ
+  around l = take a t ++ (l ++ drop (e - a) (drop a t))
+
+  pub part-within : e ≤ length t
+  unfolding seatCountOf
+  part-within = let b = seat-within s (seatCountOf t) is-seat in omega arith
+
+  before-long : length (take a t) ≡ seatWidth * s
+  before-long = length-take-le a t (let h = part-within in omega arith) ∙ starts
+
+  pub part-full : seatWidth ≤ length ownWords
+  part-full =
+      let h = part-within in
+      let d = length-drop a t in
+      let l = length-take-le (e - a) (drop a t) (omega arith) in
+      omega arith
+
+  pub together : around ownWords ≡ t
+  together = ap (λ l. take a t ++ l) (take-append-drop (e - a) (drop a t)) ∙ take-append-drop a t
+
+  -- what a rule does to the part, it does to the whole
+  as-whole : (rule : Tables → ℕ → Tables)
+      → ((u : Tables) → seatWidth ≤ length (u .seats) → Placed (take a t) (drop (e - a) (drop a t)) s before-long (rule (placed (take a t) (drop (e - a) (drop a t)) s before-long u) s) (rule u 0))
+      → (n n′ l′ : List ℕ) → tables n′ l′ ≡ rule (tables n ownWords) 0 → tables n′ (around l′) ≡ rule (tables n t) s
+  as-whole rule in-place n n′ l′ w =
+      ap (λ (u : Tables). tables (u .nodes) (around (u .seats))) w ∙ sym (in-place (tables n ownWords) part-full .same) ∙ ap (λ l. rule (tables n l) s) together
+
+  module _ (n n′ l′ : List ℕ) where
+    pub walks : tables n′ l′ ≡ walking (tables n ownWords) 0 → tables n′ (around l′) ≡ walking (tables n t) s
+    walks = as-whole walking (walking-placed (take a t) (drop (e - a) (drop a t)) s before-long) n n′ l′
+
+    pub waits-to-enter : tables n′ l′ ≡ waitingToEnter (tables n ownWords) 0 → tables n′ (around l′) ≡ waitingToEnter (tables n t) s
+    waits-to-enter = as-whole waitingToEnter (waiting-placed (take a t) (drop (e - a) (drop a t)) s before-long) n n′ l′
+
+    pub validates : tables n′ l′ ≡ validating (tables n ownWords) 0 → tables n′ (around l′) ≡ validating (tables n t) s
+    validates = as-whole validating (validating-placed (take a t) (drop (e - a) (drop a t)) s before-long) n n′ l′
+
+    pub waits-as-reader : tables n′ l′ ≡ readerWaiting (tables n ownWords) 0 → tables n′ (around l′) ≡ readerWaiting (tables n t) s
+    waits-as-reader = as-whole readerWaiting (reader-waiting-placed (take a t) (drop (e - a) (drop a t)) s before-long) n n′ l′
+
+    pub enters : tables n′ l′ ≡ entering (tables n ownWords) 0 → tables n′ (around l′) ≡ entering (tables n t) s
+    enters = as-whole entering (entering-placed (take a t) (drop (e - a) (drop a t)) s before-long) n n′ l′
+
+    pub leaves : tables n′ l′ ≡ leave (tables n ownWords) 0 → tables n′ (around l′) ≡ leave (tables n t) s
+    leaves = as-whole leave (leave-placed (take a t) (drop (e - a) (drop a t)) s before-long) n n′ l′
+
+  -- what is read of the part, is read of the whole
+  pub same-answer : (n : List ℕ) → answerOf (tables n ownWords) 0 ≡ answerOf (tables n t) s
+  same-answer n =
+      sym (answer-placed (take a t) (drop (e - a) (drop a t)) s before-long (tables n ownWords) part-full) ∙ ap (λ l. answerOf (tables n l) s) together
+
+  pub same-kind : (n : List ℕ) → kindOf (tables n ownWords) 0 ≡ kindOf (tables n t) s
+  same-kind n =
+      ap (λ o. kind (tables n []) o)
+      (sym (read-own (take a t) (drop (e - a) (drop a t)) s before-long (tables n ownWords) part-full) ∙ ap (λ l. own (tables n l) s) together)

@@ -1,14 +1,33 @@
 -- `claims::release_seat` meets its promise.
-use Rattle.claims.proofs.Ways.{release-holder, release-other}
+use Rattle.steps.proofs.OwnWords.{part-within}
+use Rattle.claims.proofs.Ways.{release-holder, release-other, one-to-take-off}
 use borrow.Author.Needs.{needs}
 use Rattle.claims.proofs.release_seat.Statement.{statement}
 use Rattle.claims.proofs.release_seat.Tie as tie
 
-seat-word-requires : tie.Need-seat-word-requires
-seat-word-requires c κs = search needs
+seat-word-within-requires : tie.Need-seat-word-within-requires
+seat-word-within-requires c κs = search needs
+
+seat-start-requires : tie.Need-seat-start-requires
+seat-start-requires c κs = search needs
+
+seat-end-requires : tie.Need-seat-end-requires
+seat-end-requires c κs = search needs
+
+mul-leave : tie.Need-mul-leave
+mul-leave c = search needs
+
+sub-leave : tie.Need-sub-leave
+sub-leave c = search needs
+
+part-leave-start : tie.Need-part-leave-start
+part-leave-start c = search needs
+
+part-leave-end : tie.Need-part-leave-end
+part-leave-end c = search part-within
 
 leave-requires : tie.Need-leave-requires
-leave-requires c κs = search needs
+leave-requires c κs = search one-to-take-off
 
 same-length : tie.Need-same-length
 same-length c = search needs
@@ -29,7 +48,13 @@ pub release-seat-spec : {M : Type 1} → statement M
 release-seat-spec =
     tie.close
     (tie.spec
-    seat-word-requires
+    seat-word-within-requires
+    seat-start-requires
+    seat-end-requires
+    mul-leave
+    sub-leave
+    part-leave-start
+    part-leave-end
     leave-requires
     same-length
     same-length-2

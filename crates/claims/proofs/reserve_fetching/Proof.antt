@@ -1,12 +1,12 @@
 -- `claims::reserve_fetching` meets its promise.
 use Rattle.claims.proofs.Ways.{reserve-none, reserve-node}
-use Rattle.fetch.proofs.Ways.{idle-no-prev}
+use Rattle.fetch.proofs.Ways.{idle-no-prev, idle-no-cur}
 use borrow.Author.Needs.{needs}
 use Rattle.claims.proofs.reserve_fetching.Statement.{statement}
 use Rattle.claims.proofs.reserve_fetching.Tie as tie
 
 fetch-requires : tie.Need-fetch-requires
-fetch-requires c κs = search idle-no-prev
+fetch-requires c κs = search (idle-no-prev, idle-no-cur)
 
 same-length : tie.Need-same-length
 same-length c = search needs

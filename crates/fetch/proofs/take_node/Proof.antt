@@ -6,8 +6,8 @@ use Rattle.fetch.proofs.take_node.Tie as tie
 write-claim-requires : tie.Need-write-claim-requires
 write-claim-requires c κs = search needs
 
-enter-at-head-requires : tie.Need-enter-at-head-requires
-enter-at-head-requires c κs = search needs
+reserve-for-requires : tie.Need-reserve-for-requires
+reserve-for-requires c κs = search needs
 
 same-length : tie.Need-same-length
 same-length c = search needs
@@ -21,4 +21,4 @@ returns c = search taken
 pub take-node-spec : {M : Type 1} → statement M
 take-node-spec =
     tie.close
-    (tie.spec write-claim-requires enter-at-head-requires same-length same-length-2 returns)
+    (tie.spec write-claim-requires reserve-for-requires same-length same-length-2 returns)

@@ -1,6 +1,6 @@
 -- `phases::fetch_again` meets its promise.
 use Rattle.phases.proofs.Ways.{refetch-none, refetch-node}
-use Rattle.fetch.proofs.Ways.{withdrawn-no-prev}
+use Rattle.fetch.proofs.Ways.{withdrawn-no-prev, withdrawn-no-cur}
 use borrow.Author.Needs.{needs}
 use Rattle.phases.proofs.fetch_again.Statement.{statement}
 use Rattle.phases.proofs.fetch_again.Tie as tie
@@ -18,7 +18,7 @@ node-word-requires-3 : tie.Need-node-word-requires-3
 node-word-requires-3 c κs = search needs
 
 fetch-requires : tie.Need-fetch-requires
-fetch-requires c κs = search withdrawn-no-prev
+fetch-requires c κs = search (withdrawn-no-prev, withdrawn-no-cur)
 
 same-length : tie.Need-same-length
 same-length c = search needs

@@ -35,6 +35,10 @@ module _ (t : Tables) (s : ℕ) where
   answers-wait (inl p) = rw p
   answers-wait (inr p) = rw p
 
+  pub answers-on : phase t s ≡ 1 → answerOf t s ≡ on
+  unfolding answerOf
+  answers-on p = rw p
+
   pub answers-held : phase t s ≡ 5 → answerOf t s ≡ held
   unfolding answerOf
   answers-held p = rw p
