@@ -14,6 +14,8 @@ use Rattle.boundary.proofs.soodhiqune_clear.Reads as clear
 use Rattle.boundary.proofs.soodhiqune_clear.Kinds as clear-kinds
 use Rattle.boundary.proofs.soodhiqune_reserve.Reads as reserve
 use Rattle.boundary.proofs.soodhiqune_reserve.Kinds as reserve-kinds
+use Rattle.boundary.proofs.soodhiqune_enter.Reads as enter
+use Rattle.boundary.proofs.soodhiqune_enter.Kinds as enter-kinds
 use Rattle.boundary.proofs.soodhiqune_step.Reads as step
 use Rattle.boundary.proofs.soodhiqune_step.Kinds as step-kinds
 use Rattle.boundary.proofs.soodhiqune_release.Reads as release
@@ -68,6 +70,10 @@ one-clear κs args a b s t = one-result _ a b _ _
 
 pub one-reserve : Settles reserve-kinds.ps reserve-kinds.r reserve.Post (λ κs s. tables (now (s .0)) (now (s .1 .0)))
 one-reserve κs args a b s t = one-number _ a b _ _
+
+-- enter is lent the nodes to read only
+pub one-enter : Settles enter-kinds.ps enter-kinds.r enter.Post (λ κs s. now (s .1 .0))
+one-enter κs args a b s t p q = let w = one-number _ a b _ _ p q in (w .0, ap (λ (u : Tables). u .seats) (w .1))
 
 -- the tables, and the two words for the shared run
 pub one-step : Settles step-kinds.ps step-kinds.r {B = Tables × List ℕ} step.Post (λ κs s. (tables (now (s .0)) (now (s .1 .0)), now (s .1 .1 .1 .0)))

@@ -16,11 +16,14 @@ use Rattle.rules.specs.Calls as call
 use Rattle.rules.specs.Run as running
 use Rattle.rules.specs.declared.Ran.{Ran}
 use Rattle.rules.proofs.Rules.Accepting.{reserve-answers, release-answers}
+use Rattle.rules.proofs.Frames.Reserved.{enter-answers}
 use Rattle.replies.specs.Codes.{answerBy}
 use Rattle.boundary.specs.Encoded.{Halves, halvesOf, encode, encodeCount, encodeRan, encoded, encodedRun, StepTold, stepTold, sharedAfter, tellStep, Told, told, tellAnswer, tell}
 use Rattle.boundary.specs.Decoded.{decode, decodeStep, decodeCount, decodeRan, decodeBoard}
 use Rattle.boundary.proofs.soodhiqune_reserve.Reads as reserve
 use Rattle.boundary.proofs.soodhiqune_reserve.Kinds as reserve-kinds
+use Rattle.boundary.proofs.soodhiqune_enter.Reads as enter
+use Rattle.boundary.proofs.soodhiqune_enter.Kinds as enter-kinds
 use Rattle.boundary.proofs.soodhiqune_step.Reads as step
 use Rattle.boundary.proofs.soodhiqune_step.Kinds as step-kinds
 use Rattle.boundary.proofs.soodhiqune_release.Reads as release
@@ -61,6 +64,10 @@ ReadBack a = decode (encode a) ≡ a
 reserve-back : (t : Tables) (s : ℕ) (c : Claim) → ReadBack (call.reserve t s c .answer)
 unfolding answerBy
 reserve-back t s c = reserve-answers t s c ReadBack (λ n. refl) (λ number. refl)
+
+enter-back : (t : Tables) (s : ℕ) → ReadBack (call.enter t s .answer)
+unfolding answerBy
+enter-back t s = enter-answers t s ReadBack refl (λ number. refl)
 
 release-back : (t : Tables) (s : ℕ) → ReadBack (call.release t s .answer)
 unfolding answerBy
@@ -105,6 +112,12 @@ pub reserve-told : Tells reserve-kinds.ps reserve-kinds.r reserve.Post
     (λ κs args. call.reserve (tables (now (args .0)) (now (args .1 .0))) (args .1 .1 .0) (claim (args .1 .1 .1 .0) (args .1 .1 .1 .1 .0) (args .1 .1 .1 .1 .1 .0)))
     (λ κs r s. done (decode (halvesOf r)) (tables (now (s .0)) (now (s .1 .0))))
 reserve-told κs args r s = done-back _ (reserve-back _ _ _) r _
+
+-- enter is lent the nodes to read only
+pub enter-told : Tells enter-kinds.ps enter-kinds.r {B = Answer × List ℕ} enter.Post
+    (λ κs args. let d = call.enter (tables (now (args .0)) (now (args .1 .0))) (args .1 .1 .0) in (d .answer, d .after .seats))
+    (λ κs r s. (decode (halvesOf r), now (s .1 .0)))
+enter-told κs args r s p = ap (λ (d : Done Answer). (d .answer, d .after .seats)) (done-back _ (enter-back _ _) r _ p)
 
 pub step-told : Tells step-kinds.ps step-kinds.r step.Post
     (λ κs args. call.step (tables (now (args .0)) (now (args .1 .0))) (args .1 .1 .0))

@@ -86,6 +86,14 @@ pub extern "C" fn soodhiqune_reserve(
 }
 
 #[no_mangle]
+pub extern "C" fn soodhiqune_enter(nodes: &[u32], seats: &mut [u32], seat: u32) -> u64
+    ensures { λ r. ⌜ done (halvesOf r) (tables (now (nodes .entry)) (now (seats .exit))) ≡ encoded (call.enter (tables (now (nodes .entry)) (now (seats .entry))) seat) ⌝ }
+{
+    let reply = claims::enter(nodes, seats, seat);
+    number_of(reply)
+}
+
+#[no_mangle]
 pub extern "C" fn soodhiqune_step(
     nodes: &mut [u32],
     seats: &mut [u32],

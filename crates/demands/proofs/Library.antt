@@ -136,7 +136,7 @@ title-stays {t} {requests = requests} m = rw (made-requests m) (titled.requests-
 pub as-cleared : {t u v : Tables} {frames : ℕ} {requests : List Request} → ClearMade t frames 0 u → RequestsMade u requests v → title v ≡ frames
 as-cleared m more = title-stays more ∙ clear-remembers m .0
 
--- whoever is told a node began a claim that ends within it
+-- whoever is told a node has it for a claim that ends within it
 pub reserved-within : {t u : Tables} {s n : ℕ} {c : Claim} → CallMade t (reserveCall s c) (node n) u → WithinTitle t c
 unfolding call
 reserved-within {t} {s = s} {n} {c} m = titled.reserved-within t s n c (sym (ap (λ (x : Done Answer). x .answer) (made-call m)))
@@ -254,16 +254,16 @@ module _ {N S : ℕ} {t : Tables} (l : Lent N S t) where
       let e = made-call m in
       rw (ap (λ (d : Done Answer). d .after) e) (cause.every-wait-has-its-cause (lent-reached l) s n first end (sym (ap (λ (d : Done Answer). d .answer) e)))
 
-  -- 6·N + 8 steps of a seat with a claim settle it, and the last of them tells the worker how
-  pub nobody-waits-without-cause : (s : ℕ) → phase t s ≢ 0 → {u : Tables} → StepsMade s (6 * N + 8) t u → Settled u s
+  -- 6·N + 10 steps of a seat with a claim settle it, and the last of them tells the worker how
+  pub nobody-waits-without-cause : (s : ℕ) → phase t s ≢ 0 → {u : Tables} → StepsMade s (6 * N + 10) t u → Settled u s
   nobody-waits-without-cause s d m = rw (made-steps m) (cause.nobody-waits-without-cause (lent-reached l) s d)
 
-  pub last-step-tells : (s : ℕ) → phase t s ≢ 0 → {u v : Tables} {a : Answer} → StepsMade s (6 * N + 7) t u → CallMade u (stepCall s) a v → Told s a v
+  pub last-step-tells : (s : ℕ) → phase t s ≢ 0 → {u v : Tables} {a : Answer} → StepsMade s (6 * N + 9) t u → CallMade u (stepCall s) a v → Told s a v
   unfolding call
   last-step-tells s d m last =
       let e = made-call last in
       rw (ap (λ (d : Done Answer). d .answer) e, ap (λ (d : Done Answer). d .after) e, made-steps m) (cause.last-step-tells (lent-reached l) s d)
 
   -- so does one run of as many entries of the seat, with a budget as large
-  pub run-settles : (s : ℕ) → phase t s ≢ 0 → {budget : ℕ} {r : Ran} {u : Tables} → 6 * N + 8 ≤ budget → RunMade t (replicate (6 * N + 8) s) budget r u → Settled u s
+  pub run-settles : (s : ℕ) → phase t s ≢ 0 → {budget : ℕ} {r : Ran} {u : Tables} → 6 * N + 10 ≤ budget → RunMade t (replicate (6 * N + 10) s) budget r u → Settled u s
   run-settles s d {budget} h m = rw (ap (λ (d : Done Ran). d .after) (made-run m)) (cause.run-settles (lent-reached l) s d budget h)

@@ -14,7 +14,7 @@ use Rattle.rules.specs.Answers.{Answer}
 use Rattle.rules.specs.FreeCount.{Counted}
 use Rattle.rules.specs.Board.{Boarded}
 use Rattle.rules.specs.Means.{means, meansCount, meansBoard}
-use Rattle.rules.specs.Play.{Call, reserveCall, stepCall, releaseCall}
+use Rattle.rules.specs.Play.{Call, reserveCall, enterCall, stepCall, releaseCall}
 use Rattle.rules.specs.Reached.{Request, single, running}
 use Rattle.rules.specs.declared.Moved.{Moved}
 use Rattle.rules.specs.declared.Ran.{Ran}
@@ -22,6 +22,8 @@ use Rattle.claims.proofs.clear.Reads as clearing
 use Rattle.claims.proofs.clear.Kinds as clear-kinds
 use Rattle.claims.proofs.reserve.Reads as reserving
 use Rattle.claims.proofs.reserve.Kinds as reserve-kinds
+use Rattle.claims.proofs.enter.Reads as entering
+use Rattle.claims.proofs.enter.Kinds as enter-kinds
 use Rattle.claims.proofs.step.Reads as stepping
 use Rattle.claims.proofs.step.Kinds as step-kinds
 use Rattle.claims.proofs.release.Reads as releasing
@@ -43,13 +45,16 @@ pub data ClearMade : Tables → ℕ → ℕ → Tables → Type 0 where
       → clearing.Post κs args r end
       → ClearMade (tables (now (args .0)) (now (args .1 .0))) (args .1 .1 .0) r (tables (now (end .0)) (now (end .1 .0)))
 
--- reserve, enter, step or release: the tables before, the call with its numbers, the answer, the tables after
+-- reserve, enter, step or release: the tables before, the call with its numbers, the answer, the tables after. Enter is lent the nodes to read only
 pub data CallMade : Tables → Call → Answer → Tables → Type 0 where
   reserve-made : (κs : Lfts 2) (args : Dens κs reserve-kinds.ps) (r : resT reserve-kinds.r κs .Denot) (end : AtExit (endedOf 2 reserve-kinds.ps reserve-kinds.r) κs)
       → reserving.Post κs args r end
       → CallMade (tables (now (args .0)) (now (args .1 .0)))
       (reserveCall (args .1 .1 .0) (claim (args .1 .1 .1 .0) (args .1 .1 .1 .1 .0) (args .1 .1 .1 .1 .1 .0)))
       (means r) (tables (now (end .0)) (now (end .1 .0)))
+  enter-made : (κs : Lfts 2) (args : Dens κs enter-kinds.ps) (r : resT enter-kinds.r κs .Denot) (end : AtExit (endedOf 2 enter-kinds.ps enter-kinds.r) κs)
+      → entering.Post κs args r end
+      → CallMade (tables (now (args .0)) (now (args .1 .0))) (enterCall (args .1 .1 .0)) (means r) (tables (now (args .0)) (now (end .1 .0)))
   step-made : (κs : Lfts 2) (args : Dens κs step-kinds.ps) (r : resT step-kinds.r κs .Denot) (end : AtExit (endedOf 2 step-kinds.ps step-kinds.r) κs)
       → stepping.Post κs args r end
       → CallMade (tables (now (args .0)) (now (args .1 .0))) (stepCall (args .1 .1 .0)) (means r) (tables (now (end .0)) (now (end .1 .0)))

@@ -26,7 +26,7 @@ use Rattle.rules.proofs.Ground.Logic.{clash}
 use Rattle.rules.proofs.Ground.Deciding.{if-true}
 use Rattle.rules.proofs.Laws.Shape.{lengths-fit}
 use Rattle.rules.proofs.Rules.RefusedExactly.{clear-accepted}
-use Rattle.demands.proofs.Made.{ClearMade, clear-made, CallMade, reserve-made, step-made, release-made, RunMade, run-made, CountMade, count-made, BoardMade, board-made, ImportMade, import-made, ExportMade, export-made, RequestMade, a-call, a-run, RequestsMade, no-more, first, StepsMade, no-step, a-step, Lent, lent}
+use Rattle.demands.proofs.Made.{ClearMade, clear-made, CallMade, reserve-made, enter-made, step-made, release-made, RunMade, run-made, CountMade, count-made, BoardMade, board-made, ImportMade, import-made, ExportMade, export-made, RequestMade, a-call, a-run, RequestsMade, no-more, first, StepsMade, no-step, a-step, Lent, lent}
 
 -- ---- each call is its rule
 pub made-clear : {t u : Tables} {frames r : ℕ} → ClearMade t frames r u → done r u ≡ clear t frames
@@ -35,6 +35,7 @@ made-clear (clear-made κs args r end p) = p
 pub made-call : {t u : Tables} {c : Call} {a : Answer} → CallMade t c a u → done a u ≡ call t c
 unfolding call
 made-call (reserve-made κs args r end p) = p
+made-call (enter-made κs args r end p) = p
 made-call (step-made κs args r end p) = p
 made-call (release-made κs args r end p) = p
 

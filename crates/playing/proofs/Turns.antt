@@ -8,7 +8,7 @@ use lib.ListN.{length, getD, take, drop, length-map, drop-of-length-le}
 use lib.Seq.{drop-cons, getD-take, length-take-le}
 use borrow.Author.Tests.{eq-eqb, ne-eqb}
 use Rattle.rules.specs.Comparison.{claim}
-use Rattle.rules.specs.Calls.{reserve, step, release}
+use Rattle.rules.specs.Calls.{reserve, enter, step, release}
 use Rattle.rules.specs.Answers.{Answer, Done, done}
 use Rattle.rules.specs.Means.{means}
 use Rattle.rules.specs.Tables.{Tables, tables}
@@ -36,9 +36,13 @@ module _ (line : Line) (t : Tables) (d : Done Answer) where
   unfolding call callOf
   call-steps g h e = rw (ne-eqb (line .code) 1 g, eq-eqb (line .code) 2 h) e
 
-  pub call-releases : (line .code ≡ 1 → ⊥) → (line .code ≡ 2 → ⊥) → d ≡ release t (line .seat) → d ≡ call t (callOf line)
+  pub call-releases : (line .code ≡ 1 → ⊥) → (line .code ≡ 2 → ⊥) → line .code ≡ 3 → d ≡ release t (line .seat) → d ≡ call t (callOf line)
   unfolding call callOf
-  call-releases g h e = rw (ne-eqb (line .code) 1 g, ne-eqb (line .code) 2 h) e
+  call-releases g h i e = rw (ne-eqb (line .code) 1 g, ne-eqb (line .code) 2 h, eq-eqb (line .code) 3 i) e
+
+  pub call-enters : (line .code ≡ 1 → ⊥) → (line .code ≡ 2 → ⊥) → (line .code ≡ 3 → ⊥) → d ≡ enter t (line .seat) → d ≡ call t (callOf line)
+  unfolding call callOf
+  call-enters g h i e = rw (ne-eqb (line .code) 1 g, ne-eqb (line .code) 2 h, ne-eqb (line .code) 3 i) e
 
 -- a reply's numbers serve in its place
 pub said-is : (r : Reply) (s : Said) (t : Tables) (d : Done Answer) → done (means r) t ≡ d → s ≡ saidOf r → done (answerBy s) t ≡ d

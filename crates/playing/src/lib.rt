@@ -34,7 +34,10 @@ fn make_call(nodes: &mut [u32], seats: &mut [u32], line: Line) -> Reply
     if code == 2 {
         return claims::step(nodes, seats, line.seat);
     }
-    claims::release(nodes, seats, line.seat)
+    if code == 3 {
+        return claims::release(nodes, seats, line.seat);
+    }
+    claims::enter(nodes, seats, line.seat)
 }
 
 // What it answered, as it is printed.

@@ -8,7 +8,7 @@ pub struct Row {
     pub kind: u32,
 }
 
-// A line of a script: its code (b 1, s 2, r 3) and four numbers.
+// A line of a script: its code (v 1, s 2, r 3, e 4) and four numbers.
 pub struct Line {
     pub code: u32,
     pub seat: u32,

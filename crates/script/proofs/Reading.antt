@@ -62,21 +62,25 @@ module _ (src : List ℕ) (at b : ℕ) (isByte : b ≡ byteAt src at) where
   unfolding lineEnd
   end-none w e h = rw (← isByte, ne-eqb b 10 h) e
 
-  pub body-reserve : (r : Body) → b ≡ 98 → r ≡ reserveLine src (at + 1) → r ≡ bodyAt src at
+  pub body-reserve : (r : Body) → b ≡ 118 → r ≡ reserveLine src (at + 1) → r ≡ bodyAt src at
   unfolding bodyAt
-  body-reserve r h e = rw (← isByte, eq-eqb b 98 h) e
+  body-reserve r h e = rw (← isByte, eq-eqb b 118 h) e
 
-  pub body-step : (r : Body) → (b ≡ 98 → ⊥) → b ≡ 115 → r ≡ seatLine src 2 (at + 1) → r ≡ bodyAt src at
+  pub body-step : (r : Body) → (b ≡ 118 → ⊥) → b ≡ 115 → r ≡ seatLine src 2 (at + 1) → r ≡ bodyAt src at
   unfolding bodyAt
-  body-step r g h e = rw (← isByte, ne-eqb b 98 g, eq-eqb b 115 h) e
+  body-step r g h e = rw (← isByte, ne-eqb b 118 g, eq-eqb b 115 h) e
 
-  pub body-release : (r : Body) → (b ≡ 98 → ⊥) → (b ≡ 115 → ⊥) → b ≡ 114 → r ≡ seatLine src 3 (at + 1) → r ≡ bodyAt src at
+  pub body-release : (r : Body) → (b ≡ 118 → ⊥) → (b ≡ 115 → ⊥) → b ≡ 114 → r ≡ seatLine src 3 (at + 1) → r ≡ bodyAt src at
   unfolding bodyAt
-  body-release r f g h e = rw (← isByte, ne-eqb b 98 f, ne-eqb b 115 g, eq-eqb b 114 h) e
+  body-release r f g h e = rw (← isByte, ne-eqb b 118 f, ne-eqb b 115 g, eq-eqb b 114 h) e
 
-  pub body-none : (l : Line) (w : ℕ) → w ≡ nowhere src → l ≡ noLine → (b ≡ 98 → ⊥) → (b ≡ 115 → ⊥) → (b ≡ 114 → ⊥) → body l w ≡ bodyAt src at
+  pub body-enter : (r : Body) → (b ≡ 118 → ⊥) → (b ≡ 115 → ⊥) → (b ≡ 114 → ⊥) → b ≡ 101 → r ≡ seatLine src 4 (at + 1) → r ≡ bodyAt src at
   unfolding bodyAt
-  body-none l w q e f g h = rw (← isByte, ne-eqb b 98 f, ne-eqb b 115 g, ne-eqb b 114 h, e, q)
+  body-enter r f g h i e = rw (← isByte, ne-eqb b 118 f, ne-eqb b 115 g, ne-eqb b 114 h, eq-eqb b 101 i) e
+
+  pub body-none : (l : Line) (w : ℕ) → w ≡ nowhere src → l ≡ noLine → (b ≡ 118 → ⊥) → (b ≡ 115 → ⊥) → (b ≡ 114 → ⊥) → (b ≡ 101 → ⊥) → body l w ≡ bodyAt src at
+  unfolding bodyAt
+  body-none l w q e f g h i = rw (← isByte, ne-eqb b 118 f, ne-eqb b 115 g, ne-eqb b 114 h, ne-eqb b 101 i, e, q)
 
 -- ---- a number
 no-byte-no-digit : (src : List ℕ) (at : ℕ) → byteAt src at ≡ 0 → digitOrTen src at ≡ 10

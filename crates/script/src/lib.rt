@@ -156,7 +156,7 @@ fn body_line(src: &[u8], at: usize) -> Body
     ensures { λ r. ⌜ r ≡ bodyAt (now (src .entry)) at ⌝ }
 {
     let letter = byte(src, at);
-    if letter == b'b' {
+    if letter == b'v' {
         return reserve_line(src, at + 1);
     }
     if letter == b's' {
@@ -164,6 +164,9 @@ fn body_line(src: &[u8], at: usize) -> Body
     }
     if letter == b'r' {
         return seat_line(src, 3, at + 1);
+    }
+    if letter == b'e' {
+        return seat_line(src, 4, at + 1);
     }
     Body {
         line: no_line(),

@@ -1,5 +1,5 @@
--- `playing::make_call` meets its contract: by the line's code, one of the three calls.
-use Rattle.playing.proofs.Turns.{call-reserves, call-steps, call-releases}
+-- `playing::make_call` meets its contract: by the line's code, one of the four calls.
+use Rattle.playing.proofs.Turns.{call-reserves, call-steps, call-releases, call-enters}
 use borrow.Author.Needs.{needs}
 use Rattle.playing.proofs.make_call.Statement.{statement}
 use Rattle.playing.proofs.make_call.Tie as tie
@@ -40,6 +40,18 @@ same-length-6 c = search needs
 returns-3 : tie.Need-returns-3
 returns-3 c = search call-releases
 
+enter-requires : tie.Need-enter-requires
+enter-requires c κs = search needs
+
+same-length-7 : tie.Need-same-length-7
+same-length-7 c = search needs
+
+same-length-8 : tie.Need-same-length-8
+same-length-8 c = search needs
+
+returns-4 : tie.Need-returns-4
+returns-4 c = search call-enters
+
 pub make-call-spec : {M : Type 1} → statement M
 make-call-spec =
     tie.close
@@ -55,4 +67,8 @@ make-call-spec =
     release-requires
     same-length-5
     same-length-6
-    returns-3)
+    returns-3
+    enter-requires
+    same-length-7
+    same-length-8
+    returns-4)
