@@ -16,7 +16,7 @@ use Rattle.rules.specs.Calls as call
 use Rattle.rules.specs.Run as running
 use Rattle.rules.specs.declared.Ran.{Ran}
 use Rattle.rules.proofs.Rules.Accepting.{reserve-answers, release-answers}
-use Rattle.rules.proofs.Frames.Reserved.{enter-answers}
+use Rattle.rules.proofs.Frames.Entered.{enter-answers}
 use Rattle.replies.specs.Codes.{answerBy}
 use Rattle.boundary.specs.Encoded.{Halves, halvesOf, encode, encodeCount, encodeRan, encoded, encodedRun, StepTold, stepTold, sharedAfter, tellStep, Told, told, tellAnswer, tell}
 use Rattle.boundary.specs.Decoded.{decode, decodeStep, decodeCount, decodeRan, decodeBoard}

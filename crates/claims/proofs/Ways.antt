@@ -25,7 +25,7 @@ use Rattle.rules.proofs.Laws.Answers.{refused-as}
 use Rattle.rules.proofs.Laws.Counts.{holder-counts}
 use Rattle.rules.proofs.Laws.Shape.{lengths-fit}
 use Rattle.rules.proofs.Rules.Accepting.{answers-from-phase, step-has-seat}
-use Rattle.rules.proofs.Frames.Reserved.{entering-says-on}
+use Rattle.rules.proofs.Frames.Entered.{entering-says-on}
 use Rattle.steps.specs.Parts.{countOfKind}
 use Rattle.steps.proofs.OwnWords as own
 use Rattle.phases.specs.Parts.{unanswered}

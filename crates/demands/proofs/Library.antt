@@ -1,5 +1,5 @@
 -- The demands, of the library: what is proved of the rules, of the library's own promises. The words are those of Made and of the rules'
--- specs/Refusing.antt, Apart.antt, Shared.antt, Cause.antt, Covered.antt, HowMany.antt, Title.antt and Archive.antt; each proof cites what stands at the
+-- specs/Refusing.antt, Apart.antt, Shared.antt, Cause.antt, Covered.antt, HowMany.antt, Title.antt, Archive.antt and Reserved.antt; each proof cites what stands at the
 -- door of the rules' proofs.
 use Prim.Native.Nat.{ℕ, _+_, _*_, _/_, _≤_}
 use mathlib.Core.Path.{_≡_, sym, ap, _∙_}
@@ -12,10 +12,10 @@ use Rattle.rules.specs.Tables.{Tables, readers, writers, title, start, phase, o
 use Rattle.rules.specs.Comparison.{Claim, claimOf}
 use Rattle.rules.specs.Shape.{sound}
 use Rattle.rules.specs.Reach.{listOf}
-use Rattle.rules.specs.Answers.{Answer, node, wait, refused, Done, done}
+use Rattle.rules.specs.Answers.{Answer, node, on, wait, refused, Done, done}
 use Rattle.rules.specs.FreeCount.{Counted}
 use Rattle.rules.specs.Board.{Boarded, Shown, rowWidth, holders, coveredBy}
-use Rattle.rules.specs.Play.{Call, reserveCall, stepCall, call, seatOf}
+use Rattle.rules.specs.Play.{Call, reserveCall, enterCall, stepCall, call, seatOf}
 use Rattle.rules.specs.Reached.{Request}
 use Rattle.rules.specs.Run.{ran}
 use Rattle.rules.specs.Locks.{recordWidth, locksIn, claimsIn, Listed, listed, moved, importLocks, exportClaims}
@@ -27,6 +27,7 @@ use Rattle.rules.specs.Covered.{addedUp, In32Bits}
 use Rattle.rules.specs.HowMany.{CountsRight, CountsMove}
 use Rattle.rules.specs.Title.{AllWithin, perCent}
 use Rattle.rules.specs.Archive.{SameFrames, Pairwise, recordNumbers}
+use Rattle.rules.specs.Reserved.{HasReserved, HasEntered}
 use Rattle.rules.specs.declared.Moved.{Moved}
 use Rattle.rules.specs.declared.Ran.{Ran}
 use Rattle.rules.proofs.Refusing as refusing
@@ -37,6 +38,7 @@ use Rattle.rules.proofs.Covered as covers
 use Rattle.rules.proofs.HowMany as many
 use Rattle.rules.proofs.Title as titled
 use Rattle.rules.proofs.Archive as archive
+use Rattle.rules.proofs.Reserved as kept
 use Rattle.demands.proofs.Made.{ClearMade, CallMade, RunMade, CountMade, BoardMade, ImportMade, ExportMade, RequestsMade, StepsMade, Lent}
 use Rattle.demands.proofs.MadeByRules.{made-clear, made-accepted, made-call, made-run, made-count, made-board, made-import, made-export, made-requests, made-steps, count-not-1, board-not-1, board-accepted, lent-reached}
 
@@ -189,6 +191,24 @@ same-frames {frames} small {locks} {again} {after} {lent} {claims} {r} inward ou
     let w = archive.same-frames-in-lists frames small locks lent again (sym (ap (λ (x : Listed ℕ). x .answer) i)) room in
     (ap (λ (x : Listed ℤ). x .answer) e ∙ w .0, rw (ap (λ (x : Listed ℤ). x .after) e) (w .1))
 
+-- ---- reserve and enter, of any tables: who is told a node has it reserved for its claim, and who is told `on` by enter stands at the head, with no word
+-- of the nodes changed; on sound tables a seat in phase 7 is told so whenever it enters
+pub reserve-reserves : {t u : Tables} {s n : ℕ} {c : Claim} → CallMade t (reserveCall s c) (node n) u → HasReserved u s n c
+unfolding call
+reserve-reserves {t} {s = s} {n} {c} m =
+    let e = made-call m in
+    rw (ap (λ (x : Done Answer). x .after) e) (kept.reserve-reserves t s n c (sym (ap (λ (x : Done Answer). x .answer) e)))
+
+pub enter-enters : {t u : Tables} {s : ℕ} → CallMade t (enterCall s) on u → HasEntered t u s
+unfolding call
+enter-enters {t} {s = s} m =
+    let e = made-call m in
+    rw (ap (λ (x : Done Answer). x .after) e) (kept.enter-enters t s (sym (ap (λ (x : Done Answer). x .answer) e)))
+
+pub may-enter : {t u : Tables} {s : ℕ} {a : Answer} → sound t ≡ true → phase t s ≡ 7 → CallMade t (enterCall s) a u → a ≡ on
+unfolding call
+may-enter {t} {s = s} e p m = ap (λ (x : Done Answer). x .answer) (made-call m) ∙ kept.may-enter t s e p
+
 -- ---- demand 2, of tables that the library cleared and that only its calls have changed since
 module _ {N S : ℕ} {t : Tables} (l : Lent N S t) where
   -- two holders share a frame only if both read
@@ -253,6 +273,13 @@ module _ {N S : ℕ} {t : Tables} (l : Lent N S t) where
   every-wait-has-its-cause s n first end m =
       let e = made-call m in
       rw (ap (λ (d : Done Answer). d .after) e) (cause.every-wait-has-its-cause (lent-reached l) s n first end (sym (ap (λ (d : Done Answer). d .answer) e)))
+
+  -- so nobody waits at a node that is reserved
+  pub nobody-waits-at-reserved : (s n first end : ℕ) {u : Tables} → CallMade t (stepCall s) (wait n first end) u → (r : ℕ) → phase u r ≡ 7 → own u r ≢ n
+  unfolding call
+  nobody-waits-at-reserved s n first end m =
+      let e = made-call m in
+      rw (ap (λ (d : Done Answer). d .after) e) (kept.nobody-waits-at-it (lent-reached l) s n first end (sym (ap (λ (d : Done Answer). d .answer) e)))
 
   -- 6·N + 10 steps of a seat with a claim settle it, and the last of them tells the worker how
   pub nobody-waits-without-cause : (s : ℕ) → phase t s ≢ 0 → {u : Tables} → StepsMade s (6 * N + 10) t u → Settled u s

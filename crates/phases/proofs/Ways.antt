@@ -2,7 +2,7 @@
 use Prim.Native.Nat.{ℕ, _≤_, _<_, _+_, _-_, _*_}
 use mathlib.Core.Path.{_≡_, refl, sym, ap, _∙_}
 use mathlib.Core.Bool.{true}
-use mathlib.Core.List.{List, [], _++_}
+use mathlib.Core.List.{List, _++_}
 use mathlib.Core.Logic.{_≢_}
 use native.Mathlib.Omega.{arith}
 use lib.ListN.{take, drop}
@@ -15,6 +15,7 @@ use Rattle.rules.specs.Answers.{Answer, Done, done, answered}
 use Rattle.rules.specs.Steps.{walking, waitingToEnter, validating, readerWaiting, refetched, withdrawn, stepByPhase, entering, kindOf}
 use Rattle.rules.specs.Calls.{step}
 use Rattle.rules.specs.Run.{refusalOf}
+use Rattle.rules.proofs.Ground.Deciding.{beyond-3}
 use Rattle.rules.proofs.Laws.Answers.{answer-accepts}
 use Rattle.rules.proofs.Laws.Shape.{is-sound}
 use Rattle.rules.proofs.Rules.Reasons.{by-phase-1, by-phase-2, by-phase-3, by-phase-4, by-phase-5, by-phase-7}
@@ -43,9 +44,6 @@ module _ (n t n′ t′ : List ℕ) (s x y k a : ℕ) (isFetched : fetched a (ta
   refetch-node d = rw (← same-claim, ← isFetched, ne-eqb a 0 d) (accepted (tables n′ t′) s)
 
 -- ---- by the phase
-from-4 : (p : ℕ) → p ≢ 0 → p ≢ 1 → p ≢ 2 → p ≢ 3 → 4 ≤ p
-from-4 p d0 d1 d2 d3 = omega arith
-
 from-8 : (p : ℕ) → 4 ≤ p → p ≢ 4 → p ≢ 5 → p ≢ 6 → p ≢ 7 → 8 ≤ p
 from-8 p h d4 d5 d6 d7 = omega arith
 
@@ -65,7 +63,7 @@ module _ (n t : List ℕ) (s p : ℕ) (isPhase : p ≡ seatWord t s phaseAt) whe
 
   -- no other phase is sound
   pub step-none : sound (tables n t) ≡ true → p ≢ 0 → p ≢ 1 → p ≢ 2 → p ≢ 3 → p ≢ 4 → p ≢ 5 → p ≢ 6 → p ≢ 7 → done 1 (tables n t) ≡ unanswered (stepBusy (tables n t) s)
-  step-none z d0 d1 d2 d3 d4 d5 d6 d7 = absurd (no-more p (rw isPhase (is-sound (tables n t) z .seat s .phase-small)) (from-8 p (from-4 p d0 d1 d2 d3) d4 d5 d6 d7))
+  step-none z d0 d1 d2 d3 d4 d5 d6 d7 = absurd (no-more p (rw isPhase (is-sound (tables n t) z .seat s .phase-small)) (from-8 p (beyond-3 p d0 d1 d2 d3) d4 d5 d6 d7))
 
   pub step-six : (n′ t′ : List ℕ) (r : ℕ) → done r (tables n′ t′) ≡ unanswered (withdrawn (tables n t) s) → p ≡ 6 → done r (tables n′ t′) ≡ unanswered (stepBusy (tables n t) s)
   unfolding stepByPhase

@@ -12,7 +12,7 @@ use Rattle.rules.specs.Shape.{sound}
 use Rattle.rules.specs.Reach.{listOf}
 use Rattle.rules.specs.Answers.{refused}
 use Rattle.rules.specs.Steps.{kindOf}
-use Rattle.rules.specs.Calls.{reserve, step, release}
+use Rattle.rules.specs.Calls.{reserve, step, release, enter}
 use Rattle.rules.specs.Run.{run}
 use Rattle.rules.specs.Play.{Call, call, afterAll, seatOf}
 use Rattle.rules.specs.Reached.{Request, afterRequest, afterRequests, Reached, asked}
@@ -28,6 +28,7 @@ use Rattle.rules.proofs.Soundness.Refusals.{sound-never-damaged, run-no
 use Rattle.rules.proofs.Frames.SeatFrames.{other-seats-kept}
 use Rattle.rules.proofs.Frames.NodeFrames.{step-1-kept, step-2-kept, step-3-kept, step-4-kept, step-5-kept, step-6-kept, reserve-kept, release-kept}
 use Rattle.rules.proofs.Frames.ClaimFrames as frames
+use Rattle.rules.proofs.Frames.Entered.{enter-keeps-nodes, step-7-keeps-nodes}
 
 -- ---- two seats that hold share a frame only if both read
 pub apart : {N S : ℕ} {t : Tables} → Reached N S t → (i j frame : ℕ) → i ≢ j → Holds t i → Holds t j
@@ -96,6 +97,10 @@ touches-one-seat = other-seats-kept
 pub reserve-touches : (t : Tables) (s : ℕ) (c : Claim) → FetchKept s t (reserve t s c .after)
 reserve-touches = reserve-kept
 
+-- enter, none: it "touches its seat alone"
+pub enter-touches : (t : Tables) (s : ℕ) → enter t s .after .nodes ≡ t .nodes
+enter-touches = enter-keeps-nodes
+
 -- release, the mark of own and the count of its kind
 pub release-touches : (t : Tables) (s : ℕ) → NodesKept NoNode (λ a. a ≡ own t s) NoNode (λ i. i ≡ countAt (kindOf t s)) t (release t s .after)
 release-touches = release-kept
@@ -120,6 +125,9 @@ holding-touches = step-5-kept
 
 pub withdrawn-touches : (t : Tables) (s : ℕ) → phase t s ≡ 6 → FetchKept s t (step t s .after)
 withdrawn-touches = step-6-kept
+
+pub entering-touches : (t : Tables) (s : ℕ) → phase t s ≡ 7 → step t s .after .nodes ≡ t .nodes
+entering-touches = step-7-keeps-nodes
 
 -- no call changes a claim but that of the node it takes
 pub claims-kept : (t : Tables) (c : Call) (a : ℕ) → a ≢ own (call t c .after) (seatOf c) → claimOf (call t c .after) a ≡ claimOf t a

@@ -4,7 +4,7 @@ pub mod SeatFrames
 pub mod NodeFrames
 pub mod ClaimFrames
 pub mod AfterStep
-pub mod Reserved
+pub mod Entered
 pub mod CountFrames
 pub mod TitleFrames
 pub mod Uncovered

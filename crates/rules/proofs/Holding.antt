@@ -5,3 +5,4 @@ pub mod ListOrder
 pub mod NothingDropped
 pub mod Standing
 pub mod CoveredOnce
+pub mod ReservedClaims

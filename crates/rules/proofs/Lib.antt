@@ -10,6 +10,7 @@ pub mod HowMany
 pub mod Title
 pub mod Stores
 pub mod Archive
+pub mod Reserved
 -- The rooms behind it, in the order in which they may use each other; the first line of each says what it proves.
 pub mod Ground
 pub mod Laws

@@ -24,3 +24,4 @@ pub mod HowMany
 pub mod Title
 pub mod Stores
 pub mod Archive
+pub mod Reserved

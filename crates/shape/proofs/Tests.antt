@@ -12,7 +12,7 @@ use borrow.Author.Tests.{not-true, not-false, eq-eqb, ne-eqb, eqb-true, eqb-fals
 use Rattle.rules.specs.Notation.{_≤?_, all}
 use Rattle.rules.specs.Tables.{Tables, tables, beforeNodes, title, countWord, nodeWord, linkWord, seatWord, nodeCountOf, seatCountOf, startAt, endAt, kindAt, markAt, phaseAt, ownAt, prevAt, curAt}
 use Rattle.rules.specs.Shape.{nodesFit, seatsFit, lengthsFit, isKind, zeroNode, claimNode, names, nodeSound, isPhase, zeroSeat, idleOrOwning, restingAtZero, waitingAtCur, seatSound, countsFit, endsBy, titleFits, endsWithin, nodesSound, seatsSound, sound}
-use Rattle.rules.proofs.Ground.Logic.{either, or-case, or-neither, and-left, all-fails, all-and}
+use Rattle.rules.proofs.Ground.Logic.{or-case, or-neither, and-left, all-fails, all-and}
 use Rattle.rules.proofs.Laws.Words.{link-past}
 use Rattle.rules.proofs.Laws.Shape.{nodes-fit, named, name-of, name-small, lengths-fit}
 use Rattle.rules.proofs.Laws.NodesAlone.{ends-alone, nodes-alone, ends-by-alone}

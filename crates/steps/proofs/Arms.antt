@@ -1,7 +1,7 @@
 -- The step rules as one law for each way through the code: n and t are the node and the seat table before, n′ and t′ after. The
 -- premises are what the code learned on its way, the last first.
 use Prim.Native.Nat.{ℕ, _+_, _-_, _≤_, _<_}
-use mathlib.Core.Path.{_≡_, refl, sym, ap, _∙_}
+use mathlib.Core.Path.{_≡_, sym, ap, _∙_}
 use mathlib.Core.Bool.{Bool, true, false, not, _&&_, _||_}
 use mathlib.Core.List.{List, []}
 use mathlib.Core.Logic.{_≢_, _⊎_, inl, inr}
@@ -12,7 +12,7 @@ use mir.Syntax.{w32}
 use mir.Val.{Fits, ofZ, toZ}
 use native.Mathlib.Omega.{arith}
 use borrow.Author.Tests.{eq-eqb, ne-eqb}
-use Rattle.rules.specs.Tables.{Tables, tables, seatWidth, nodeWord, putNode, linkWord, seatWord, putSeat, clearWords, kindAt, markAt, startAt, endAt, phaseAt, ownAt, prevAt, curAt, countWord, setCount}
+use Rattle.rules.specs.Tables.{tables, seatWidth, nodeWord, putNode, linkWord, seatWord, putSeat, clearWords, kindAt, markAt, startAt, endAt, phaseAt, ownAt, prevAt, curAt, countWord, setCount}
 use Rattle.rules.specs.Comparison.{claimOf, compare, shared}
 use Rattle.rules.specs.Answers.{Answer, on, wait, held, back, waiting, answerOf}
 use Rattle.rules.specs.Steps.{entering, moveTo, joined, unlink, pass, linkIn, startValidating, lookAgain, insert, kindOf, hold, withdraw, leave, walking, waitingToEnter, readerValidating, writerValidating, validating, readerWaiting}

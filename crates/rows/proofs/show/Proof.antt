@@ -352,8 +352,8 @@ module _ {M : Type 1} (𝓤 : URA M) (H : Heap 𝓤) (A : Atoms 𝓤) (W : Given
         ∷ ‵ (fat fullShare rowsSlice l₁ 0 rowsVal) ∷ ‵ (fat fullShare nodesSlice l₂ 0 nodesVal) ∷ ‵ (fat fullShare seatsSlice l₃ 0 seatsVal) ∷ ‵ (froom word l₄ 0) ∷ ‵ (froom R′.mir l₅ 0) ∷ ‵ (froom R′.mir l₀ 0) ∷ Dying
 
     -- the length is read and the borrow is opened
-    reserves : ent 𝓤 (⋆ 𝓤 H A Entered) (Wp 𝓤 H C Λ En mirs.t-1 (atReturn 𝓤 H En Post))
-    reserves =
+    begins : ent 𝓤 (⋆ 𝓤 H A Entered) (Wp 𝓤 H C Λ En mirs.t-1 (atReturn 𝓤 H En Post))
+    begins =
         qed W Entered ∵ exec ! C Λ En mirs.t-1 (atRet En Post) $
         assigns ! (of-opd ! (load ! (from ! (fld ! refl (stop !))) (look-in ! 8 (sub ! 1 refl (whole !))))) (from ! (stop !)) (init ! 11 refl (tt, record { fits = room .0 })) $
         fsplit ! $ fsplit ! $ move ! (1 ∷ []) $ fsplit ! $ move ! (4 ∷ []) $ split ! $ move ! (2 ∷ 3 ∷ 0 ∷ []) $ opens-slice ! tt T.the-row ys b o $
@@ -376,7 +376,7 @@ module _ {M : Type 1} (𝓤 : URA M) (H : Heap 𝓤) (A : Atoms 𝓤) (W : Given
         params1 ! $
         pass1 ! (init ! 20 refl (tt, (tt, (record { fits = room .0 }, tt)))) $ pass1 ! (init ! 18 refl (tt, (tt, (record { fits = roomNodes .0 }, tt)))) $ pass1 ! (init ! 16 refl (tt, (tt, (record { fits = roomSeats .0 }, tt)))) $ pass0 ! $
         keep ! (25 ∷ 24 ∷ 10 ∷ 8 ∷ 6 ∷ 4 ∷ 2 ∷ 0 ∷ 20 ∷ 18 ∷ 16 ∷ 14 ∷ 12 ∷ 22 ∷ 23 ∷ 21 ∷ 19 ∷ 17 ∷ 15 ∷ 13 ∷ 11 ∷ 9 ∷ 7 ∷ 5 ∷ 3 ∷ 1 ∷ []) $
-        by ! (reserves 𝓣 known-answer known-rows known-last room l₀ l₁ l₂ l₃ l₄ l₅ l₆ l₇ l₈ l₉ l₁₀ l₁₁)
+        by ! (begins 𝓣 known-answer known-rows known-last room l₀ l₁ l₂ l₃ l₄ l₅ l₆ l₇ l₈ l₉ l₁₀ l₁₁)
 
     walk : ent 𝓤 (onEntry 𝓤 H A show′.signature (κ, (κₙ, (κₛ, tt))) (q, (qₙ, (qₛ, tt))) (lentAs ys) vals) (WpFn 𝓤 H (𝓣 .C) (𝓣 .Λ) code.function (rowsVal ∷ nodesVal ∷ seatsVal ∷ []) Post)
     walk =

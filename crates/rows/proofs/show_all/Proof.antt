@@ -261,9 +261,9 @@ module _ {M : Type 1} (𝓤 : URA M) (H : Heap 𝓤) (A : Atoms 𝓤) (W : Given
           keep ! (1 ∷ 7 ∷ 3 ∷ 2 ∷ 6 ∷ 8 ∷ 9 ∷ 10 ∷ 11 ∷ 12 ∷ 13 ∷ 14 ∷ 15 ∷ 16 ∷ 17 ∷ 18 ∷ 19 ∷ 20 ∷ 21 ∷ 22 ∷ []) $ by ! (ends r u is (zs .0) x fills))))))
 
     -- the rows are made, stored and lent
-    reserves : ent 𝓤 (⋆ 𝓤 H A (‵ (froom array l₃ 0) ∷ Beside (‵ (froom R′.mir l₄ 0)) (‵ (froom array l₅ 0)) (‵ (froom lent l₆ 0)) (‵ (froom rowsSlice l₇ 0)))) (Wp 𝓤 H C Λ En mirs.t-1 (atReturn 𝓤 H En Post))
+    begins : ent 𝓤 (⋆ 𝓤 H A (‵ (froom array l₃ 0) ∷ Beside (‵ (froom R′.mir l₄ 0)) (‵ (froom array l₅ 0)) (‵ (froom lent l₆ 0)) (‵ (froom rowsSlice l₇ 0)))) (Wp 𝓤 H C Λ En mirs.t-1 (atReturn 𝓤 H En Post))
     unfolding partOf
-    reserves =
+    begins =
         qed W (‵ (froom array l₃ 0) ∷ Beside (‵ (froom R′.mir l₄ 0)) (‵ (froom array l₅ 0)) (‵ (froom lent l₆ 0)) (‵ (froom rowsSlice l₇ 0))) ∵ exec ! C Λ En mirs.t-1 (atRet En Post) $
         use0 W (raw (NoRows 𝓤 H A mem′ run .pre to-none)) asks-none $ calls-at ! fm (NoRows 𝓤 H A mem′ run) known-none to-none (no-more !) (λ v.
         use1 W (later (some (λ (xs : List Row). (‵ ftrue ⊛ ‵ (Rows .own xs (v ∷ []))) ⊛ raw (ensured 𝓤 H A no-rows.ended (no-rows.clauses 𝓤 H A mem′ run) tt tt tt xs)))) (id⊢ 𝓤 _) $ await ! tt $ pick ! (λ xs.
@@ -300,7 +300,7 @@ module _ {M : Type 1} (𝓤 : URA M) (H : Heap 𝓤) (A : Atoms 𝓤) (W : Given
         params1 ! $ pass1 ! (init ! 12 refl (tt, (tt, (record { fits = roomNodes .0 }, tt)))) $ pass1 ! (init ! 10 refl (tt, (tt, (record { fits = roomSeats .0 }, tt)))) $ pass0 ! $
         -- [_7; …; _6; …; _5; …; _4; …; _3; …; _2; …; _1; …; _0; …; tokens; slices]
         keep ! (8 ∷ 16 ∷ 17 ∷ 12 ∷ 10 ∷ 14 ∷ 6 ∷ 4 ∷ 2 ∷ 0 ∷ 15 ∷ 13 ∷ 11 ∷ 9 ∷ 7 ∷ 5 ∷ 3 ∷ 1 ∷ []) $
-        by ! (reserves 𝓣 known-none known-show known-together l₀ l₁ l₂ l₃ l₄ l₅ l₆ l₇)
+        by ! (begins 𝓣 known-none known-show known-together l₀ l₁ l₂ l₃ l₄ l₅ l₆ l₇)
 
     walk : ent 𝓤 (onEntry 𝓤 H A all′.signature (κₙ, (κₛ, tt)) (qₙ, (qₛ, tt)) (ns, (ss, tt)) vals) (WpFn 𝓤 H (𝓣 .C) (𝓣 .Λ) code.function (nodesVal ∷ seatsVal ∷ []) Post)
     walk =

@@ -13,9 +13,9 @@ use Rattle.rules.specs.Comparison.{Claim, claimOf}
 use Rattle.rules.specs.Shape.{sound}
 use Rattle.rules.specs.Reach.{met, listed, othersReach, free, lowestFree}
 use Rattle.rules.specs.Fetch.{Fetched, takenOut}
-use Rattle.rules.specs.Answers.{Answer, Done}
+use Rattle.rules.specs.Answers.{Answer, Done, node}
 use Rattle.rules.specs.Steps.{refetched}
-use Rattle.rules.specs.Calls.{reserved, step}
+use Rattle.rules.specs.Calls.{reserved, step, reserve}
 use Rattle.rules.specs.Play.{Call, reserveCall, stepCall, releaseCall, call, seatOf, enterCall}
 use Rattle.rules.specs.Apart.{claimOfSeat}
 use Rattle.rules.proofs.Ground.Logic.{branch, or-neither, not-true, clash}
@@ -30,6 +30,7 @@ use Rattle.rules.proofs.Rules.Reasons.{by-phase-6, by-no-phase, Fetchin
 use Rattle.rules.proofs.Rules.Accepting.{Reserving, reserve-refused, reserve-accepted, reserving, step-or-same, step-enters}
 use Rattle.rules.proofs.Frames.SeatFrames.{other-seats-kept}
 use Rattle.rules.proofs.Frames.NodeFrames.{taking-out, fetching, step-1-kept, step-2-kept, step-3-kept, step-4-kept, step-6-kept, reserve-kept, release-kept, enter-kept}
+use Rattle.rules.proofs.Rules.RefusedExactly.{not-refused}
 
 -- ---- only fetch changes a claim
 module _ (t : Tables) (s a : ℕ) where
@@ -77,6 +78,17 @@ module _ (t : Tables) (e : sound t ≡ true) (s r : ℕ) (d : r ≢ s) where
 
   taken-keeps : {c : Claim} {f : Fetched} → Fetching t s c f → f .node ≢ 0 → claimOf (f .after) (own t r) ≡ claimOf t (own t r)
   taken-keeps w k = fetching w .claim-of (own t r) (not-taken w k)
+
+pub taken-not-own : (t : Tables) (s n : ℕ) (c : Claim) → reserve t s c .answer ≡ node n → (r : ℕ) → r ≢ s → own t r ≢ n
+taken-not-own t s n c q r d = go (reserving t s c) q
+  where
+    go : {x : Done Answer} → Reserving t s c x → x .answer ≡ node n → own t r ≢ n
+    go (reserve-refused k w) q = not-refused (sym q)
+    go (reserve-accepted {f = f} e h p i z w) q = unfold reserved in
+        branch (λ (x : Done Answer). x .answer ≡ node n → own t r ≢ n) (f .node is 0)
+        (λ y q. not-refused (sym q))
+        (λ y q. let m : f .node ≡ n = cc in rw m at (not-taken t e s r d w (eqb-false (f .node) 0 y)))
+        q
 
 -- ---- so every other seat keeps its claim
 module _ (t : Tables) (s r : ℕ) (d : r ≢ s) where

@@ -23,7 +23,7 @@ use Rattle.rules.proofs.Rules.RuleEffects.{reserve-stored}
 use Rattle.rules.proofs.Laws.NodesAlone.{taken-out-seats}
 use Rattle.rules.proofs.Frames.SeatFrames.{sound-room}
 use Rattle.rules.proofs.Rules.Reasons.{Unlinking, takes-out, goes-past, as-reader, as-writer, Inserting, links-in, restarts, rereads, Walking, inserts, unlinks, passes, waits, walks, Waking, wakes, stays, wakes-to-walk, wakes-to-validate, reader-holds, reader-unlinks, reader-passes, reader-waits, writer-holds, writer-unlinks, writer-passes, withdraws, Validating, validates-reader, validates-writer, validates, by-phase-1, by-phase-2, by-phase-3, by-phase-4, by-phase-5, by-phase-6, Fetching, found, found-then, none, fetching as fetching-of}
-use Rattle.rules.proofs.Rules.Accepting.{Reserving, reserve-refused, reserve-accepted, reserving, step-or-same, Releasing, release-refused, release-accepted, releasing, Entering, enter-refused, enter-accepted, enters, step-enters}
+use Rattle.rules.proofs.Rules.Accepting.{Reserving, reserve-refused, reserve-accepted, reserving, step-or-same, Releasing, release-refused, release-accepted, releasing, Entering, enter-refused, enter-accepted, enters}
 
 -- ---- keeping, in general
 pub kept-same : {L M C P : ℕ → Type 0} (t : Tables) → NodesKept L M C P t t
@@ -315,9 +315,6 @@ module _ (t : Tables) (s : ℕ) where
       entered : {d : Done Answer} → Entering t s d → NodesKept NoNode NoNode NoNode NoPlace t (d .after)
       entered (enter-refused k r) = kept-same t
       entered (enter-accepted e h p) = entering-kept
-
-  pub step-7-kept : phase t s ≡ 7 → NodesKept NoNode NoNode NoNode NoPlace t (step t s .after)
-  step-7-kept e = rw (step-enters t s e) enter-kept
 
   pub reserve-kept : (c : Claim) → FetchKept s t (reserve t s c .after)
   reserve-kept c = reserved-kept (reserving t s c)

@@ -7,7 +7,7 @@ use native.Mathlib.Omega.{arith}
 use Rattle.rules.specs.Tables.{Tables, phaseAt, kind, mark, link, phase, own, cur}
 use Rattle.rules.specs.Reached.{Reached}
 use Rattle.rules.proofs.Ground.Logic.{clash}
-use Rattle.rules.proofs.Ground.Deciding.{if-same}
+use Rattle.rules.proofs.Ground.Deciding.{if-same, beyond-3}
 use Rattle.rules.proofs.Ground.Following.{Ends}
 use Rattle.rules.proofs.Ground.Pigeonhole.{short}
 use Rattle.rules.proofs.Invariant.Known.{known-cur, known-ends, named-in}
@@ -25,9 +25,6 @@ use Rattle.rules.proofs.Waiting.WalkAlone.{WalkAt, walk-ends}
 use Rattle.rules.proofs.Waiting.LooseWalkAlone as loose
 use Rattle.rules.proofs.Waiting.LooseWalkAlone.{loose-ends}
 use Rattle.rules.proofs.Waiting.FetchAlone.{after-6, after-7}
-
-above-3 : (p : ℕ) → p ≢ 0 → p ≢ 1 → p ≢ 2 → p ≢ 3 → 4 ≤ p
-above-3 p d₀ d₁ d₂ d₃ = omega arith
 
 is-7 : (p : ℕ) → 4 ≤ p → p ≤ 7 → p ≢ 4 → p ≢ 5 → p ≢ 6 → p ≡ 7
 is-7 p h l d₄ d₅ d₆ = omega arith
@@ -119,4 +116,4 @@ module _ {N S : ℕ} (s : ℕ) (s-in : s < S) where
       if-same (phase t s) 4 (λ e. more-time {k = 3 * N + 6} (omega arith) (from-4 g e)) (λ d₄.
       if-same (phase t s) 5 (λ e. now (rests-holding e)) (λ d₅.
       if-same (phase t s) 6 (λ e. more-time {k = 2 * N + 4} (omega arith) (from-6 g e)) (λ d₆.
-      more-time {k = 2 * N + 3} (omega arith) (from-7 g (is-7 (phase t s) (above-3 (phase t s) z d₁ d₂ d₃) small d₄ d₅ d₆))))))))
+      more-time {k = 2 * N + 3} (omega arith) (from-7 g (is-7 (phase t s) (beyond-3 (phase t s) z d₁ d₂ d₃) small d₄ d₅ d₆))))))))
