@@ -199,8 +199,8 @@ module _ (n t n′ t′ : List ℕ) (s r : ℕ) (stepped : done r (tables n′ t
 
     pub step-answered : (a : Answer) → a ≡ answerOf (tables n′ (take (y - x) (drop x t′))) 0 → done a (tables n′ t′) ≡ step (tables n t) s
     step-answered a e =
-      let said : step (tables n t) s .answer ≡ answerOf (step (tables n t) s .after) s = answers-from-phase (tables n t) s (sym refusal ∙ z) in
-      rw (e ∙ own.same-answer t′ s x y starts ends (still-there z long) n′, after) (ap (λ (x : Answer). done x (step (tables n t) s .after)) (sym said))
+        let said : step (tables n t) s .answer ≡ answerOf (step (tables n t) s .after) s = answers-from-phase (tables n t) s (sym refusal ∙ z) in
+        rw (e ∙ own.same-answer t′ s x y starts ends (still-there z long) n′, after) (ap (λ (x : Answer). done x (step (tables n t) s .after)) (sym said))
 
   pub step-turned-away : r ≢ 0 → done (refused r) (tables n′ t′) ≡ step (tables n t) s
   step-turned-away d =

@@ -97,7 +97,14 @@ fn reserve_claim(
     }
 }
 
-pub fn reserve(nodes: &mut [u32], seats: &mut [u32], s: u32, start: u32, end: u32, kind: u32) -> Reply
+pub fn reserve(
+    nodes: &mut [u32],
+    seats: &mut [u32],
+    s: u32,
+    start: u32,
+    end: u32,
+    kind: u32,
+) -> Reply
     ensures { λ r. ⌜ done (means r) (tables (now (nodes .exit)) (now (seats .exit))) ≡ call.reserve (tables (now (nodes .entry)) (now (seats .entry))) s (claim start end kind) ⌝ }
 {
     if shape::is_sound(nodes, seats) {
