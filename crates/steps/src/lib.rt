@@ -332,9 +332,9 @@ pub fn leave(nodes: &mut [u32], seat: &mut [u32])
 pub fn enter(nodes: &[u32], seat: &mut [u32])
     ensures { λ r. ⌜ tables (now (nodes .entry)) (now (seat .exit)) ≡ rule.entering (tables (now (nodes .entry)) (now (seat .entry))) 0 ⌝ }
 {
-    let head = words::link(nodes, 0);
+    let first = words::link(nodes, 0);
     words::put_field(seat, words::PHASE, 1);
-    words::put_field(seat, words::CUR, head);
+    words::put_field(seat, words::CUR, first);
 }
 
 // ---- the answer from the seat's new phase
