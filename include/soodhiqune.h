@@ -16,9 +16,9 @@
  *   stack       SOODHIQUNE_STACK_BYTES, and SOODHIQUNE_SCRIPT_STACK_BYTES for read and play, whatever is lent
  * The library calls nothing but memset and memcpy.
  *
- * For tables that are mirrored on every store: a refused call, board and free count store nothing there, not even what stands there already;
- * a claim that finds no node free takes those of released and withdrawn claims off the list by storing the links that differ and no
- * others; and enter stores two words of its seat and none of a node. tests/stores watches the archive for it. */
+ * For tables that are mirrored on every store: a refused call, board and free count store nothing there, not even what stands there
+ * already; a claim that finds no node free takes those of released and withdrawn claims off the list by storing the links that differ and
+ * no others; reserve and enter store two words of their seat each, and enter none of a node. tests/stores watches the archive for it. */
 #ifndef SOODHIQUNE_H
 #define SOODHIQUNE_H
 
@@ -44,9 +44,9 @@ extern "C" {
 #define SOODHIQUNE_SCRIPT_NUMBERS SOODHIQUNE_SCRIPT_ROW(SOODHIQUNE_MOST_SCRIPT_ROWS)
 #define SOODHIQUNE_PRINTED_BYTES 49152
 
-/* Room for the deepest stack seen, arguments and return address included: reserve 432 bytes, step 512, run 544, board 1,224, every other call
- * on tables or lists fewer; read 80,704 and play 87,008. tests/stack.c paints a stack, makes the calls on it, and fails if one needs more
- * than is said here. The first use of memset or memcpy in a program may take more, while the C library finds it. */
+/* Room for the deepest stack seen, arguments and return address included: reserve 432 bytes, step 512, run 544, board 1,224, every other
+ * call on tables or lists fewer; read 80,704 and play 87,008. tests/stack.c paints a stack, makes the calls on it, and fails if one needs
+ * more than is said here. The first use of memset or memcpy in a program may take more, while the C library finds it. */
 #define SOODHIQUNE_STACK_BYTES 2048
 #define SOODHIQUNE_SCRIPT_STACK_BYTES 98304
 
@@ -232,9 +232,9 @@ uint64_t soodhiqune_reserve(uint32_t *nodes, size_t node_words, uint32_t *seats,
  * Refused: damaged, no such seat, not reserved. */
 uint64_t soodhiqune_enter(const uint32_t *nodes, size_t node_words, uint32_t *seats, size_t seat_words, uint32_t seat);
 
-/* One step of a seat; of one that has reserved a node, it enters. Answers: on, wait, held, back. Every wait, the first and each that follows, stores the frames that both claims cover
- * into the SOODHIQUNE_SHARED_WORDS words at shared; with any other answer they are as found. Refused: damaged, no such seat, seat idle, no
- * node free; they are then as found too. */
+/* One step of a seat; if it has reserved a node, it enters. Answers: on, wait, held, back. Every wait, the first and each that follows,
+ * stores the frames that both claims cover into the SOODHIQUNE_SHARED_WORDS words at shared; with any other answer they are as found.
+ * Refused: damaged, no such seat, seat idle, no node free; they are then as found too. */
 uint64_t soodhiqune_step(uint32_t *nodes, size_t node_words, uint32_t *seats, size_t seat_words, uint32_t seat, uint32_t *shared);
 
 /* Ends the claim of a seat that holds. Answers: out. Refused: damaged, no such seat, not holding. */
@@ -259,11 +259,11 @@ uint64_t soodhiqune_read(const uint8_t *script, size_t bytes, uint32_t *numbers)
 /* What the program prints for a script, into SOODHIQUNE_PRINTED_BYTES bytes; gives the number of bytes, at most 48,986. The others stay. */
 uint64_t soodhiqune_play(const uint8_t *script, size_t bytes, uint8_t *printed);
 
-/* The claims of a list of locks, for reserve on tables of this title: a positive length covers start up to but not including start + length,
- * a negative one start + length up to but not including start, and 0 start up to the title's end; sums are exact for all numbers. There are
- * lock_words / 3 locks, and a rest of one or two words is none; words of claims behind as many claims stay. Refused: empty title; then the
- * first bad lock, no run before no such type before beyond title, whether or not there is room for it; then list too short. Then nothing
- * is stored. */
+/* The claims of a list of locks, for reserve on tables of this title: a positive length covers start up to but not including start +
+ * length, a negative one start + length up to but not including start, and 0 start up to the title's end; sums are exact for all numbers.
+ * There are lock_words / 3 locks, and a rest of one or two words is none; words of claims behind as many claims stay. Refused: empty title;
+ * then the first bad lock, no run before no such type before beyond title, whether or not there is room for it; then list too short. Then
+ * nothing is stored. */
 struct soodhiqune_moved soodhiqune_import(uint32_t title, const int64_t *locks, size_t lock_words, uint32_t *claims, size_t claim_words);
 
 /* The locks of a list of claims: lengths are positive, and 0 exactly where the claim ends at the title's end. What it gives, import turns

@@ -1,5 +1,5 @@
 /* Claims as the system's own locks: real locks on a real file, taken with fcntl by another process, and told back by the kernel as struct
- * flock. What import reads, what export writes and what the tables keep apart is held to what the kernel does with the same numbers: where it
+ * flock. What import reads, what export writes and what tables keep apart is held to what the kernel does with the same numbers: where it
  * lets a lock of a positive, a negative or an open length start and end, which locks it cannot take, and which two it keeps apart. Where
  * /proc/locks shows the lock, its bytes are compared too; where not, a line 'not compared' says so. Prints what differs, and a closing line
  * 'N passed, M failed'. That the temporary folder takes no locks is a failure. */
@@ -235,7 +235,8 @@ static void check_written(uint32_t title, uint32_t start, uint32_t end, uint32_t
 static enum soodhiqune_answer stepped_on(uint32_t *nodes, uint32_t *seats, uint32_t seat, const uint32_t *claim)
 {
     uint32_t shared[SOODHIQUNE_SHARED_WORDS];
-    uint64_t given = soodhiqune_reserve(TWO, seat, claim[SOODHIQUNE_CLAIM_START], claim[SOODHIQUNE_CLAIM_END], claim[SOODHIQUNE_CLAIM_KIND]);
+    uint64_t given = soodhiqune_reserve(TWO, seat, claim[SOODHIQUNE_CLAIM_START], claim[SOODHIQUNE_CLAIM_END],
+                                        claim[SOODHIQUNE_CLAIM_KIND]);
     if (soodhiqune_answer_of(given) == SOODHIQUNE_NODE) {
         given = soodhiqune_enter(TWO, seat);
     }

@@ -1,6 +1,7 @@
 /* H1 of document 01, every refusal, how many hold, where the title ends, which frames clash, locks read and written, nodes reserved before
- * a seat enters, and the edges of what may be lent, through include/soodhiqune.h and the archive: that the header says how each call is made, and that its names and sizes are
- * those of the library. It is C99 and C++. Prints what differs, and a closing line 'N passed, M failed'. */
+ * a seat enters, and the edges of what may be lent, through include/soodhiqune.h and the archive: that the header says how each call is
+ * made, and that its names and sizes are those of the library. It is C99 and C++. Prints what differs, and a closing line 'N passed, M
+ * failed'. */
 #include "../include/soodhiqune.h"
 
 #include <stdio.h>

@@ -165,8 +165,8 @@ fn nonsense_row(random: &mut Random, mix: &Mix) -> [u32; 5] {
     }
 }
 
-/// What the seat can do next: reserve if it is idle, enter if it has reserved, now and then release if it holds, else a step. In
-/// the phases that are rarest it now and then enters too, which is refused.
+/// What the seat can do next: reserve if it is idle, enter if it has reserved, now and then release if it holds, else a step.
+/// In the phases that are rarest it now and then enters too, which is refused.
 fn sensible_row(random: &mut Random, mix: &Mix, seats: &[u32], seat: u32, row_number: u32) -> [u32; 5] {
     match seats[machine::SEAT_WORDS * seat as usize + machine::PHASE] {
         machine::IDLE => reserve_row(random, mix, seat, row_number),
@@ -410,7 +410,8 @@ pub fn put_change(random: &mut Random, script: &mut Vec<u8>) {
 
 /// Lines and parts of lines, good ones and others.
 const PIECES: &str =
-    "s 0\n|r 1\n|e 0\n|v 0 1 2 2\n|v 0 4294967295 0 9\n|v |s |e |b | |\n|\r\n|\t|0|1|01|64|65|256|257|1001|4294967295|4294967296";
+    "s 0\n|r 1\n|e 0\n|v 0 1 2 2\n|v 0 4294967295 0 9\n|v |s |e |b | |\n|\r\n|\t|0|1|01|64|65|256|257|1001|4294967295|\
+     4294967296";
 
 /// Any bytes, or pieces of scripts in any order; half of them behind a first line for as many. Some are good.
 pub fn any_text(random: &mut Random) -> Vec<u8> {

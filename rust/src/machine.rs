@@ -303,8 +303,8 @@ fn take_free_node(nodes: &mut [u32], seats: &[u32], asking: u32) -> Result<u32, 
     Ok(node)
 }
 
-/// "The node gets the claim, next 0, mark 0." 02: "Reserve takes a node for a range and kind and puts the seat in a new phase 7,
-/// prev and cur 0"; "phase 6 fetches, goes to 7".
+/// "The node gets the claim, next 0, mark 0." 02: "Reserve takes a node for a range and kind and puts the seat in a new phase
+/// 7, prev and cur 0"; "phase 6 fetches, goes to 7".
 fn fetch(nodes: &mut [u32], seats: &[u32], asking: u32, seat: &mut Seat, claim: Claim) -> Result<(), u32> {
     let node = take_free_node(nodes, seats, asking)?;
     nodes[place(node, START)] = claim.start;
@@ -486,8 +486,8 @@ pub fn clear(nodes: &mut [u32], seats: &mut [u32], title: u32) -> Result<(), u32
     Ok(())
 }
 
-/// 02: "Reserve answers `node n`." Its refusals are those of 01's table, and 11, "after 3 and before 4": "a claim may end at [the
-/// title's frame count] and not beyond"; a claim fetched again was reserved so.
+/// 02: "Reserve answers `node n`." Its refusals are those of 01's table, and 11, "after 3 and before 4": "a claim may end at
+/// [the title's frame count] and not beyond"; a claim fetched again was reserved so.
 pub fn reserve(
     nodes: &mut [u32],
     seats: &mut [u32],
@@ -510,15 +510,16 @@ pub fn reserve(
 /// 02: "Enter `on`"; "enter in any phase but 7 is 14", in that of an idle seat too.
 pub fn enter(nodes: &[u32], seats: &mut [u32], seat: u32) -> Result<Answer, u32> {
     refuse(1, !sound(nodes, seats))?;
-    let mut words = load_seat(seats, seat)?;
-    refuse(14, words[PHASE] != RESERVED)?;
-    walk_from_head(nodes, &mut words);
-    store_seat(seats, seat, words);
+    let mut walker = load_seat(seats, seat)?;
+    refuse(14, walker[PHASE] != RESERVED)?;
+    walk_from_head(nodes, &mut walker);
+    store_seat(seats, seat, walker);
     Ok(Answer::On)
 }
 
-/// "Step, from the seat's new phase: 2 or 4 `wait n` with n = cur; 5 `held`; 6 `back`; else `on`." 02: "phase 6 fetches,
-/// goes to 7 and answers `on`". A worker told `wait` "wants to know what it is waiting for", so each `wait` carries the run, whether it begins to wait or waits on.
+/// "Step, from the seat's new phase: 2 or 4 `wait n` with n = cur; 5 `held`; 6 `back`; else `on`." 02: "phase 6 fetches, goes to
+/// 7 and answers `on`"; a worker told `wait` "wants to know what it is waiting for", so each `wait` carries the run, whether it
+/// begins to wait or waits on.
 pub fn step(nodes: &mut [u32], seats: &mut [u32], seat: u32) -> Result<Answer, u32> {
     refuse(1, !sound(nodes, seats))?;
     let (_, after) = step_sound(nodes, seats, seat)?;

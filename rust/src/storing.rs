@@ -79,8 +79,8 @@ fn links_that_differ(nodes: &[u32]) -> Vec<Link> {
     links.zip(then).filter(|&(link, then)| nodes[link] != then).collect()
 }
 
-/// "The node gets the claim, next 0, mark 0." If none was free, "the marked nodes on the list are first taken out". 02: the seat
-/// gets phase 7 and own; prev and cur, which are to be 0, are 0 already.
+/// "The node gets the claim, next 0, mark 0." If none was free, "the marked nodes on the list are first taken out". 02: the
+/// seat gets phase 7 and own; prev and cur, which are to be 0, are 0 already.
 fn fetch(case: &Case, seat: u32, node: u32) -> Allowed {
     let links = if some_node_is_free(case, seat) { vec![] } else { links_that_differ(&case.nodes) };
     let phase_and_own = words(words_of_seat(seat).start + PHASE, 2);

@@ -228,9 +228,9 @@ pub fn many_waiters(random: &mut Random) -> Tables {
     sound_with(random, frames, node_count, &named, list_length, &phases)
 }
 
-/// Sound words at random in which most seats have reserved a node: off the list as it should be, or listed, marked, or the node of
-/// another seat too. Beside them are seats in any phase, and so few nodes that fetch, which must leave reserved ones alone, often
-/// finds none.
+/// Sound words at random in which most seats have reserved a node: off the list as it should be, or listed, marked, or the node
+/// of another seat too. Beside them are seats in any phase, and so few nodes that fetch, which must leave reserved ones alone,
+/// often finds none.
 pub fn many_reserved(random: &mut Random) -> Tables {
     let (node_count, seat_count) = (random.between(1, 8), random.between(1, 6));
     let zeros = random.pick(&[0, 30]);

@@ -1,5 +1,5 @@
-//! The histories H1 to H11 of document 01, with covered frames, the title and "`v` and `e` for `b`" as 02 has them, and one more.
-//! Behind a `v` that is refused no `e` follows.
+//! The histories H1 to H11 of document 01, with covered frames, the title and "`v` and `e` for `b`" as 02 has them, and one
+//! more. Behind a `v` that is refused no `e` follows.
 
 use crate::script::play;
 use crate::tests::counts::counts_after_each_call;

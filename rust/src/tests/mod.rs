@@ -67,8 +67,8 @@ const RESERVES: [&str; 8] = [
     "reserve: up to the title",
 ];
 
-/// What must be met of reserved seats, in the generated scripts and on the tables of a seed: each phase in which enter is refused,
-/// what the head is where it is not, and that no fetch takes their nodes.
+/// What must be met of reserved seats, in the generated scripts and on the tables of a seed: each phase in which enter is
+/// refused, what the head is where it is not, and that no fetch takes their nodes.
 const ENTRIES: [&str; 12] = [
     "enter: refused in phase 0",
     "enter: refused in phase 1",

@@ -212,8 +212,8 @@ fn workers_that_reserve_first_enter_in_any_order() {
     assert!(printed.starts_with("1 node 1\n2 node 2\n3 node 3\n4 on\n5 on\n6 held\n7 on\n"));
 }
 
-/// 02: "Demand 3's number becomes 6·N + 10". In tables reached from fresh ones, a seat that steps by itself that often holds, waits
-/// for an unmarked claim, or is refused 8, and its next step changes nothing.
+/// 02: "Demand 3's number becomes 6·N + 10". In tables reached from fresh ones, a seat that steps by itself that often holds,
+/// waits for an unmarked claim, or is refused 8, and its next step changes nothing.
 #[test]
 fn so_many_steps_of_one_seat_settle_it() {
     let mut random = Random::new(32);
