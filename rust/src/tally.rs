@@ -224,6 +224,17 @@ const WAITS: [Waiting; 23] = [
     ("wait: at its own node, in phase 4", |wait| wait.at_own && wait.phase == READER_WAITING),
 ];
 
+type Family = (&'static str, fn(&mut Random) -> Tables);
+
+/// The tables of a round that are not made to be damaged.
+const FAMILIES: [Family; 5] = [
+    ("any words", any_words),
+    ("sound words", sound_words),
+    ("many holders", many_holders),
+    ("many waiters", many_waiters),
+    ("many reserved", many_reserved),
+];
+
 impl Tally {
     fn count(&mut self, name: impl Into<String>) {
         *self.counts.entry(name.into()).or_insert(0) += 1;
@@ -456,14 +467,7 @@ impl Tally {
             self.count_calls(random, &tables);
         };
         for _ in 0..10 {
-            let families: [(&str, fn(&mut Random) -> Tables); 5] = [
-                ("any words", any_words),
-                ("sound words", sound_words),
-                ("many holders", many_holders),
-                ("many waiters", many_waiters),
-                ("many reserved", many_reserved),
-            ];
-            for (name, family) in families {
+            for (name, family) in FAMILIES {
                 let tables = family(random);
                 count(random, name, tables);
             }

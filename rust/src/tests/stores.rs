@@ -190,8 +190,10 @@ fn taking_out_stores_the_links_that_differ_and_no_other() {
     }
 }
 
+type OnTables = fn(&mut [u32], &mut [u32]);
+
 /// What the second machine stores of the seats, and how many words of the nodes: seat 1 with these words is entered or stepped.
-fn stored_of_seats(words: [u32; 4], call: fn(&mut [u32], &mut [u32])) -> Option<(Vec<Store>, usize)> {
+fn stored_of_seats(words: [u32; 4], call: OnTables) -> Option<(Vec<Store>, usize)> {
     let (mut nodes, mut seats) = listed_and_marked([0; 6]);
     nodes[link_of(2)] = 0;
     seats[SEAT_WORDS..].copy_from_slice(&words);
@@ -209,7 +211,7 @@ fn enter_and_a_step_in_phase_7_store_phase_and_cur() {
         value,
         changed_to: SEAT_WORDS + field + 1,
     };
-    let enters: [fn(&mut [u32], &mut [u32]); 2] = [
+    let enters: [OnTables; 2] = [
         |nodes, seats| assert_eq!(enter(nodes, seats, 1), Ok(Answer::On)),
         |nodes, seats| assert_eq!(step(nodes, seats, 1), Ok(Answer::On)),
     ];
@@ -228,7 +230,7 @@ fn enter_and_a_step_in_phase_7_store_phase_and_cur() {
 
 #[test]
 fn a_fetch_stores_phase_and_own_of_its_seat() {
-    let fetches: [([u32; 4], fn(&mut [u32], &mut [u32])); 2] = [
+    let fetches: [([u32; 4], OnTables); 2] = [
         ([0; 4], |nodes, seats| assert_eq!(reserve(nodes, seats, 1, 7, 8, 1), Ok(Answer::Node(4)))),
         ([6, 5, 0, 0], |nodes, seats| assert_eq!(step(nodes, seats, 1), Ok(Answer::On))),
     ];
