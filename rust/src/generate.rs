@@ -410,8 +410,8 @@ pub fn put_change(random: &mut Random, script: &mut Vec<u8>) {
 
 /// Lines and parts of lines, good ones and others.
 const PIECES: &str =
-    "s 0\n|r 1\n|e 0\n|v 0 1 2 2\n|v 0 4294967295 0 9\n|v |s |e |b | |\n|\r\n|\t|0|1|01|64|65|256|257|1001|4294967295|\
-     4294967296";
+    "s 0\n|r 1\n|e 0\n|v 0 1 2 2\n|v 0 4294967295 0 9\n|V 0 1 2 2\n|E 0\n|v |s |e |b | |\n|\r\n|\t|\
+     0|1|01|64|65|256|257|1001|4294967295|4294967296";
 
 /// Any bytes, or pieces of scripts in any order; half of them behind a first line for as many. Some are good.
 pub fn any_text(random: &mut Random) -> Vec<u8> {
