@@ -16,9 +16,9 @@
  *   stack       SOODHIQUNE_STACK_BYTES, and SOODHIQUNE_SCRIPT_STACK_BYTES for read and play, whatever is lent
  * The library calls nothing but memset and memcpy.
  *
- * For tables that are mirrored on every store: a refused call, board and free count store nothing there, not even what stands there already,
- * and a claim that finds no node free takes those of released and withdrawn claims off the list by storing the links that differ and no
- * others. tests/stores watches the archive for it. */
+ * For tables that are mirrored on every store: a refused call, board and free count store nothing there, not even what stands there
+ * already; a claim that finds no node free takes those of released and withdrawn claims off the list by storing the links that differ and
+ * no others; reserve and enter store two words of their seat each, and enter none of a node. tests/stores watches the archive for it. */
 #ifndef SOODHIQUNE_H
 #define SOODHIQUNE_H
 
@@ -44,9 +44,9 @@ extern "C" {
 #define SOODHIQUNE_SCRIPT_NUMBERS SOODHIQUNE_SCRIPT_ROW(SOODHIQUNE_MOST_SCRIPT_ROWS)
 #define SOODHIQUNE_PRINTED_BYTES 49152
 
-/* Room for the deepest stack seen, arguments and return address included: begin 432 bytes, step 512, run 544, board 1,224, every other call
- * on tables or lists fewer; read 80,704 and play 87,008. tests/stack.c paints a stack, makes the calls on it, and fails if one needs more
- * than is said here. The first use of memset or memcpy in a program may take more, while the C library finds it. */
+/* Room for the deepest stack seen, arguments and return address included: reserve 432 bytes, step 512, run 544, board 1,224, every other
+ * call on tables or lists fewer; read 80,704 and play 87,008. tests/stack.c paints a stack, makes the calls on it, and fails if one needs
+ * more than is said here. The first use of memset or memcpy in a program may take more, while the C library finds it. */
 #define SOODHIQUNE_STACK_BYTES 2048
 #define SOODHIQUNE_SCRIPT_STACK_BYTES 98304
 
@@ -111,7 +111,7 @@ enum soodhiqune_line {
     SOODHIQUNE_LINE_KIND,
     SOODHIQUNE_LINE_NUMBERS
 };
-enum soodhiqune_code { SOODHIQUNE_NO_LINE, SOODHIQUNE_BEGIN, SOODHIQUNE_STEP, SOODHIQUNE_RELEASE };
+enum soodhiqune_code { SOODHIQUNE_NO_LINE, SOODHIQUNE_RESERVE, SOODHIQUNE_STEP, SOODHIQUNE_RELEASE, SOODHIQUNE_ENTER };
 #define SOODHIQUNE_SCRIPT_ROW(row) (SOODHIQUNE_SCRIPT_ROWS + SOODHIQUNE_LINE_NUMBERS * (size_t)(row))
 
 /* ---- a claim reads its frames, and may share them with others that read, or writes them, and shares none */
@@ -132,12 +132,12 @@ static inline uint32_t soodhiqune_lower(uint64_t given)
 
 enum soodhiqune_answer {
     SOODHIQUNE_REFUSED, /* nothing changed; the number is that of the refusal */
-    SOODHIQUNE_NODE,    /* the claim has this node; step it */
+    SOODHIQUNE_NODE,    /* the claim has this node; enter it, or step it */
     SOODHIQUNE_OUT,     /* it is released */
     SOODHIQUNE_ON,      /* it moved on; step it again */
     SOODHIQUNE_WAIT,    /* it waits at this node, whose claim shares the frames told; step it again once that is released or withdrawn */
     SOODHIQUNE_HELD,    /* it holds; the worker may write */
-    SOODHIQUNE_BACK     /* it was withdrawn, since a reader was there first; step it again, and it takes a node anew */
+    SOODHIQUNE_BACK     /* it was withdrawn, since a reader was there first; step it again, and it takes a node anew, to enter with */
 };
 
 /* the numbers are not the order in which a call looks for them: beyond title is looked for between empty claim and no such kind, and by
@@ -146,22 +146,23 @@ enum soodhiqune_refusal {
     SOODHIQUNE_ACCEPTED,
     SOODHIQUNE_DAMAGED,         /* tables damaged (for clear: only lengths wrong) */
     SOODHIQUNE_NO_SUCH_SEAT,    /* seat number not below S */
-    SOODHIQUNE_EMPTY_CLAIM,     /* begin, export: start not below end */
+    SOODHIQUNE_EMPTY_CLAIM,     /* reserve, export: start not below end */
     SOODHIQUNE_EMPTY_TITLE = SOODHIQUNE_EMPTY_CLAIM, /* clear, import, export: a title of no frames. 3 too, under the name that fits */
     SOODHIQUNE_NO_SUCH_KIND,    /* kind not 1 or 2 */
-    SOODHIQUNE_SEAT_HAS_CLAIM,  /* begin wants an idle seat */
+    SOODHIQUNE_SEAT_HAS_CLAIM,  /* reserve wants an idle seat */
     SOODHIQUNE_SEAT_IDLE,       /* step wants a seat with a claim */
     SOODHIQUNE_NOT_HOLDING,     /* release wants a seat that holds */
-    SOODHIQUNE_NO_NODE_FREE,    /* begin, or a step that takes a node anew */
+    SOODHIQUNE_NO_NODE_FREE,    /* reserve, or a step that takes a node anew */
     SOODHIQUNE_BOARD_TOO_SHORT, /* fewer rows than holders */
     SOODHIQUNE_LIST_TOO_SHORT = SOODHIQUNE_BOARD_TOO_SHORT, /* import, export: room for fewer records than there are. 9 too */
     SOODHIQUNE_BAD_SCRIPT,      /* script not well formed */
-    SOODHIQUNE_BEYOND_TITLE,    /* begin, import, export: end beyond the title */
+    SOODHIQUNE_BEYOND_TITLE,    /* reserve, import, export: end beyond the title */
     SOODHIQUNE_NO_RUN,          /* import: the run starts below 0, is empty, or its end is past 4,294,967,295 */
-    SOODHIQUNE_NO_SUCH_TYPE     /* import: type not 1 or 2 */
+    SOODHIQUNE_NO_SUCH_TYPE,    /* import: type not 1 or 2 */
+    SOODHIQUNE_NOT_RESERVED     /* enter wants a seat that has reserved a node and not entered */
 };
 
-/* of begin, step and release: which answer, and its node, if it has one */
+/* of reserve, enter, step and release: which answer, and its node, if it has one */
 static inline enum soodhiqune_answer soodhiqune_answer_of(uint64_t given)
 {
     return (enum soodhiqune_answer)soodhiqune_upper(given);
@@ -221,15 +222,19 @@ struct soodhiqune_moved {
  * title, which is 3, if title is 0. */
 uint64_t soodhiqune_clear(uint32_t *nodes, size_t node_words, uint32_t *seats, size_t seat_words, uint32_t title);
 
-/* Takes a node for a claim of the frames from start up to but not including end. Answers: node. Refused: damaged, no such seat, empty
- * claim, beyond title, no such kind, seat has claim, no node free; the first that holds, in this order, which is not that of the
- * numbers. */
-uint64_t soodhiqune_begin(uint32_t *nodes, size_t node_words, uint32_t *seats, size_t seat_words,
-                          uint32_t seat, uint32_t start, uint32_t end, uint32_t kind);
+/* Takes a node for a claim of the frames from start up to but not including end: a worker that connects has its node from then on, though
+ * it comes in later. Answers: node. Refused: damaged, no such seat, empty claim, beyond title, no such kind, seat has claim, no node free;
+ * the first that holds, in this order, which is not that of the numbers. */
+uint64_t soodhiqune_reserve(uint32_t *nodes, size_t node_words, uint32_t *seats, size_t seat_words,
+                            uint32_t seat, uint32_t start, uint32_t end, uint32_t kind);
 
-/* One step of a seat. Answers: on, wait, held, back. Every wait, the first and each that follows, stores the frames that both claims cover
- * into the SOODHIQUNE_SHARED_WORDS words at shared; with any other answer they are as found. Refused: damaged, no such seat, seat idle, no
- * node free; they are then as found too. */
+/* Lets a seat that has reserved a node come in, before the first claim on the list as it is now. Answers: on. The nodes are only read.
+ * Refused: damaged, no such seat, not reserved. */
+uint64_t soodhiqune_enter(const uint32_t *nodes, size_t node_words, uint32_t *seats, size_t seat_words, uint32_t seat);
+
+/* One step of a seat; if it has reserved a node, it enters. Answers: on, wait, held, back. Every wait, the first and each that follows,
+ * stores the frames that both claims cover into the SOODHIQUNE_SHARED_WORDS words at shared; with any other answer they are as found.
+ * Refused: damaged, no such seat, seat idle, no node free; they are then as found too. */
 uint64_t soodhiqune_step(uint32_t *nodes, size_t node_words, uint32_t *seats, size_t seat_words, uint32_t seat, uint32_t *shared);
 
 /* Ends the claim of a seat that holds. Answers: out. Refused: damaged, no such seat, not holding. */
@@ -254,11 +259,11 @@ uint64_t soodhiqune_read(const uint8_t *script, size_t bytes, uint32_t *numbers)
 /* What the program prints for a script, into SOODHIQUNE_PRINTED_BYTES bytes; gives the number of bytes, at most 48,986. The others stay. */
 uint64_t soodhiqune_play(const uint8_t *script, size_t bytes, uint8_t *printed);
 
-/* The claims of a list of locks, for begin on tables of this title: a positive length covers start up to but not including start + length,
- * a negative one start + length up to but not including start, and 0 start up to the title's end; sums are exact for all numbers. There are
- * lock_words / 3 locks, and a rest of one or two words is none; words of claims behind as many claims stay. Refused: empty title; then the
- * first bad lock, no run before no such type before beyond title, whether or not there is room for it; then list too short. Then nothing
- * is stored. */
+/* The claims of a list of locks, for reserve on tables of this title: a positive length covers start up to but not including start +
+ * length, a negative one start + length up to but not including start, and 0 start up to the title's end; sums are exact for all numbers.
+ * There are lock_words / 3 locks, and a rest of one or two words is none; words of claims behind as many claims stay. Refused: empty title;
+ * then the first bad lock, no run before no such type before beyond title, whether or not there is room for it; then list too short. Then
+ * nothing is stored. */
 struct soodhiqune_moved soodhiqune_import(uint32_t title, const int64_t *locks, size_t lock_words, uint32_t *claims, size_t claim_words);
 
 /* The locks of a list of claims: lengths are positive, and 0 exactly where the claim ends at the title's end. What it gives, import turns

@@ -1,5 +1,5 @@
 /* Claims as the system's own locks: real locks on a real file, taken with fcntl by another process, and told back by the kernel as struct
- * flock. What import reads, what export writes and what begin keeps apart is held to what the kernel does with the same numbers: where it
+ * flock. What import reads, what export writes and what tables keep apart is held to what the kernel does with the same numbers: where it
  * lets a lock of a positive, a negative or an open length start and end, which locks it cannot take, and which two it keeps apart. Where
  * /proc/locks shows the lock, its bytes are compared too; where not, a line 'not compared' says so. Prints what differs, and a closing line
  * 'N passed, M failed'. That the temporary folder takes no locks is a failure. */
@@ -229,14 +229,19 @@ static void check_written(uint32_t title, uint32_t start, uint32_t end, uint32_t
 
 /* ---- which locks are kept apart */
 
+#define TWO nodes, SOODHIQUNE_NODE_WORDS(2), seats, SOODHIQUNE_SEAT_WORDS(2)
+
 /* a claim that comes to hold, or to wait */
 static enum soodhiqune_answer stepped_on(uint32_t *nodes, uint32_t *seats, uint32_t seat, const uint32_t *claim)
 {
     uint32_t shared[SOODHIQUNE_SHARED_WORDS];
-    uint64_t given = soodhiqune_begin(nodes, SOODHIQUNE_NODE_WORDS(2), seats, SOODHIQUNE_SEAT_WORDS(2), seat, claim[SOODHIQUNE_CLAIM_START],
-                                      claim[SOODHIQUNE_CLAIM_END], claim[SOODHIQUNE_CLAIM_KIND]);
-    while (soodhiqune_answer_of(given) == SOODHIQUNE_NODE || soodhiqune_answer_of(given) == SOODHIQUNE_ON) {
-        given = soodhiqune_step(nodes, SOODHIQUNE_NODE_WORDS(2), seats, SOODHIQUNE_SEAT_WORDS(2), seat, shared);
+    uint64_t given = soodhiqune_reserve(TWO, seat, claim[SOODHIQUNE_CLAIM_START], claim[SOODHIQUNE_CLAIM_END],
+                                        claim[SOODHIQUNE_CLAIM_KIND]);
+    if (soodhiqune_answer_of(given) == SOODHIQUNE_NODE) {
+        given = soodhiqune_enter(TWO, seat);
+    }
+    while (soodhiqune_answer_of(given) == SOODHIQUNE_ON) {
+        given = soodhiqune_step(TWO, seat, shared);
     }
     return soodhiqune_answer_of(given);
 }
@@ -245,7 +250,7 @@ static enum soodhiqune_answer stepped_on(uint32_t *nodes, uint32_t *seats, uint3
 static int waits(const uint32_t *first, const uint32_t *second)
 {
     uint32_t nodes[SOODHIQUNE_NODE_WORDS(2)], seats[SOODHIQUNE_SEAT_WORDS(2)];
-    soodhiqune_clear(nodes, SOODHIQUNE_NODE_WORDS(2), seats, SOODHIQUNE_SEAT_WORDS(2), TITLE);
+    soodhiqune_clear(TWO, TITLE);
     return stepped_on(nodes, seats, 0, first) == SOODHIQUNE_HELD && stepped_on(nodes, seats, 1, second) == SOODHIQUNE_WAIT;
 }
 

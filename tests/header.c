@@ -1,6 +1,7 @@
-/* H1 of document 01, every refusal, how many hold, where the title ends, which frames clash, locks read and written, and the edges of what
- * may be lent, through include/soodhiqune.h and the archive: that the header says how each call is made, and that its names and sizes are
- * those of the library. It is C99 and C++. Prints what differs, and a closing line 'N passed, M failed'. */
+/* H1 of document 01, every refusal, how many hold, where the title ends, which frames clash, locks read and written, nodes reserved before
+ * a seat enters, and the edges of what may be lent, through include/soodhiqune.h and the archive: that the header says how each call is
+ * made, and that its names and sizes are those of the library. It is C99 and C++. Prints what differs, and a closing line 'N passed, M
+ * failed'. */
 #include "../include/soodhiqune.h"
 
 #include <stdio.h>
@@ -78,6 +79,15 @@ static int waits(uint64_t given, uint32_t node, uint32_t first, uint32_t end)
     return answers(given, SOODHIQUNE_WAIT, node) && tells(first, end);
 }
 
+/* a seat reserves and enters */
+static void enters(uint32_t *table, size_t node_words, uint32_t *seat_table, size_t seat_words, uint32_t seat, uint32_t start, uint32_t end,
+                   uint32_t kind)
+{
+    const uint64_t given = soodhiqune_reserve(table, node_words, seat_table, seat_words, seat, start, end, kind);
+    check("reserved", soodhiqune_answer_of(given) == SOODHIQUNE_NODE);
+    check("entered", answers(soodhiqune_enter(table, node_words, seat_table, seat_words, seat), SOODHIQUNE_ON, 0));
+}
+
 static int accepts_lengths(size_t node_words, size_t seat_words)
 {
     return soodhiqune_clear(nodes, node_words, seats, seat_words, 1) == SOODHIQUNE_ACCEPTED;
@@ -90,7 +100,9 @@ static void check_lengths(void)
           SOODHIQUNE_ROW_WORDS(2) == 8 && SOODHIQUNE_SHARED_WORDS == 2 && SOODHIQUNE_SCRIPT_NUMBERS == 5004 &&
           SOODHIQUNE_EMPTY_CLAIM == 3 && SOODHIQUNE_EMPTY_TITLE == 3 && SOODHIQUNE_NO_SUCH_KIND == 4 && SOODHIQUNE_BAD_SCRIPT == 10 &&
           SOODHIQUNE_BEYOND_TITLE == 11 && SOODHIQUNE_BOARD_TOO_SHORT == 9 && SOODHIQUNE_LIST_TOO_SHORT == 9 && SOODHIQUNE_NO_RUN == 12 &&
-          SOODHIQUNE_NO_SUCH_TYPE == 13 && SOODHIQUNE_LOCK_WORDS(2) == 6 && SOODHIQUNE_CLAIM_WORDS(2) == 6);
+          SOODHIQUNE_NO_SUCH_TYPE == 13 && SOODHIQUNE_NOT_RESERVED == 14 && SOODHIQUNE_LOCK_WORDS(2) == 6 &&
+          SOODHIQUNE_CLAIM_WORDS(2) == 6 && SOODHIQUNE_RESERVE == 1 && SOODHIQUNE_STEP == 2 && SOODHIQUNE_RELEASE == 3 &&
+          SOODHIQUNE_ENTER == 4);
     check("the fewest", accepts_lengths(node_words, seat_words));
     check("the most", accepts_lengths(SOODHIQUNE_NODE_WORDS(SOODHIQUNE_MOST_NODES), SOODHIQUNE_SEAT_WORDS(SOODHIQUNE_MOST_SEATS)));
     check("a node too many", !accepts_lengths(SOODHIQUNE_NODE_WORDS(SOODHIQUNE_MOST_NODES + 1), seat_words));
@@ -111,10 +123,12 @@ static void check_claims(void)
     memset(seats, 7, sizeof seats);
     check("a table of sevens is damaged", refuses(stepped(TABLES, 0), SOODHIQUNE_DAMAGED));
     check("clear", soodhiqune_clear(TABLES, FRAMES) == SOODHIQUNE_ACCEPTED);
-    check("seat 0 begins", answers(soodhiqune_begin(TABLES, 0, 10, 20, SOODHIQUNE_WRITES), SOODHIQUNE_NODE, 1));
-    check("seat 0 enters", answers(stepped(TABLES, 0), SOODHIQUNE_ON, 0));
+    check("seat 0 reserves", answers(soodhiqune_reserve(TABLES, 0, 10, 20, SOODHIQUNE_WRITES), SOODHIQUNE_NODE, 1));
+    check("seat 0 enters", answers(soodhiqune_enter(TABLES, 0), SOODHIQUNE_ON, 0));
+    check("seat 0 is listed", answers(stepped(TABLES, 0), SOODHIQUNE_ON, 0));
     check("seat 0 holds", answers(stepped(TABLES, 0), SOODHIQUNE_HELD, 0));
-    check("seat 1 begins", answers(soodhiqune_begin(TABLES, 1, 15, 25, SOODHIQUNE_WRITES), SOODHIQUNE_NODE, 2));
+    check("seat 1 reserves", answers(soodhiqune_reserve(TABLES, 1, 15, 25, SOODHIQUNE_WRITES), SOODHIQUNE_NODE, 2));
+    check("seat 1 enters", answers(soodhiqune_enter(TABLES, 1), SOODHIQUNE_ON, 0));
     check("seat 1 waits at node 1, which shares frames 15 up to 20", waits(stepped(TABLES, 1), 1, 15, 20));
     check("seat 1 waits on, and is told so again", waits(stepped(TABLES, 1), 1, 15, 20));
     check("nodes 3 and 4 are free", counts(soodhiqune_free_count(TABLES), 2));
@@ -127,12 +141,15 @@ static void check_claims(void)
 
 static void check_refusals(void)
 {
-    check("no such seat", refuses(soodhiqune_begin(TABLES, SEATS, 26, 26, 9), SOODHIQUNE_NO_SUCH_SEAT));
-    check("an empty claim", refuses(soodhiqune_begin(TABLES, 1, 26, 26, 9), SOODHIQUNE_EMPTY_CLAIM));
-    check("beyond the title", refuses(soodhiqune_begin(TABLES, 1, 7, 26, 9), SOODHIQUNE_BEYOND_TITLE));
-    check("no such kind", refuses(soodhiqune_begin(TABLES, 1, 7, 25, 9), SOODHIQUNE_NO_SUCH_KIND));
-    check("the seat has a claim", refuses(soodhiqune_begin(TABLES, 1, 7, 25, SOODHIQUNE_READS), SOODHIQUNE_SEAT_HAS_CLAIM));
+    check("no such seat", refuses(soodhiqune_reserve(TABLES, SEATS, 26, 26, 9), SOODHIQUNE_NO_SUCH_SEAT));
+    check("an empty claim", refuses(soodhiqune_reserve(TABLES, 1, 26, 26, 9), SOODHIQUNE_EMPTY_CLAIM));
+    check("beyond the title", refuses(soodhiqune_reserve(TABLES, 1, 7, 26, 9), SOODHIQUNE_BEYOND_TITLE));
+    check("no such kind", refuses(soodhiqune_reserve(TABLES, 1, 7, 25, 9), SOODHIQUNE_NO_SUCH_KIND));
+    check("the seat has a claim", refuses(soodhiqune_reserve(TABLES, 1, 7, 25, SOODHIQUNE_READS), SOODHIQUNE_SEAT_HAS_CLAIM));
     check("the seat is idle", refuses(stepped(TABLES, 0), SOODHIQUNE_SEAT_IDLE));
+    check("no such seat to enter", refuses(soodhiqune_enter(TABLES, SEATS), SOODHIQUNE_NO_SUCH_SEAT));
+    check("an idle seat has not reserved", refuses(soodhiqune_enter(TABLES, 0), SOODHIQUNE_NOT_RESERVED));
+    check("nor has one that holds", refuses(soodhiqune_enter(TABLES, 1), SOODHIQUNE_NOT_RESERVED));
 }
 
 /* H7 */
@@ -141,32 +158,34 @@ static void check_no_node(void)
     uint32_t node[SOODHIQUNE_NODE_WORDS(1)], both[SOODHIQUNE_SEAT_WORDS(2)];
     const size_t node_words = SOODHIQUNE_NODE_WORDS(1), both_words = SOODHIQUNE_SEAT_WORDS(2);
     soodhiqune_clear(node, node_words, both, both_words, 10);
-    soodhiqune_begin(node, node_words, both, both_words, 0, 0, 10, SOODHIQUNE_WRITES);
+    soodhiqune_reserve(node, node_words, both, both_words, 0, 0, 10, SOODHIQUNE_WRITES);
     check("no node is free",
-          refuses(soodhiqune_begin(node, node_words, both, both_words, 1, 0, 10, SOODHIQUNE_WRITES), SOODHIQUNE_NO_NODE_FREE));
+          refuses(soodhiqune_reserve(node, node_words, both, both_words, 1, 0, 10, SOODHIQUNE_WRITES), SOODHIQUNE_NO_NODE_FREE));
     check("beyond the title, and no node is free",
-          refuses(soodhiqune_begin(node, node_words, both, both_words, 1, 0, 11, SOODHIQUNE_WRITES), SOODHIQUNE_BEYOND_TITLE));
+          refuses(soodhiqune_reserve(node, node_words, both, both_words, 1, 0, 11, SOODHIQUNE_WRITES), SOODHIQUNE_BEYOND_TITLE));
 }
 
-/* a writer that meets a reader goes back, and begins anew though its claim ends with the title: document 01's H9 and H10 */
+/* a writer that meets a reader goes back, and takes a node anew though its claim ends with the title: document 01's H9 and H10 */
 static void check_back(void)
 {
     const uint32_t first[] = {0, 0}, second[] = {1, 1, 1}, others[] = {3, 3, 2, 2, 3, 2};
     uint32_t table[SOODHIQUNE_NODE_WORDS(8)], four[SOODHIQUNE_SEAT_WORDS(4)];
 #define H9 table, SOODHIQUNE_NODE_WORDS(8), four, SOODHIQUNE_SEAT_WORDS(4)
     soodhiqune_clear(H9, 20);
-    soodhiqune_begin(H9, 0, 1, 10, SOODHIQUNE_READS);
+    enters(H9, 0, 1, 10, SOODHIQUNE_READS);
     soodhiqune_run(H9, ENTRIES(first), 9);
-    soodhiqune_begin(H9, 1, 12, 14, SOODHIQUNE_READS);
+    enters(H9, 1, 12, 14, SOODHIQUNE_READS);
     soodhiqune_run(H9, ENTRIES(second), 9);
-    soodhiqune_begin(H9, 2, 5, 20, SOODHIQUNE_READS);
-    soodhiqune_begin(H9, 3, 15, 20, SOODHIQUNE_WRITES);
+    enters(H9, 2, 5, 20, SOODHIQUNE_READS);
+    enters(H9, 3, 15, 20, SOODHIQUNE_WRITES);
     soodhiqune_run(H9, ENTRIES(others), 9);
     check("a reader meets a writer that it shares frames with", waits(stepped(H9, 2), 4, 15, 20));
     check("it waits on, and is told so again", waits(stepped(H9, 2), 4, 15, 20));
     check("the writer looks at the readers", answers(stepped(H9, 3), SOODHIQUNE_ON, 0));
     check("the writer goes back", answers(stepped(H9, 3), SOODHIQUNE_BACK, 0));
+    check("what is withdrawn has not reserved", refuses(soodhiqune_enter(H9, 3), SOODHIQUNE_NOT_RESERVED));
     check("the writer takes a node anew", answers(stepped(H9, 3), SOODHIQUNE_ON, 0) && table[SOODHIQUNE_TITLE] == 20);
+    check("and enters with it", answers(soodhiqune_enter(H9, 3), SOODHIQUNE_ON, 0));
     check("the reader's wait is over", answers(stepped(H9, 2), SOODHIQUNE_ON, 0));
 }
 
@@ -198,9 +217,9 @@ static void check_covered(void)
     uint64_t covered = UNTOUCHED;
 #define BOTH table, SOODHIQUNE_NODE_WORDS(2), both, SOODHIQUNE_SEAT_WORDS(2)
     soodhiqune_clear(BOTH, 100);
-    soodhiqune_begin(BOTH, 0, 0, 100, SOODHIQUNE_READS);
+    enters(BOTH, 0, 0, 100, SOODHIQUNE_READS);
     soodhiqune_run(BOTH, ENTRIES(first), 9);
-    soodhiqune_begin(BOTH, 1, 50, 60, SOODHIQUNE_READS);
+    enters(BOTH, 1, 50, 60, SOODHIQUNE_READS);
     soodhiqune_run(BOTH, ENTRIES(second), 9);
     check("two readers hold", counts(soodhiqune_board(BOTH, rows, SOODHIQUNE_ROW_WORDS(2), &covered), 2));
     check("their shared frames are covered once, which is the whole title", covered == 100 && covered == table[SOODHIQUNE_TITLE]);
@@ -211,9 +230,9 @@ static int waits_at(uint32_t *table, uint32_t *both, uint32_t start, uint32_t en
 {
     const uint32_t holds[] = {0, 0};
     soodhiqune_clear(BOTH, UINT32_MAX);
-    soodhiqune_begin(BOTH, 0, start, end, SOODHIQUNE_READS);
+    enters(BOTH, 0, start, end, SOODHIQUNE_READS);
     soodhiqune_run(BOTH, ENTRIES(holds), 9);
-    soodhiqune_begin(BOTH, 1, 15, 25, SOODHIQUNE_WRITES);
+    enters(BOTH, 1, 15, 25, SOODHIQUNE_WRITES);
     return waits(stepped(BOTH, 1), 1, first, shared_end);
 }
 
@@ -232,9 +251,9 @@ static void check_shared(void)
     *cur_of_seat_1 = 2;
     check("at its own node, in such a table", waits(stepped(BOTH, 1), 2, 15, 25));
     soodhiqune_clear(BOTH, UINT32_MAX);
-    soodhiqune_begin(BOTH, 0, 0, UINT32_MAX, SOODHIQUNE_WRITES);
+    enters(BOTH, 0, 0, UINT32_MAX, SOODHIQUNE_WRITES);
     stepped(BOTH, 0);
-    soodhiqune_begin(BOTH, 1, 0, UINT32_MAX, SOODHIQUNE_WRITES);
+    enters(BOTH, 1, 0, UINT32_MAX, SOODHIQUNE_WRITES);
     check("all frames there are", waits(stepped(BOTH, 1), 1, 0, UINT32_MAX));
 }
 
@@ -259,12 +278,13 @@ static void check_counts(void)
     uint32_t table[SOODHIQUNE_NODE_WORDS(4)], four[SOODHIQUNE_SEAT_WORDS(4)];
 #define FOUR table, SOODHIQUNE_NODE_WORDS(4), four, SOODHIQUNE_SEAT_WORDS(4)
     check("nobody holds in fresh tables", soodhiqune_clear(FOUR, 30) == SOODHIQUNE_ACCEPTED && holding(table, 0, 0));
-    soodhiqune_begin(FOUR, 0, 0, 10, SOODHIQUNE_READS);
-    check("a claim that began does not hold", holding(table, 0, 0));
+    soodhiqune_reserve(FOUR, 0, 0, 10, SOODHIQUNE_READS);
+    check("a claim that has a node does not hold", holding(table, 0, 0));
+    check("nor does one that entered", answers(soodhiqune_enter(FOUR, 0), SOODHIQUNE_ON, 0) && holding(table, 0, 0));
     check("a reader holds", ran(soodhiqune_run(FOUR, ENTRIES(first), 9), 2, SOODHIQUNE_ACCEPTED) && holding(table, 1, 0));
-    soodhiqune_begin(FOUR, 1, 5, 10, SOODHIQUNE_READS);
+    enters(FOUR, 1, 5, 10, SOODHIQUNE_READS);
     check("two readers hold", ran(soodhiqune_run(FOUR, ENTRIES(second), 9), 3, SOODHIQUNE_ACCEPTED) && holding(table, 2, 0));
-    soodhiqune_begin(FOUR, 2, 20, 30, SOODHIQUNE_WRITES);
+    enters(FOUR, 2, 20, 30, SOODHIQUNE_WRITES);
     check("a writer is on its way", ran(soodhiqune_run(FOUR, ENTRIES(third), 5), 5, SOODHIQUNE_ACCEPTED) && holding(table, 2, 0));
     check("the writer holds", answers(stepped(FOUR, 2), SOODHIQUNE_HELD, 0) && holding(table, 2, 1));
     check("a holder that steps is counted once", answers(stepped(FOUR, 2), SOODHIQUNE_HELD, 0) && holding(table, 2, 1));
@@ -292,7 +312,7 @@ static int damages_title(uint32_t *table, const uint32_t *four, uint32_t title)
 /* the title has an end: document 02's third request */
 static void check_title(void)
 {
-    const uint32_t first[] = {0, 0};
+    const uint32_t first[] = {0, 0, 0};
     uint32_t table[SOODHIQUNE_NODE_WORDS(4)], four[SOODHIQUNE_SEAT_WORDS(4)];
     size_t word;
     int zeros = 1;
@@ -306,24 +326,63 @@ static void check_title(void)
         zeros = zeros && (word == SOODHIQUNE_TITLE || table[word] == 0);
     }
     check("0 everywhere else", zeros);
-    check("a frame beyond", refuses(soodhiqune_begin(FOUR, 0, 10, 21, SOODHIQUNE_WRITES), SOODHIQUNE_BEYOND_TITLE));
-    check("beyond, and empty", refuses(soodhiqune_begin(FOUR, 0, 21, 21, SOODHIQUNE_WRITES), SOODHIQUNE_EMPTY_CLAIM));
-    check("beyond, and of no known kind", refuses(soodhiqune_begin(FOUR, 0, 10, 21, 9), SOODHIQUNE_BEYOND_TITLE));
-    check("up to the end", answers(soodhiqune_begin(FOUR, 0, 10, 20, SOODHIQUNE_WRITES), SOODHIQUNE_NODE, 1));
+    check("a frame beyond", refuses(soodhiqune_reserve(FOUR, 0, 10, 21, SOODHIQUNE_WRITES), SOODHIQUNE_BEYOND_TITLE));
+    check("beyond, and empty", refuses(soodhiqune_reserve(FOUR, 0, 21, 21, SOODHIQUNE_WRITES), SOODHIQUNE_EMPTY_CLAIM));
+    check("beyond, and of no known kind", refuses(soodhiqune_reserve(FOUR, 0, 10, 21, 9), SOODHIQUNE_BEYOND_TITLE));
+    check("up to the end", answers(soodhiqune_reserve(FOUR, 0, 10, 20, SOODHIQUNE_WRITES), SOODHIQUNE_NODE, 1));
     check("beyond, by a seat that has a claim",
-          refuses(soodhiqune_begin(FOUR, 0, 10, 21, SOODHIQUNE_WRITES), SOODHIQUNE_BEYOND_TITLE));
+          refuses(soodhiqune_reserve(FOUR, 0, 10, 21, SOODHIQUNE_WRITES), SOODHIQUNE_BEYOND_TITLE));
     check("it holds, and the title stays",
-          ran(soodhiqune_run(FOUR, ENTRIES(first), 9), 2, SOODHIQUNE_ACCEPTED) && table[SOODHIQUNE_TITLE] == 20);
+          ran(soodhiqune_run(FOUR, ENTRIES(first), 9), 3, SOODHIQUNE_ACCEPTED) && table[SOODHIQUNE_TITLE] == 20);
     check("no title is damage", damages_title(table, four, 0));
     check("a frame short of an end is damage", damages_title(table, four, 19));
     table[SOODHIQUNE_TITLE] = 20;
     check("released, and the title stays", answers(soodhiqune_release(FOUR, 0), SOODHIQUNE_OUT, 0) && table[SOODHIQUNE_TITLE] == 20);
     check("a released claim still needs its frames", damages_title(table, four, 19));
     check("the longest title", soodhiqune_clear(FOUR, UINT32_MAX) == SOODHIQUNE_ACCEPTED && table[SOODHIQUNE_TITLE] == UINT32_MAX);
-    check("and all of it", answers(soodhiqune_begin(FOUR, 0, 0, UINT32_MAX, SOODHIQUNE_WRITES), SOODHIQUNE_NODE, 1));
+    check("and all of it", answers(soodhiqune_reserve(FOUR, 0, 0, UINT32_MAX, SOODHIQUNE_WRITES), SOODHIQUNE_NODE, 1));
     check("the shortest title", soodhiqune_clear(FOUR, 1) == SOODHIQUNE_ACCEPTED && table[SOODHIQUNE_TITLE] == 1);
-    check("a frame that it does not have", refuses(soodhiqune_begin(FOUR, 0, 1, 2, SOODHIQUNE_READS), SOODHIQUNE_BEYOND_TITLE));
-    check("its frame", answers(soodhiqune_begin(FOUR, 0, 0, 1, SOODHIQUNE_READS), SOODHIQUNE_NODE, 1));
+    check("a frame that it does not have", refuses(soodhiqune_reserve(FOUR, 0, 1, 2, SOODHIQUNE_READS), SOODHIQUNE_BEYOND_TITLE));
+    check("its frame", answers(soodhiqune_reserve(FOUR, 0, 0, 1, SOODHIQUNE_READS), SOODHIQUNE_NODE, 1));
+}
+
+/* enter is refused for a seat that has not reserved, and leaves both tables */
+static int not_reserved(uint32_t *table, uint32_t *four, uint32_t seat)
+{
+    uint32_t table_found[SOODHIQUNE_NODE_WORDS(4)], four_found[SOODHIQUNE_SEAT_WORDS(4)];
+    memcpy(table_found, table, sizeof table_found);
+    memcpy(four_found, four, sizeof four_found);
+    return refuses(soodhiqune_enter(FOUR, seat), SOODHIQUNE_NOT_RESERVED) && memcmp(table, table_found, sizeof table_found) == 0 &&
+           memcmp(four, four_found, sizeof four_found) == 0;
+}
+
+/* a node is reserved when the worker connects: document 02's seventh request */
+static void check_reserved(void)
+{
+    uint32_t table[SOODHIQUNE_NODE_WORDS(4)], four[SOODHIQUNE_SEAT_WORDS(4)], table_found[SOODHIQUNE_NODE_WORDS(4)];
+    const uint32_t *words = four + SOODHIQUNE_SEAT_WORDS(1);
+    soodhiqune_clear(FOUR, 100);
+    check("an idle seat does not enter", not_reserved(table, four, 0));
+    check("two reserve", answers(soodhiqune_reserve(FOUR, 0, 0, 10, SOODHIQUNE_WRITES), SOODHIQUNE_NODE, 1) &&
+          answers(soodhiqune_reserve(FOUR, 1, 5, 15, SOODHIQUNE_WRITES), SOODHIQUNE_NODE, 2));
+    check("their nodes are not free", counts(soodhiqune_free_count(FOUR), 2));
+    check("the list is as it was", table[SOODHIQUNE_HEAD] == 0 && words[0] == 7 && words[1] == 2 && words[2] == 0 && words[3] == 0);
+    check("a reserved seat has a claim", refuses(soodhiqune_reserve(FOUR, 1, 5, 15, SOODHIQUNE_WRITES), SOODHIQUNE_SEAT_HAS_CLAIM));
+    check("and does not hold", refuses(soodhiqune_release(FOUR, 1), SOODHIQUNE_NOT_HOLDING));
+    check("the first enters by a step", answers(stepped(FOUR, 0), SOODHIQUNE_ON, 0) && not_reserved(table, four, 0));
+    check("it is listed", answers(stepped(FOUR, 0), SOODHIQUNE_ON, 0) && not_reserved(table, four, 0));
+    check("it holds", answers(stepped(FOUR, 0), SOODHIQUNE_HELD, 0) && not_reserved(table, four, 0));
+    memcpy(table_found, table, sizeof table_found);
+    check("the second enters at the head as it is now", answers(soodhiqune_enter(FOUR, 1), SOODHIQUNE_ON, 0) && words[0] == 1 &&
+          words[1] == 2 && words[2] == 0 && words[3] == 1);
+    check("no node changed", memcmp(table, table_found, sizeof table_found) == 0);
+    check("it waits", waits(stepped(FOUR, 1), 1, 5, 10) && not_reserved(table, four, 1));
+    check("no such seat", refuses(soodhiqune_enter(FOUR, 4), SOODHIQUNE_NO_SUCH_SEAT));
+    four[SOODHIQUNE_SEAT_WORDS(2)] = 8;
+    four[SOODHIQUNE_SEAT_WORDS(2) + 1] = 1;
+    check("there is no phase 8", refuses(soodhiqune_enter(FOUR, 4), SOODHIQUNE_DAMAGED));
+    four[SOODHIQUNE_SEAT_WORDS(2)] = 7;
+    check("phase 7 has a node", answers(soodhiqune_enter(FOUR, 2), SOODHIQUNE_ON, 0));
 }
 
 static int wrong_first_line(const char *script, uint32_t *numbers)
@@ -336,25 +395,31 @@ static void check_scripts(void)
 {
     static uint32_t numbers[SOODHIQUNE_SCRIPT_NUMBERS];
     static uint8_t printed[SOODHIQUNE_PRINTED_BYTES], too_long[SOODHIQUNE_MOST_SCRIPT_BYTES + 1];
-    const char *good = "4 3 2 20\nb 0 10 20 2\ns 2\n", *bad = "4 3 1 20\ns 00\n", *lines = "1 node 1\n2 no 6\nlist\ncovered 0\n";
-    const char *beyond = "4 3 1 20\nb 0 10 21 2\n", *refused = "1 no 11\nlist\ncovered 0\n";
+    const char *good = "4 3 3 20\nv 0 10 20 2\ns 2\ne 0\n", *lines = "1 node 1\n2 no 6\n3 on\nlist\ncovered 0\n";
+    const char *bad = "4 3 1 20\ns 00\n", *without_v = "4 3 1 20\nb 0 10 20 2\n";
+    const char *beyond = "4 3 1 20\nv 0 10 21 2\n", *refused = "1 no 11\nlist\ncovered 0\n";
     const uint32_t *first = numbers + SOODHIQUNE_SCRIPT_ROW(0), *second = numbers + SOODHIQUNE_SCRIPT_ROW(1);
+    const uint32_t *third = numbers + SOODHIQUNE_SCRIPT_ROW(2);
     uint64_t given = soodhiqune_read(TEXT(bad), numbers);
     check("a bad line", soodhiqune_read_refusal(given) == SOODHIQUNE_BAD_SCRIPT && soodhiqune_wrong_line(given) == 2);
+    given = soodhiqune_read(TEXT(without_v), numbers);
+    check("a b line", soodhiqune_read_refusal(given) == SOODHIQUNE_BAD_SCRIPT && soodhiqune_wrong_line(given) == 2);
     given = soodhiqune_read(too_long, sizeof too_long, numbers);
     check("a script too long", soodhiqune_read_refusal(given) == SOODHIQUNE_BAD_SCRIPT && soodhiqune_wrong_line(given) == 0);
     check("the longest is read", soodhiqune_wrong_line(soodhiqune_read(too_long, sizeof too_long - 1, numbers)) == 1);
     check("a good script", soodhiqune_read_refusal(soodhiqune_read(TEXT(good), numbers)) == SOODHIQUNE_ACCEPTED);
     check("its contents", numbers[SOODHIQUNE_SCRIPT_NODES] == 4 && numbers[SOODHIQUNE_SCRIPT_SEATS] == 3 &&
-          numbers[SOODHIQUNE_SCRIPT_COUNT] == 2 && numbers[SOODHIQUNE_SCRIPT_TITLE] == 20);
-    check("its first line", first[SOODHIQUNE_LINE_CODE] == SOODHIQUNE_BEGIN && first[SOODHIQUNE_LINE_SEAT] == 0 &&
+          numbers[SOODHIQUNE_SCRIPT_COUNT] == 3 && numbers[SOODHIQUNE_SCRIPT_TITLE] == 20);
+    check("its first line", first[SOODHIQUNE_LINE_CODE] == SOODHIQUNE_RESERVE && first[SOODHIQUNE_LINE_SEAT] == 0 &&
           first[SOODHIQUNE_LINE_START] == 10 && first[SOODHIQUNE_LINE_END] == 20 && first[SOODHIQUNE_LINE_KIND] == SOODHIQUNE_WRITES);
     check("its second line", second[SOODHIQUNE_LINE_CODE] == SOODHIQUNE_STEP && second[SOODHIQUNE_LINE_SEAT] == 2);
+    check("its third line", third[SOODHIQUNE_LINE_CODE] == SOODHIQUNE_ENTER && third[SOODHIQUNE_LINE_SEAT] == 0 &&
+          third[SOODHIQUNE_LINE_START] == 0 && third[SOODHIQUNE_LINE_END] == 0 && third[SOODHIQUNE_LINE_KIND] == 0);
     check("no title", wrong_first_line("4 3 0\n", numbers));
     check("title 0", wrong_first_line("4 3 0 0\n", numbers));
     check("a title too large", wrong_first_line("4 3 0 4294967296\n", numbers));
     check("a number behind the title", wrong_first_line("4 3 0 20 1\n", numbers) && numbers[SOODHIQUNE_SCRIPT_TITLE] == 20);
-    check("no third line", numbers[SOODHIQUNE_SCRIPT_ROW(2) + SOODHIQUNE_LINE_CODE] == SOODHIQUNE_NO_LINE);
+    check("no fourth line", numbers[SOODHIQUNE_SCRIPT_ROW(3) + SOODHIQUNE_LINE_CODE] == SOODHIQUNE_NO_LINE);
     check("played", soodhiqune_play(TEXT(good), printed) == strlen(lines) && memcmp(printed, lines, strlen(lines)) == 0);
     check("played beyond its title", soodhiqune_play(TEXT(beyond), printed) == strlen(refused) &&
           memcmp(printed, refused, strlen(refused)) == 0);
@@ -368,12 +433,12 @@ static void check_longest_waits(void)
     const char *wait = "\n1000 wait 1 1000000000 4294967295\nlist 1\nhold 0 1000000000 4294967295 2\ncovered 3294967295\n";
     size_t length;
     int line;
-    strcpy(script, "2 2 1000 4294967295\nb 0 1000000000 4294967295 2\ns 0\ns 0\nb 1 1000000000 4294967295 2\n");
-    for (line = 5; line <= SOODHIQUNE_MOST_SCRIPT_ROWS; line++) {
+    strcpy(script, "2 2 1000 4294967295\nv 0 1000000000 4294967295 2\ne 0\ns 0\ns 0\nv 1 1000000000 4294967295 2\ne 1\n");
+    for (line = 7; line <= SOODHIQUNE_MOST_SCRIPT_ROWS; line++) {
         strcat(script, "s 1\n");
     }
     length = (size_t)soodhiqune_play(TEXT(script), printed);
-    check("996 waits", length == 32856 && memcmp(printed + length - strlen(wait), wait, strlen(wait)) == 0);
+    check("994 waits", length == 32804 && memcmp(printed + length - strlen(wait), wait, strlen(wait)) == 0);
 }
 
 enum { RECORDS = 3, MOVED_WORDS = 3 * RECORDS, ROOM = MOVED_WORDS + 2 };
@@ -525,7 +590,7 @@ static void check_export(void)
           exports(0, 9, 9, 9, 0, SOODHIQUNE_EMPTY_TITLE, 0));
 }
 
-/* claims that are written and read are the same again, and may be begun */
+/* claims that are written and read are the same again, and may be reserved */
 static void check_there_and_back(void)
 {
     uint32_t table[SOODHIQUNE_NODE_WORDS(2)], both[SOODHIQUNE_SEAT_WORDS(2)];
@@ -536,8 +601,8 @@ static void check_there_and_back(void)
     check("as the same claims", is_claim(0, 10, 15, SOODHIQUNE_READS) && is_claim(1, 0, 1, SOODHIQUNE_WRITES) &&
           is_claim(2, 15, 20, SOODHIQUNE_WRITES));
     soodhiqune_clear(BOTH, 20);
-    check("and such a claim is begun",
-          answers(soodhiqune_begin(BOTH, 0, last[SOODHIQUNE_CLAIM_START], last[SOODHIQUNE_CLAIM_END], last[SOODHIQUNE_CLAIM_KIND]),
+    check("and such a claim is reserved",
+          answers(soodhiqune_reserve(BOTH, 0, last[SOODHIQUNE_CLAIM_START], last[SOODHIQUNE_CLAIM_END], last[SOODHIQUNE_CLAIM_KIND]),
                   SOODHIQUNE_NODE, 1));
 }
 
@@ -548,7 +613,10 @@ static void check_null(void)
     uint64_t covered = UNTOUCHED;
     check("no tables to clear", refuses(soodhiqune_clear(NULL, 0, NULL, 0, 1), SOODHIQUNE_DAMAGED));
     check("no tables to clear, and no title", refuses(soodhiqune_clear(NULL, 0, NULL, 0, 0), SOODHIQUNE_DAMAGED));
-    check("no tables to begin on", refuses(soodhiqune_begin(NULL, 0, NULL, 0, 0, 1, 2, SOODHIQUNE_READS), SOODHIQUNE_DAMAGED));
+    check("no tables to reserve on", refuses(soodhiqune_reserve(NULL, 0, NULL, 0, 0, 1, 2, SOODHIQUNE_READS), SOODHIQUNE_DAMAGED));
+    check("no tables to enter on", refuses(soodhiqune_enter(NULL, 0, NULL, 0, 0), SOODHIQUNE_DAMAGED));
+    check("no nodes to enter on", refuses(soodhiqune_enter(NULL, 0, SEAT_TABLE, 0), SOODHIQUNE_DAMAGED));
+    check("no seats to enter", refuses(soodhiqune_enter(NODE_TABLE, NULL, 0, 0), SOODHIQUNE_DAMAGED));
     check("no nodes to step on", refuses(stepped(NULL, 0, SEAT_TABLE, 0), SOODHIQUNE_DAMAGED));
     check("no seats to step", refuses(stepped(NODE_TABLE, NULL, 0, 0), SOODHIQUNE_DAMAGED));
     check("no tables to release on", refuses(soodhiqune_release(NULL, 0, NULL, 0, 0), SOODHIQUNE_DAMAGED));
@@ -582,6 +650,7 @@ int main(void)
     check_shared();
     check_counts();
     check_title();
+    check_reserved();
     check_scripts();
     check_longest_waits();
     check_import();

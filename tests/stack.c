@@ -20,19 +20,21 @@ static uint8_t printed[SOODHIQUNE_PRINTED_BYTES];
 static int64_t locks[SOODHIQUNE_LOCK_WORDS(RECORDS)];
 static uint32_t claims[SOODHIQUNE_CLAIM_WORDS(RECORDS)];
 static uint64_t covered, given;
-static const char script[] = "256 64 1 4294967295\nb 4294967295 4294967295 4294967295 4294967295\n", lines[] = "1 no 2\nlist\ncovered 0\n";
+static const char script[] = "256 64 1 4294967295\nv 4294967295 4294967295 4294967295 4294967295\n", lines[] = "1 no 2\nlist\ncovered 0\n";
 static int passed, failed;
 
 #define TABLES nodes, SOODHIQUNE_NODE_WORDS(NODES), seats, SOODHIQUNE_SEAT_WORDS(SEATS)
 
-/* document 01's H9, up to the wait of seat 2, and up to the withdrawal of seat 3: its next step fetches, which goes deepest */
-static const uint32_t to_hold_0[] = {0, 0}, to_hold_1[] = {1, 1, 1}, to_wait[] = {3, 3, 2, 2, 3, 2}, fetching[] = {3};
-static const uint32_t to_withdrawal[] = {3, 3, 2, 2, 3, 2, 2, 3, 3};
+/* document 01's H9, with the seats entering by steps of their own, up to the wait of seat 2, and up to the withdrawal of seat 3: its next
+ * step fetches, which goes deepest */
+static const uint32_t to_hold_0[] = {0, 0, 0}, to_hold_1[] = {1, 1, 1, 1}, to_wait[] = {2, 3, 3, 3, 2, 2, 3, 2}, fetching[] = {3};
+static const uint32_t to_withdrawal[] = {2, 3, 3, 3, 2, 2, 3, 2, 2, 3, 3};
 #define STEPS(schedule) schedule, sizeof schedule / sizeof schedule[0], UINT32_MAX
 
 static void nothing(void) { }
 static void clear(void) { given = soodhiqune_clear(TABLES, UINT32_MAX); }
-static void begin(void) { given = soodhiqune_begin(TABLES, 3, 15, 20, SOODHIQUNE_WRITES); }
+static void reserve(void) { given = soodhiqune_reserve(TABLES, 3, 15, 20, SOODHIQUNE_WRITES); }
+static void enter(void) { given = soodhiqune_enter(TABLES, 3); }
 static void step(void) { given = soodhiqune_step(TABLES, 3, shared); }
 static void step_to_wait(void) { given = soodhiqune_step(TABLES, 2, shared); }
 static void run(void) { given = soodhiqune_run(TABLES, STEPS(fetching)); }
@@ -77,28 +79,32 @@ static void set_up(void)
     uint32_t seat;
     clear();
     for (seat = SEATS - 1; seat > 3; seat--) {
-        const uint32_t to_hold[] = {seat, seat};
-        soodhiqune_begin(TABLES, seat, 100 + seat, 101 + seat, SOODHIQUNE_WRITES);
+        const uint32_t to_hold[] = {seat, seat, seat};
+        soodhiqune_reserve(TABLES, seat, 100 + seat, 101 + seat, SOODHIQUNE_WRITES);
         soodhiqune_run(TABLES, STEPS(to_hold));
     }
-    soodhiqune_begin(TABLES, 0, 1, 10, SOODHIQUNE_READS);
+    soodhiqune_reserve(TABLES, 0, 1, 10, SOODHIQUNE_READS);
     soodhiqune_run(TABLES, STEPS(to_hold_0));
-    soodhiqune_begin(TABLES, 1, 12, 14, SOODHIQUNE_READS);
+    soodhiqune_reserve(TABLES, 1, 12, 14, SOODHIQUNE_READS);
     soodhiqune_run(TABLES, STEPS(to_hold_1));
-    soodhiqune_begin(TABLES, 2, 5, 20, SOODHIQUNE_READS);
+    soodhiqune_reserve(TABLES, 2, 5, 20, SOODHIQUNE_READS);
+}
+
+static void set_up_reserved(void)
+{
+    set_up();
+    reserve();
 }
 
 static void set_up_wait(void)
 {
-    set_up();
-    begin();
+    set_up_reserved();
     soodhiqune_run(TABLES, STEPS(to_wait));
 }
 
 static void set_up_withdrawal(void)
 {
-    set_up();
-    begin();
+    set_up_reserved();
     soodhiqune_run(TABLES, STEPS(to_withdrawal));
 }
 
@@ -153,7 +159,9 @@ int main(void)
     read_script();
     play();
     check("clear", set_up, clear, SOODHIQUNE_ACCEPTED, SOODHIQUNE_STACK_BYTES);
-    check("begin", set_up, begin, both(SOODHIQUNE_NODE, HOLDERS + 4), SOODHIQUNE_STACK_BYTES);
+    check("reserve", set_up, reserve, both(SOODHIQUNE_NODE, HOLDERS + 4), SOODHIQUNE_STACK_BYTES);
+    check("enter", set_up_reserved, enter, both(SOODHIQUNE_ON, 0), SOODHIQUNE_STACK_BYTES);
+    check("step that enters", set_up_reserved, step, both(SOODHIQUNE_ON, 0), SOODHIQUNE_STACK_BYTES);
     check("step", set_up_withdrawal, step, both(SOODHIQUNE_ON, 0), SOODHIQUNE_STACK_BYTES);
     check("step that waits", set_up_wait, step_to_wait, both(SOODHIQUNE_WAIT, HOLDERS + 4), SOODHIQUNE_STACK_BYTES);
     check("run", set_up_withdrawal, run, both(SOODHIQUNE_ACCEPTED, 1), SOODHIQUNE_STACK_BYTES);

@@ -62,10 +62,12 @@ int main(void)
     if (soodhiqune_clear(TABLES, FRAMES) != SOODHIQUNE_ACCEPTED) {
         return 1;
     }
-    say(soodhiqune_begin(TABLES, 0, 10, 20, SOODHIQUNE_WRITES));
+    say(soodhiqune_reserve(TABLES, 0, 10, 20, SOODHIQUNE_WRITES));
+    say(soodhiqune_enter(TABLES, 0));
     say(soodhiqune_step(TABLES, 0, shared));
     say(soodhiqune_step(TABLES, 0, shared));
-    say(soodhiqune_begin(TABLES, 1, 15, 25, SOODHIQUNE_WRITES));
+    say(soodhiqune_reserve(TABLES, 1, 15, 25, SOODHIQUNE_WRITES));
+    say(soodhiqune_enter(TABLES, 1));
     say(soodhiqune_step(TABLES, 1, shared));
     say(soodhiqune_release(TABLES, 0));
     for (message = 0; message < 4; message++) {

@@ -1,4 +1,4 @@
-/* Turns a list of POSIX record locks into the begin lines of a script, and such lines into locks: what ./locks runs, and an example for C
+/* Turns a list of POSIX record locks into the reserve lines of a script, and such lines into locks: what ./locks runs, and an example for C
  * of import and export. `locks import TITLE` and `locks export TITLE` read standard input; ./locks --help says what lines they take and
  * what their exit status means. A list is read whole before anything is printed, so that a bad or refused one prints nothing. */
 #include <inttypes.h>
@@ -45,12 +45,12 @@ static int reads_lock(const char *text, int64_t *lock)
            reads_number(&text, INT64_MIN, INT64_MAX, '\n', lock + SOODHIQUNE_LOCK_LENGTH) && *text == '\0';
 }
 
-/* `b seat start end kind`; the seat is not kept */
+/* `v seat start end kind`; the seat is not kept */
 static int reads_claim(const char *text, uint32_t *claim)
 {
     int64_t numbers[4];
     size_t place;
-    if (strncmp(text, "b ", 2) != 0) {
+    if (strncmp(text, "v ", 2) != 0) {
         return 0;
     }
     text += 2;
@@ -99,7 +99,7 @@ static int read_all(int imports)
 static void print_claim(size_t place)
 {
     const uint32_t *claim = claims + SOODHIQUNE_CLAIM_WORDS(place);
-    printf("b %lu %" PRIu32 " %" PRIu32 " %" PRIu32 "\n", (unsigned long)place, claim[SOODHIQUNE_CLAIM_START], claim[SOODHIQUNE_CLAIM_END],
+    printf("v %lu %" PRIu32 " %" PRIu32 " %" PRIu32 "\n", (unsigned long)place, claim[SOODHIQUNE_CLAIM_START], claim[SOODHIQUNE_CLAIM_END],
            claim[SOODHIQUNE_CLAIM_KIND]);
 }
 

@@ -8,8 +8,10 @@ use crate::library::{Moved, Numbers, Printed, Shared};
 use crate::lists::Lists;
 use crate::machine;
 use crate::random::Random;
-use crate::script::{read_script, BEGIN, STEP};
-use crate::tables::{any_words, damaged, many_holders, many_waiters, miscounted, mistitled, sound_words};
+use crate::script::{read_script, ENTER, RESERVE, STEP};
+use crate::tables::{
+    any_words, damaged, many_holders, many_reserved, many_waiters, miscounted, mistitled, sound_words,
+};
 use crate::tables::{Tables, DAMAGES, MISCOUNTS, MISTITLES};
 
 /// The functions of one machine.
@@ -17,7 +19,8 @@ use crate::tables::{Tables, DAMAGES, MISCOUNTS, MISTITLES};
 #[allow(clippy::type_complexity)]
 pub struct Library {
     pub clear: fn(&mut [u32], &mut [u32], u32) -> u64,
-    pub begin: fn(&mut [u32], &mut [u32], u32, u32, u32, u32) -> u64,
+    pub reserve: fn(&mut [u32], &mut [u32], u32, u32, u32, u32) -> u64,
+    pub enter: fn(&[u32], &mut [u32], u32) -> u64,
     pub step: fn(&mut [u32], &mut [u32], u32, &mut Shared) -> u64,
     pub release: fn(&mut [u32], &mut [u32], u32) -> u64,
     pub run: fn(&mut [u32], &mut [u32], &[u32], u32) -> u64,
@@ -36,7 +39,8 @@ macro_rules! library_of {
         use $module as side;
         $crate::driver::Library {
             clear: side::clear,
-            begin: side::begin,
+            reserve: side::reserve,
+            enter: side::enter,
             step: side::step,
             release: side::release,
             run: side::run,
@@ -62,7 +66,8 @@ pub const MACHINES: &[(&str, Library)] = &[("second", library_of!(crate::library
 #[derive(Clone, Debug, PartialEq)]
 pub enum Call {
     Clear { title: u32 },
-    Begin { seat: u32, start: u32, end: u32, kind: u32 },
+    Reserve { seat: u32, start: u32, end: u32, kind: u32 },
+    Enter { seat: u32 },
     Step { seat: u32, shared: Shared },
     Release { seat: u32 },
     Run { entries: Vec<u32>, budget: u32 },
@@ -133,7 +138,8 @@ pub fn make(
 ) -> u64 {
     match call {
         &Call::Clear { title } => (library.clear)(nodes, seats, title),
-        &Call::Begin { seat, start, end, kind } => (library.begin)(nodes, seats, seat, start, end, kind),
+        &Call::Reserve { seat, start, end, kind } => (library.reserve)(nodes, seats, seat, start, end, kind),
+        &Call::Enter { seat } => (library.enter)(nodes, seats, seat),
         &Call::Step { seat, .. } => (library.step)(nodes, seats, seat, shared),
         &Call::Release { seat } => (library.release)(nodes, seats, seat),
         Call::Run { entries, budget } => (library.run)(nodes, seats, entries, *budget),
@@ -221,6 +227,11 @@ impl Driver {
         self.every_call(random, tables)
     }
 
+    pub fn many_reserved(&mut self, random: &mut Random) -> Result<(), Difference> {
+        let tables = many_reserved(random);
+        self.every_call(random, tables)
+    }
+
     pub fn damages(&mut self, random: &mut Random) -> Result<(), Difference> {
         for damage in DAMAGES {
             let tables = damaged(random, damage);
@@ -246,7 +257,8 @@ pub fn some_history(random: &mut Random) -> (Tables, Vec<Call>) {
         (1..=50, _) => some_run(random, script.seats),
         (51..=150, _) => some_board(random),
         (151..=250, _) => Call::FreeCount,
-        (_, [BEGIN, seat, start, end, kind]) => Call::Begin { seat, start, end, kind },
+        (_, [RESERVE, seat, start, end, kind]) => Call::Reserve { seat, start, end, kind },
+        (_, [ENTER, seat, ..]) => Call::Enter { seat },
         (_, [STEP, seat, ..]) => Call::Step { seat, shared: some_shared(random) },
         (_, [_, seat, ..]) => Call::Release { seat },
     });
@@ -254,14 +266,16 @@ pub fn some_history(random: &mut Random) -> (Tables, Vec<Call>) {
     (machine::fresh(script.nodes, script.seats, script.title), calls)
 }
 
-/// Each call once, as it is made on these tables, and two steps and a begin more.
-pub fn every_call(random: &mut Random, (nodes, seats): &Tables) -> [Call; 9] {
+/// Each call once, as it is made on these tables, and a reserve, an enter and a step more.
+pub fn every_call(random: &mut Random, (nodes, seats): &Tables) -> [Call; 11] {
     let seat_count = (seats.len() / machine::SEAT_WORDS) as u32;
     let title = nodes.get(machine::TITLE).copied().unwrap_or(0);
     [
         Call::Clear { title: some_title(random, title) },
-        some_begin(random, seat_count, title),
-        some_begin(random, seat_count, title),
+        some_reserve(random, seat_count, title),
+        some_reserve(random, seat_count, title),
+        Call::Enter { seat: some_seat(random, seat_count) },
+        Call::Enter { seat: some_seat(random, seat_count) },
         some_step(random, seat_count),
         some_step(random, seat_count),
         Call::Release { seat: some_seat(random, seat_count) },
@@ -298,18 +312,18 @@ fn some_step(random: &mut Random, seat_count: u32) -> Call {
     Call::Step { seat: some_seat(random, seat_count), shared: some_shared(random) }
 }
 
-fn some_begin(random: &mut Random, seat_count: u32, title: u32) -> Call {
+fn some_reserve(random: &mut Random, seat_count: u32, title: u32) -> Call {
     let seat = some_seat(random, seat_count);
     let any_kind = random.pick(&[0, 1, 2, 3, u32::MAX]);
     match random.below(10) {
         0..=5 => {
             let start = random.below(9);
-            Call::Begin { seat, start, end: start + random.between(1, 5), kind: random.between(1, 2) }
+            Call::Reserve { seat, start, end: start + random.between(1, 5), kind: random.between(1, 2) }
         }
-        6..=7 => Call::Begin { seat, start: random.edge(), end: random.edge(), kind: any_kind },
+        6..=7 => Call::Reserve { seat, start: random.edge(), end: random.edge(), kind: any_kind },
         _ => {
             let [start, end] = around(random, title);
-            Call::Begin { seat, start, end, kind: random.pick(&[1, 2, any_kind]) }
+            Call::Reserve { seat, start, end, kind: random.pick(&[1, 2, any_kind]) }
         }
     }
 }

@@ -3,7 +3,7 @@
 
 use crate::machine;
 use crate::random::Random;
-use crate::script::{call, BEGIN, MOST_BYTES, MOST_ROWS, RELEASE, STEP};
+use crate::script::{call, ENTER, MOST_BYTES, MOST_ROWS, RELEASE, RESERVE, STEP};
 
 /// What a good script is made of: tables, who takes part, and how often something is done, in per cent.
 struct Mix {
@@ -23,6 +23,8 @@ struct Mix {
     /// claims come with falling starts
     falling: bool,
     releases: u32,
+    /// a reserved seat enters by a step of its own
+    steps_in: u32,
     /// the same seat again
     stays: u32,
     nonsense: u32,
@@ -68,6 +70,7 @@ fn race(random: &mut Random) -> Mix {
         long_reads: random.pick(&[25, 50]),
         falling: false,
         releases: random.pick(&[20, 40, 70]),
+        steps_in: random.pick(&[0, 30]),
         stays: random.pick(&[0, 20]),
         nonsense: random.pick(&[0, 2]),
         rows: MOST_ROWS,
@@ -89,6 +92,7 @@ fn crowd(random: &mut Random) -> Mix {
         long_reads: random.pick(&[0, 5]),
         falling: true,
         releases: random.pick(&[3, 20]),
+        steps_in: random.pick(&[0, 30]),
         stays: random.pick(&[50, 90]),
         nonsense: random.pick(&[0, 2]),
         rows: MOST_ROWS,
@@ -102,7 +106,7 @@ fn mix(random: &mut Random) -> Mix {
         _ => {}
     }
     let (nodes, seats) = random.pick(&TABLES);
-    let frames = random.pick(&[1, 1, 2, 4, 10, 20, 40, 200, u32::MAX]);
+    let frames = random.pick(&[1, 1, 1, 2, 4, 10, 20, 40, 200, u32::MAX]);
     let first = random.pick(&[0, 0, (u32::MAX - frames).min(7), u32::MAX - frames]);
     Mix {
         nodes,
@@ -117,13 +121,14 @@ fn mix(random: &mut Random) -> Mix {
         long_reads: random.pick(&[0, 20, 60]),
         falling: false,
         releases: random.pick(&[5, 30, 60, 100]),
+        steps_in: random.pick(&[0, 30, 100]),
         stays: random.pick(&[0, 0, 30, 80]),
         nonsense: random.pick(&[0, 0, 3, 20]),
         rows: random.pick(&[0, 1, 5, 40, 150, 400, MOST_ROWS, MOST_ROWS, MOST_ROWS]),
     }
 }
 
-fn begin_row(random: &mut Random, mix: &Mix, seat: u32, row_number: u32) -> [u32; 5] {
+fn reserve_row(random: &mut Random, mix: &Mix, seat: u32, row_number: u32) -> [u32; 5] {
     let kind = if random.percent(mix.reads) { 1 } else { 2 };
     let long = kind == 1 && random.percent(mix.long_reads);
     let length = random.between(1, if long { mix.frames } else { mix.longest });
@@ -133,7 +138,7 @@ fn begin_row(random: &mut Random, mix: &Mix, seat: u32, row_number: u32) -> [u32
     } else {
         mix.first + random.between(0, room)
     };
-    [BEGIN, seat, start, start + length, kind]
+    [RESERVE, seat, start, start + length, kind]
 }
 
 /// A start and an end about where a title ends: at it, before it or behind it, in any order.
@@ -147,22 +152,26 @@ pub fn around(random: &mut Random, title: u32) -> [u32; 2] {
 fn nonsense_row(random: &mut Random, mix: &Mix) -> [u32; 5] {
     let seat = if random.percent(60) { random.below(mix.seats) } else { random.pick(&[mix.seats, 64, u32::MAX]) };
     let any_kind = random.pick(&[0, 1, 2, 3, u32::MAX]);
-    match random.below(6) {
+    match random.below(8) {
         0 => [STEP, seat, 0, 0, 0],
         1 => [RELEASE, seat, 0, 0, 0],
-        2 => [BEGIN, seat, random.edge(), random.edge(), any_kind],
-        3 => [BEGIN, seat, random.below(9), random.below(9), random.below(4)],
+        2..=3 => [ENTER, seat, 0, 0, 0],
+        4 => [RESERVE, seat, random.edge(), random.edge(), any_kind],
+        5 => [RESERVE, seat, random.below(9), random.below(9), random.below(4)],
         _ => {
             let [start, end] = around(random, mix.title);
-            [BEGIN, seat, start, end, any_kind]
+            [RESERVE, seat, start, end, any_kind]
         }
     }
 }
 
-/// What the seat can do next: begin if it is idle, now and then release if it holds, else a step.
+/// What the seat can do next: reserve if it is idle, enter if it has reserved, now and then release if it holds, else a step.
+/// In the phases that are rarest it now and then enters too, which is refused.
 fn sensible_row(random: &mut Random, mix: &Mix, seats: &[u32], seat: u32, row_number: u32) -> [u32; 5] {
     match seats[machine::SEAT_WORDS * seat as usize + machine::PHASE] {
-        machine::IDLE => begin_row(random, mix, seat, row_number),
+        machine::IDLE => reserve_row(random, mix, seat, row_number),
+        machine::RESERVED if !random.percent(mix.steps_in) => [ENTER, seat, 0, 0, 0],
+        machine::READER_WAITING | machine::WITHDRAWN if random.percent(8) => [ENTER, seat, 0, 0, 0],
         machine::HOLDING if random.percent(mix.releases) => [RELEASE, seat, 0, 0, 0],
         _ => [STEP, seat, 0, 0, 0],
     }
@@ -177,8 +186,9 @@ fn stands(random: &mut Random, seats: &[u32], seat: u32) -> bool {
 pub fn row_text(row: [u32; 5]) -> String {
     let [code, seat, start, end, kind] = row;
     match code {
-        BEGIN => format!("b {seat} {start} {end} {kind}\n"),
+        RESERVE => format!("v {seat} {start} {end} {kind}\n"),
         STEP => format!("s {seat}\n"),
+        ENTER => format!("e {seat}\n"),
         _ => format!("r {seat}\n"),
     }
 }
@@ -230,11 +240,11 @@ pub fn of_length(random: &mut Random, bytes: usize) -> Vec<u8> {
     let mut rows = Vec::new();
     while left > 0 {
         let text = if left > 60 {
-            row_text([BEGIN, random.below(2), random.word(), random.word(), random.between(1, 2)])
+            row_text([RESERVE, random.below(2), random.word(), random.word(), random.between(1, 2)])
         } else {
             // at most 13 bytes in one row, and never a rest too short for a row
             let length = if left <= 13 { left } else { random.between(4, 13.min(left as u32 - 4)) as usize };
-            format!("s {}\n", &"4294967295"[..length - "s \n".len()])
+            format!("{} {}\n", random.pick(&["s", "e"]), &"4294967295"[..length - "s \n".len()])
         };
         left -= text.len();
         rows.push(text);
@@ -243,18 +253,20 @@ pub fn of_length(random: &mut Random, bytes: usize) -> Vec<u8> {
 }
 
 /// A script that prints as much as may be, or little less: a claim holds, another waits at it, and most rows step that one.
-/// Frames have ten digits; some seats begin before the two and never step, so that the node waited at has two.
+/// Frames have ten digits; some seats reserve before the two and never enter, so that the node waited at has two.
 pub fn of_waits(random: &mut Random) -> Vec<u8> {
     let first = random.between(1_000_000_000, u32::MAX - 40);
     let mut claim = |kind| [first + random.below(20), first + random.between(21, 40), kind];
     let claims = [claim(1), claim(2)];
     let before = random.pick(&[0, 9, 20]);
     let title = random.pick(&[first + 40, u32::MAX]);
-    let begin = |seat, [start, end, kind]: [u32; 3]| [BEGIN, seat, start, end, kind];
+    let reserve = |seat, [start, end, kind]: [u32; 3]| [RESERVE, seat, start, end, kind];
+    let enter = |seat| [ENTER, seat, 0, 0, 0];
     let step = |seat| [STEP, seat, 0, 0, 0];
-    let mut rows: Vec<[u32; 5]> = (0..before).map(|seat| begin(seat, claims[1])).collect();
+    let mut rows: Vec<[u32; 5]> = (0..before).map(|seat| reserve(seat, claims[1])).collect();
     let (holder, waiter) = (before, before + 1);
-    rows.extend([begin(holder, claims[0]), step(holder), step(holder), begin(waiter, claims[1])]);
+    rows.extend([reserve(holder, claims[0]), enter(holder), step(holder), step(holder)]);
+    rows.extend([reserve(waiter, claims[1]), enter(waiter)]);
     rows.resize(MOST_ROWS, step(waiter));
     let texts: Vec<String> = rows.into_iter().map(row_text).collect();
     script_text(before + 2, before + 2, title, &texts)
@@ -354,7 +366,10 @@ pub const FLAWS: &[Flaw] = &[
     ("a number past 64 bits", |random, script| put_in(random, script, number, b"18446744073709551616")),
     ("a field more", |random, script| put_in(random, script, line_end, b" 1")),
     ("a letter alone", |random, script| put_in(random, script, line_start, b"s\n")),
-    ("an unknown letter", |random, script| put_for(random, script, letter, b"v")),
+    ("an unknown letter", |random, script| put_for(random, script, letter, b"x")),
+    ("a b for a v", |random, script| put_for(random, script, |_, byte| byte == b'v', b"b")),
+    ("a v for another letter", |random, script| put_for(random, script, |_, byte| b"esr".contains(&byte), b"v")),
+    ("an e for a v", |random, script| put_for(random, script, |_, byte| byte == b'v', b"e")),
     ("a capital letter", |random, script| put_for(random, script, letter, b"S")),
     ("a letter twice", |random, script| put_for(random, script, letter, b"ss")),
     ("K one too large", |_, script| put_number(script, 2, |count| count + 1)),
@@ -385,7 +400,7 @@ pub const FLAWS: &[Flaw] = &[
 
 /// One byte becomes another, goes, or comes in.
 pub fn put_change(random: &mut Random, script: &mut Vec<u8>) {
-    let byte = if random.percent(50) { random.word() as u8 } else { random.pick(b"0123456789 bsr\n") };
+    let byte = if random.percent(50) { random.word() as u8 } else { random.pick(b"0123456789 bvesr\n") };
     match random.below(3) {
         0 => put_for(random, script, any_byte, &[byte]),
         1 => put_for(random, script, any_byte, b""),
@@ -395,7 +410,8 @@ pub fn put_change(random: &mut Random, script: &mut Vec<u8>) {
 
 /// Lines and parts of lines, good ones and others.
 const PIECES: &str =
-    "s 0\n|r 1\n|b 0 1 2 2\n|b 0 4294967295 0 9\n|b |s |v | |\n|\r\n|\t|0|1|01|64|65|256|257|1001|4294967295|4294967296";
+    "s 0\n|r 1\n|e 0\n|v 0 1 2 2\n|v 0 4294967295 0 9\n|V 0 1 2 2\n|E 0\n|v |s |e |b | |\n|\r\n|\t|\
+     0|1|01|64|65|256|257|1001|4294967295|4294967296";
 
 /// Any bytes, or pieces of scripts in any order; half of them behind a first line for as many. Some are good.
 pub fn any_text(random: &mut Random) -> Vec<u8> {

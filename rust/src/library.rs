@@ -46,8 +46,12 @@ pub fn clear(nodes: &mut [u32], seats: &mut [u32], title: u32) -> u64 {
     u64::from(machine::clear(nodes, seats, title).err().unwrap_or(0))
 }
 
-pub fn begin(nodes: &mut [u32], seats: &mut [u32], seat: u32, start: u32, end: u32, kind: u32) -> u64 {
-    answer_word(machine::begin(nodes, seats, seat, start, end, kind))
+pub fn reserve(nodes: &mut [u32], seats: &mut [u32], seat: u32, start: u32, end: u32, kind: u32) -> u64 {
+    answer_word(machine::reserve(nodes, seats, seat, start, end, kind))
+}
+
+pub fn enter(nodes: &[u32], seats: &mut [u32], seat: u32) -> u64 {
+    answer_word(machine::enter(nodes, seats, seat))
 }
 
 /// `shared` is written if the answer is `wait`.

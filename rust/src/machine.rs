@@ -41,6 +41,8 @@ pub const VALIDATING: u32 = 3;
 pub const READER_WAITING: u32 = 4;
 pub const HOLDING: u32 = 5;
 pub const WITHDRAWN: u32 = 6;
+/// 02: "puts the seat in a new phase 7".
+pub const RESERVED: u32 = 7;
 
 /// "Kind 1 reads, 2 writes."
 pub const READS: u32 = 1;
@@ -54,8 +56,8 @@ struct Claim {
     kind: u32,
 }
 
-/// "What a call gives back": the answers of begin, step and release where the call is not refused. 02: "`wait` carries both",
-/// "the first shared frame and the end of the shared run".
+/// "What a call gives back": the answers of reserve, enter, step and release where the call is not refused. 02: "`wait` carries
+/// both", "the first shared frame and the end of the shared run".
 #[derive(Clone, Copy, Debug, PartialEq, Eq)]
 pub enum Answer {
     Node(u32),
@@ -111,15 +113,20 @@ fn load_seat(seats: &[u32], number: u32) -> Result<Seat, u32> {
     Ok(seat.try_into().expect("a chunk is a seat"))
 }
 
+/// Only words that differ, as each store is mirrored to a standby.
 fn store_seat(seats: &mut [u32], number: u32, seat: Seat) {
-    seats[SEAT_WORDS * number as usize..][..SEAT_WORDS].copy_from_slice(&seat);
+    for (word, value) in seats[SEAT_WORDS * number as usize..].iter_mut().zip(seat) {
+        if *word != value {
+            *word = value;
+        }
+    }
 }
 
-/// Every phase that a seat comes to by fetch, hold or withdraw has prev 0.
-fn come_to(seat: &mut Seat, phase: u32, cur: u32) {
+/// Fetch, hold and withdraw bring a seat to a phase with "prev and cur 0".
+fn come_to(seat: &mut Seat, phase: u32) {
     seat[PHASE] = phase;
     seat[PREV] = 0;
-    seat[CUR] = cur;
+    seat[CUR] = 0;
 }
 
 /// "'The link of prev' is head if prev is 0, else prev's next": the place of that word.
@@ -161,13 +168,13 @@ fn node_is_sound(nodes: &[u32], count: usize, node: &[u32]) -> bool {
 }
 
 /// "Phase is 0 to 6; an idle seat (0) has zeros in all four words, any other has own nonzero; in phases 5 and 6 prev and
-/// cur are 0; in 2 and 4 cur is nonzero."
+/// cur are 0; in 2 and 4 cur is nonzero." 02: "sound shape allows 7 like 6".
 fn seat_is_sound(nodes: &[u32], count: usize, seat: &[u32]) -> bool {
     let words_fit = match seat[PHASE] {
         IDLE => return seat[OWN] | seat[PREV] | seat[CUR] == 0,
         WALKING | VALIDATING => true,
         WAITING_TO_ENTER | READER_WAITING => seat[CUR] != 0,
-        HOLDING | WITHDRAWN => seat[PREV] | seat[CUR] == 0,
+        HOLDING | WITHDRAWN | RESERVED => seat[PREV] | seat[CUR] == 0,
         _ => false,
     };
     words_fit && seat[OWN] != 0 && seat[OWN..=CUR].iter().all(|&name| names_a_claim(nodes, count, name))
@@ -296,7 +303,8 @@ fn take_free_node(nodes: &mut [u32], seats: &[u32], asking: u32) -> Result<u32, 
     Ok(node)
 }
 
-/// "The node gets the claim, next 0, mark 0; the seat gets phase 1, own, prev 0, cur = head."
+/// "The node gets the claim, next 0, mark 0." 02: "Reserve takes a node for a range and kind and puts the seat in a new phase
+/// 7, prev and cur 0"; "phase 6 fetches, goes to 7".
 fn fetch(nodes: &mut [u32], seats: &[u32], asking: u32, seat: &mut Seat, claim: Claim) -> Result<(), u32> {
     let node = take_free_node(nodes, seats, asking)?;
     nodes[place(node, START)] = claim.start;
@@ -305,7 +313,7 @@ fn fetch(nodes: &mut [u32], seats: &[u32], asking: u32, seat: &mut Seat, claim: 
     nodes[place(node, NEXT)] = 0;
     nodes[place(node, MARK)] = 0;
     seat[OWN] = node;
-    come_to(seat, WALKING, nodes[HEAD]);
+    come_to(seat, RESERVED);
     Ok(())
 }
 
@@ -380,13 +388,19 @@ fn count_place(nodes: &[u32], own: u32) -> usize {
 /// "Hold: phase 5, prev and cur 0." 02: "Clear, step and release keep [the two words] equal to the count over the seats."
 fn hold(nodes: &mut [u32], seat: &mut Seat) {
     nodes[count_place(nodes, seat[OWN])] += 1;
-    come_to(seat, HOLDING, 0);
+    come_to(seat, HOLDING);
 }
 
 /// "Withdraw: own is marked, phase 6, prev and cur 0, own kept."
 fn withdraw(nodes: &mut [u32], seat: &mut Seat) {
     nodes[place(seat[OWN], MARK)] = 1;
-    come_to(seat, WITHDRAWN, 0);
+    come_to(seat, WITHDRAWN);
+}
+
+/// 02: "Enter reads the head and goes to phase 1." No node changes, and prev, which is 0, is the head already.
+fn walk_from_head(nodes: &[u32], seat: &mut Seat) {
+    seat[PHASE] = WALKING;
+    seat[CUR] = nodes[HEAD];
 }
 
 /// "Cur 0: insert. cur marked: unlink. Else compare cur with own: +1: prev becomes cur, cur its next; 0: phase 2; −1: insert."
@@ -439,7 +453,8 @@ fn step_validating_writer(nodes: &mut [u32], seat: &mut Seat) {
     }
 }
 
-/// "The phase decides the step." The seat before and after; refusals 2, 6 and 8. The tables are known to be sound.
+/// "The phase decides the step." 02: "A step in phase 7 enters." The seat before and after; refusals 2, 6 and 8. The tables are
+/// known to be sound.
 fn step_sound(nodes: &mut [u32], seats: &mut [u32], number: u32) -> Result<(Seat, Seat), u32> {
     let before = load_seat(seats, number)?;
     let mut seat = before;
@@ -451,6 +466,7 @@ fn step_sound(nodes: &mut [u32], seats: &mut [u32], number: u32) -> Result<(Seat
         VALIDATING => step_validating_writer(nodes, &mut seat),
         READER_WAITING => step_waiting(nodes, &mut seat, VALIDATING),
         WITHDRAWN => fetch(nodes, seats, number, &mut seat, claim_of(nodes, before[OWN]))?,
+        RESERVED => walk_from_head(nodes, &mut seat),
         _ => {}
     }
     store_seat(seats, number, seat);
@@ -470,8 +486,16 @@ pub fn clear(nodes: &mut [u32], seats: &mut [u32], title: u32) -> Result<(), u32
     Ok(())
 }
 
-/// "Begin: `node n`." 02: "A claim may end at [the title's frame count] and not beyond"; a claim fetched again began so.
-pub fn begin(nodes: &mut [u32], seats: &mut [u32], seat: u32, start: u32, end: u32, kind: u32) -> Result<Answer, u32> {
+/// 02: "Reserve answers `node n`." Its refusals are those of 01's table, and 11, "after 3 and before 4": "a claim may end at
+/// [the title's frame count] and not beyond"; a claim fetched again was reserved so.
+pub fn reserve(
+    nodes: &mut [u32],
+    seats: &mut [u32],
+    seat: u32,
+    start: u32,
+    end: u32,
+    kind: u32,
+) -> Result<Answer, u32> {
     refuse(1, !sound(nodes, seats))?;
     let mut words = load_seat(seats, seat)?;
     refuse(3, start >= end)?;
@@ -483,8 +507,19 @@ pub fn begin(nodes: &mut [u32], seats: &mut [u32], seat: u32, start: u32, end: u
     Ok(Answer::Node(words[OWN]))
 }
 
-/// "Step, from the seat's new phase: 2 or 4 `wait n` with n = cur; 5 `held`; 6 `back`; else `on`." 02: a worker told `wait`
-/// "wants to know what it is waiting for", so each `wait` carries the run, whether it begins to wait or waits on.
+/// 02: "Enter `on`"; "enter in any phase but 7 is 14", in that of an idle seat too.
+pub fn enter(nodes: &[u32], seats: &mut [u32], seat: u32) -> Result<Answer, u32> {
+    refuse(1, !sound(nodes, seats))?;
+    let mut walker = load_seat(seats, seat)?;
+    refuse(14, walker[PHASE] != RESERVED)?;
+    walk_from_head(nodes, &mut walker);
+    store_seat(seats, seat, walker);
+    Ok(Answer::On)
+}
+
+/// "Step, from the seat's new phase: 2 or 4 `wait n` with n = cur; 5 `held`; 6 `back`; else `on`." 02: "phase 6 fetches, goes to
+/// 7 and answers `on`"; a worker told `wait` "wants to know what it is waiting for", so each `wait` carries the run, whether it
+/// begins to wait or waits on.
 pub fn step(nodes: &mut [u32], seats: &mut [u32], seat: u32) -> Result<Answer, u32> {
     refuse(1, !sound(nodes, seats))?;
     let (_, after) = step_sound(nodes, seats, seat)?;

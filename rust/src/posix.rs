@@ -8,7 +8,7 @@ use std::ops::Range;
 /// "Read and write a list of those: type (1 read, 2 write), start and signed length from the beginning of the file."
 pub type Lock = [i64; 3];
 
-/// "Import gives begin's numbers": start, end and kind.
+/// "Import gives" the numbers that reserve takes: start, end and kind.
 pub type Claim = [u32; 3];
 
 /// A record has three words on either side. A rest at the end of a list is no record, and no room for one.

@@ -19,7 +19,7 @@ mod archive {
             seat_words: usize,
             title: u32,
         ) -> u64;
-        pub fn soodhiqune_begin(
+        pub fn soodhiqune_reserve(
             nodes: *mut u32,
             node_words: usize,
             seats: *mut u32,
@@ -28,6 +28,13 @@ mod archive {
             start: u32,
             end: u32,
             kind: u32,
+        ) -> u64;
+        pub fn soodhiqune_enter(
+            nodes: *const u32,
+            node_words: usize,
+            seats: *mut u32,
+            seat_words: usize,
+            seat: u32,
         ) -> u64;
         pub fn soodhiqune_step(
             nodes: *mut u32,
@@ -89,9 +96,9 @@ pub fn clear(nodes: &mut [u32], seats: &mut [u32], title: u32) -> u64 {
     unsafe { archive::soodhiqune_clear(nodes.as_mut_ptr(), nodes.len(), seats.as_mut_ptr(), seats.len(), title) }
 }
 
-pub fn begin(nodes: &mut [u32], seats: &mut [u32], seat: u32, start: u32, end: u32, kind: u32) -> u64 {
+pub fn reserve(nodes: &mut [u32], seats: &mut [u32], seat: u32, start: u32, end: u32, kind: u32) -> u64 {
     unsafe {
-        archive::soodhiqune_begin(
+        archive::soodhiqune_reserve(
             nodes.as_mut_ptr(),
             nodes.len(),
             seats.as_mut_ptr(),
@@ -102,6 +109,10 @@ pub fn begin(nodes: &mut [u32], seats: &mut [u32], seat: u32, start: u32, end: u
             kind,
         )
     }
+}
+
+pub fn enter(nodes: &[u32], seats: &mut [u32], seat: u32) -> u64 {
+    unsafe { archive::soodhiqune_enter(nodes.as_ptr(), nodes.len(), seats.as_mut_ptr(), seats.len(), seat) }
 }
 
 pub fn step(nodes: &mut [u32], seats: &mut [u32], seat: u32, shared: &mut Shared) -> u64 {

@@ -7,12 +7,13 @@ use crate::machine::{self, Answer, MOST_NODES, MOST_SEATS, ROW_WORDS};
 pub const MOST_ROWS: usize = 1000;
 pub const MOST_BYTES: usize = 16384;
 
-pub const BEGIN: u32 = 1;
+pub const RESERVE: u32 = 1;
 pub const STEP: u32 = 2;
 pub const RELEASE: u32 = 3;
+pub const ENTER: u32 = 4;
 
 /// "N, S, K and 1,000 rows by value, each a code (b 1, s 2, r 3) and four numbers; what a script does not fill is 0." 02: the
-/// title's frame count is the fourth number.
+/// title's frame count is the fourth number; `v` replaces `b` and has its code, and `e`, which is given none, has the next.
 pub struct Script {
     pub nodes: u32,
     pub seats: u32,
@@ -64,10 +65,11 @@ fn contents(fields: &[&[u8]]) -> Option<Script> {
     fits.then_some(Script { nodes, seats, count, title, rows: [[0; 5]; MOST_ROWS] })
 }
 
-/// "`b seat start end kind`, `s seat`, `r seat`."
+/// "`s seat`, `r seat`." 02: "Script lines `v`, fields as in `b`, and `e seat` replace `b`", which had "seat start end kind".
 fn body(fields: &[&[u8]]) -> Option<[u32; 5]> {
     match fields[0] {
-        b"b" => numbers(&fields[1..]).map(|[seat, start, end, kind]| [BEGIN, seat, start, end, kind]),
+        b"v" => numbers(&fields[1..]).map(|[seat, start, end, kind]| [RESERVE, seat, start, end, kind]),
+        b"e" => numbers(&fields[1..]).map(|[seat]| [ENTER, seat, 0, 0, 0]),
         b"s" => numbers(&fields[1..]).map(|[seat]| [STEP, seat, 0, 0, 0]),
         b"r" => numbers(&fields[1..]).map(|[seat]| [RELEASE, seat, 0, 0, 0]),
         _ => None,
@@ -97,7 +99,8 @@ pub fn read_script(bytes: &[u8]) -> Result<Script, u32> {
 /// The call that a body asks for.
 pub fn call(nodes: &mut [u32], seats: &mut [u32], row: [u32; 5]) -> Result<Answer, u32> {
     match row {
-        [BEGIN, seat, start, end, kind] => machine::begin(nodes, seats, seat, start, end, kind),
+        [RESERVE, seat, start, end, kind] => machine::reserve(nodes, seats, seat, start, end, kind),
+        [ENTER, seat, ..] => machine::enter(nodes, seats, seat),
         [STEP, seat, ..] => machine::step(nodes, seats, seat),
         [_, seat, ..] => machine::release(nodes, seats, seat),
     }

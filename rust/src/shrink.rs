@@ -42,7 +42,9 @@ fn without_seat(case: &Case, index: usize) -> Case {
         smaller.nodes[at] = smaller.nodes[at].saturating_sub(1);
     }
     match &mut smaller.call {
-        Call::Begin { seat, .. } | Call::Step { seat, .. } | Call::Release { seat } => renumber(seat),
+        Call::Reserve { seat, .. } | Call::Enter { seat } | Call::Step { seat, .. } | Call::Release { seat } => {
+            renumber(seat)
+        }
         Call::Run { entries, .. } => entries.iter_mut().for_each(renumber),
         Call::Clear { .. } | Call::Board { .. } | Call::FreeCount => {}
     }
@@ -63,9 +65,9 @@ fn lists(case: &mut Case) -> Vec<&mut Vec<u32>> {
 fn words(case: &mut Case) -> Vec<&mut u32> {
     let mut words: Vec<&mut u32> = case.nodes.iter_mut().chain(&mut case.seats).collect();
     match &mut case.call {
-        Call::Begin { seat, start, end, kind } => words.extend([seat, start, end, kind]),
+        Call::Reserve { seat, start, end, kind } => words.extend([seat, start, end, kind]),
         Call::Step { seat, shared } => words.extend([seat].into_iter().chain(shared)),
-        Call::Release { seat } => words.push(seat),
+        Call::Enter { seat } | Call::Release { seat } => words.push(seat),
         Call::Run { entries, budget } => words.extend(entries.iter_mut().chain([budget])),
         Call::Board { rows } => words.extend(rows),
         Call::Clear { title } => words.push(title),

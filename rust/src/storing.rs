@@ -79,11 +79,18 @@ fn links_that_differ(nodes: &[u32]) -> Vec<Link> {
     links.zip(then).filter(|&(link, then)| nodes[link] != then).collect()
 }
 
-/// "The node gets the claim, next 0, mark 0; the seat gets phase 1, own, prev 0, cur = head." If none was free, "the marked
-/// nodes on the list are first taken out".
+/// "The node gets the claim, next 0, mark 0." If none was free, "the marked nodes on the list are first taken out". 02: the
+/// seat gets phase 7 and own; prev and cur, which are to be 0, are 0 already.
 fn fetch(case: &Case, seat: u32, node: u32) -> Allowed {
     let links = if some_node_is_free(case, seat) { vec![] } else { links_that_differ(&case.nodes) };
-    Allowed { nodes: vec![words(place(node, START), NODE_WORDS)], seats: vec![words_of_seat(seat)], links }
+    let phase_and_own = words(words_of_seat(seat).start + PHASE, 2);
+    Allowed { nodes: vec![words(place(node, START), NODE_WORDS)], seats: vec![phase_and_own], links }
+}
+
+/// 02: "Enter reads the head and goes to phase 1": the seat gets that phase, and cur; no node changes.
+fn enter(seat: u32) -> Allowed {
+    let phase_and_cur = [PHASE, CUR].map(|field| one_word(words_of_seat(seat).start + field));
+    Allowed { seats: phase_and_cur.to_vec(), ..Allowed::default() }
 }
 
 fn count_of(nodes: &[u32], node: u32) -> usize {
@@ -154,7 +161,8 @@ fn allowed(case: &Case, watched: &Watched) -> Allowed {
             let whole = |table: &[u32]| vec![words(0, table.len())];
             Allowed { nodes: whole(&case.nodes), seats: whole(&case.seats), ..Allowed::default() }
         }
-        &Call::Begin { seat, .. } => fetch(case, seat, watched.answer as u32),
+        &Call::Reserve { seat, .. } => fetch(case, seat, watched.answer as u32),
+        &Call::Enter { seat } => enter(seat),
         &Call::Step { seat, .. } => step(case, seat, seats_after),
         &Call::Release { seat } => release(case, seat),
         Call::Run { entries, .. } => run(case, entries, seats_after),
@@ -193,15 +201,19 @@ fn link_text((word, value): &Link) -> String {
 pub const TAKEN_OUT_OF_REACHED: &str = "taken out: in tables reached from fresh ones";
 
 /// The kinds of calls, each of which must be met: a watcher of calls that store nothing says nothing.
-pub const KINDS: [&str; 36] = [
+pub const KINDS: [&str; 42] = [
     "clear",
     "clear, refused",
-    "begin, a node is free",
-    "begin, a node is free, and marked ones stay listed",
-    "begin, marked nodes are taken out",
-    "begin, refused 8, no listed node is marked",
-    "begin, refused 8, marked nodes are listed",
-    "begin, refused otherwise",
+    "reserve, a node is free",
+    "reserve, a node is free, and marked ones stay listed",
+    "reserve, marked nodes are taken out",
+    "reserve, refused 8, no listed node is marked",
+    "reserve, refused 8, marked nodes are listed",
+    "reserve, refused otherwise",
+    "enter, no node is listed",
+    "enter, a node is listed",
+    "enter, refused 14",
+    "enter, refused otherwise",
     "step in phase 1",
     "step in phase 2",
     "step in phase 3",
@@ -210,10 +222,12 @@ pub const KINDS: [&str; 36] = [
     "step in phase 6, a node is free",
     "step in phase 6, marked nodes are taken out",
     "step in phase 6, refused 8",
+    "step in phase 7",
     "step, refused otherwise",
     "release",
     "release, refused",
     "run of one entry",
+    "run of one entry in phase 7",
     "run of one entry, marked nodes are taken out",
     "run of several entries",
     "run that makes no step",
@@ -240,16 +254,20 @@ fn call_kind(case: &Case, refusal: Option<u32>, takes_out: bool) -> &'static str
     match (&case.call, refusal) {
         (Call::Clear { .. }, None) => "clear",
         (Call::Clear { .. }, _) => "clear, refused",
-        (Call::Begin { .. }, None) if takes_out => "begin, marked nodes are taken out",
-        (Call::Begin { .. }, None) if some_listed_is_marked(&case.nodes) => {
-            "begin, a node is free, and marked ones stay listed"
+        (Call::Reserve { .. }, None) if takes_out => "reserve, marked nodes are taken out",
+        (Call::Reserve { .. }, None) if some_listed_is_marked(&case.nodes) => {
+            "reserve, a node is free, and marked ones stay listed"
         }
-        (Call::Begin { .. }, None) => "begin, a node is free",
-        (Call::Begin { .. }, Some(8)) if some_listed_is_marked(&case.nodes) => {
-            "begin, refused 8, marked nodes are listed"
+        (Call::Reserve { .. }, None) => "reserve, a node is free",
+        (Call::Reserve { .. }, Some(8)) if some_listed_is_marked(&case.nodes) => {
+            "reserve, refused 8, marked nodes are listed"
         }
-        (Call::Begin { .. }, Some(8)) => "begin, refused 8, no listed node is marked",
-        (Call::Begin { .. }, _) => "begin, refused otherwise",
+        (Call::Reserve { .. }, Some(8)) => "reserve, refused 8, no listed node is marked",
+        (Call::Reserve { .. }, _) => "reserve, refused otherwise",
+        (Call::Enter { .. }, None) if case.nodes[HEAD] == 0 => "enter, no node is listed",
+        (Call::Enter { .. }, None) => "enter, a node is listed",
+        (Call::Enter { .. }, Some(14)) => "enter, refused 14",
+        (Call::Enter { .. }, _) => "enter, refused otherwise",
         (Call::Step { .. }, None) if takes_out => "step in phase 6, marked nodes are taken out",
         (&Call::Step { seat, .. }, None) => match case.seats[words_of_seat(seat)][PHASE] {
             WALKING => "step in phase 1",
@@ -257,7 +275,8 @@ fn call_kind(case: &Case, refusal: Option<u32>, takes_out: bool) -> &'static str
             VALIDATING => "step in phase 3",
             READER_WAITING => "step in phase 4",
             HOLDING => "step in phase 5",
-            _ => "step in phase 6, a node is free",
+            WITHDRAWN => "step in phase 6, a node is free",
+            _ => "step in phase 7",
         },
         (Call::Step { .. }, Some(8)) => "step in phase 6, refused 8",
         (Call::Step { .. }, _) => "step, refused otherwise",
@@ -265,7 +284,10 @@ fn call_kind(case: &Case, refusal: Option<u32>, takes_out: bool) -> &'static str
         (Call::Release { .. }, _) => "release, refused",
         (Call::Run { .. }, Some(_)) => "run that makes no step",
         (Call::Run { .. }, _) if takes_out => "run of one entry, marked nodes are taken out",
-        (Call::Run { entries, .. }, _) if entries.len() == 1 => "run of one entry",
+        (Call::Run { entries, .. }, _) if entries.len() == 1 => match case.seats[words_of_seat(entries[0])][PHASE] {
+            RESERVED => "run of one entry in phase 7",
+            _ => "run of one entry",
+        },
         (Call::Run { .. }, _) => "run of several entries",
         (Call::Board { .. }, None) => "board",
         (Call::Board { .. }, _) => "board, refused",

@@ -152,10 +152,14 @@ fn put_seat(random: &mut Random, phase: u32, seat: &mut [u32], nodes: &[u32], na
     }
     seat[PHASE] = phase;
     seat[OWN] = own;
-    if phase != HOLDING && phase != WITHDRAWN {
+    if ![HOLDING, WITHDRAWN, RESERVED].contains(&phase) {
         seat[PREV] = prev;
         seat[CUR] = cur;
     }
+}
+
+fn some_phase(random: &mut Random) -> u32 {
+    random.between(IDLE, RESERVED)
 }
 
 /// Sound words at random, with a claim in the named nodes, some of which are listed, and the seats in these phases.
@@ -194,7 +198,7 @@ pub fn sound_words(random: &mut Random) -> Tables {
     let zeros = random.pick(&[0, 20, 50]);
     let named: Vec<u32> = (1..=node_count).filter(|_| !random.percent(zeros)).collect();
     let list_length = if random.percent(20) { named.len() } else { random.between(0, named.len() as u32) as usize };
-    let phases: Vec<u32> = (0..seat_count).map(|_| random.below(7)).collect();
+    let phases: Vec<u32> = (0..seat_count).map(|_| some_phase(random)).collect();
     sound_with(random, CLOSE, node_count, &named, list_length, &phases)
 }
 
@@ -206,7 +210,7 @@ pub fn many_holders(random: &mut Random) -> Tables {
     let named: Vec<u32> = (1..=node_count).collect();
     let list_length = random.between(0, node_count) as usize;
     let phases: Vec<u32> =
-        (0..seat_count).map(|_| if random.percent(80) { HOLDING } else { random.below(7) }).collect();
+        (0..seat_count).map(|_| if random.percent(80) { HOLDING } else { some_phase(random) }).collect();
     let frames = random.pick(&[CLOSE, APART]);
     sound_with(random, frames, node_count, &named, list_length, &phases)
 }
@@ -219,9 +223,26 @@ pub fn many_waiters(random: &mut Random) -> Tables {
     let list_length = random.between(0, node_count) as usize;
     let waiting = [WAITING_TO_ENTER, READER_WAITING];
     let phases: Vec<u32> =
-        (0..seat_count).map(|_| if random.percent(80) { random.pick(&waiting) } else { random.below(7) }).collect();
-    let frames = random.pick(&[CLOSE, MEETING, LAST]);
+        (0..seat_count).map(|_| if random.percent(80) { random.pick(&waiting) } else { some_phase(random) }).collect();
+    let frames = random.pick(&[CLOSE, MEETING, LAST, LAST]);
     sound_with(random, frames, node_count, &named, list_length, &phases)
+}
+
+/// Sound words at random in which most seats have reserved a node: off the list as it should be, or listed, marked, or the node
+/// of another seat too. Beside them are seats in any phase, and so few nodes that fetch, which must leave reserved ones alone,
+/// often finds none.
+pub fn many_reserved(random: &mut Random) -> Tables {
+    let (node_count, seat_count) = (random.between(1, 8), random.between(1, 6));
+    let zeros = random.pick(&[0, 30]);
+    let named: Vec<u32> = (1..=node_count).filter(|_| !random.percent(zeros)).collect();
+    let list_length = random.between(0, named.len() as u32) as usize;
+    let phases: Vec<u32> = (0..seat_count)
+        .map(|_| {
+            let any_phase = some_phase(random);
+            random.pick(&[RESERVED, RESERVED, RESERVED, IDLE, any_phase])
+        })
+        .collect();
+    sound_with(random, CLOSE, node_count, &named, list_length, &phases)
 }
 
 /// Marks for a list so long: on none of it or on all, at its head, in its middle or at its end, on every second node, or here
@@ -250,7 +271,7 @@ pub fn full_lists(random: &mut Random) -> Tables {
     let left_out = if random.percent(70) { 0 } else { random.below(3).min(node_count - 1) };
     let busy = random.pick(&[0, 20, 60]);
     let phases: Vec<u32> = (0..seat_count)
-        .map(|_| if random.percent(busy) { random.below(7) } else { random.pick(&[IDLE, WITHDRAWN]) })
+        .map(|_| if random.percent(busy) { some_phase(random) } else { random.pick(&[IDLE, WITHDRAWN]) })
         .collect();
     let (mut nodes, seats) = sound_with(random, CLOSE, node_count, &named, (node_count - left_out) as usize, &phases);
     let list: Vec<u32> = listed(&nodes).collect();
@@ -264,8 +285,8 @@ pub fn full_lists(random: &mut Random) -> Tables {
 /// two are not, and there is a seat in each phase.
 fn ample(random: &mut Random) -> Tables {
     let named = [1, 2, 3, 4];
-    let mut phases = [0, 1, 2, 3, 4, 5, 6];
-    phases.rotate_left(random.below(7) as usize);
+    let mut phases = [0, 1, 2, 3, 4, 5, 6, 7];
+    phases.rotate_left(random.below(8) as usize);
     sound_with(random, CLOSE, 5, &named, 2, &phases)
 }
 
@@ -316,11 +337,13 @@ pub const DAMAGES: &[Damage] = &[
     ("next at a node of zeros", |random, nodes, _| *claim_word(random, nodes, NEXT) = ZERO_NODE),
     ("head past N", |_, nodes, _| nodes[HEAD] = 6),
     ("head at a node of zeros", |_, nodes, _| nodes[HEAD] = ZERO_NODE),
-    ("phase 7", |random, _, seats| seat_in(seats, random.between(1, 6))[PHASE] = 7),
-    ("phase 4294967295", |random, _, seats| seat_in(seats, random.between(1, 6))[PHASE] = u32::MAX),
-    ("own past N", |random, _, seats| seat_in(seats, random.between(1, 6))[OWN] = 6),
-    ("own at a node of zeros", |random, _, seats| seat_in(seats, random.between(1, 6))[OWN] = ZERO_NODE),
-    ("own 0 while under way", |random, _, seats| seat_in(seats, random.between(1, 6))[OWN] = 0),
+    ("phase 8", |random, _, seats| seat_in(seats, random.between(1, 7))[PHASE] = 8),
+    ("phase 8 for 7", |_, _, seats| seat_in(seats, RESERVED)[PHASE] = 8),
+    ("phase 15", |random, _, seats| seat_in(seats, random.between(1, 7))[PHASE] = 15),
+    ("phase 4294967295", |random, _, seats| seat_in(seats, random.between(1, 7))[PHASE] = u32::MAX),
+    ("own past N", |random, _, seats| seat_in(seats, random.between(1, 7))[OWN] = 6),
+    ("own at a node of zeros", |random, _, seats| seat_in(seats, random.between(1, 7))[OWN] = ZERO_NODE),
+    ("own 0 while under way", |random, _, seats| seat_in(seats, random.between(1, 7))[OWN] = 0),
     ("prev past N", |random, _, seats| seat_in(seats, random.between(1, 4))[PREV] = 6),
     ("prev at a node of zeros", |random, _, seats| seat_in(seats, random.between(1, 4))[PREV] = ZERO_NODE),
     ("cur past N", |random, _, seats| seat_in(seats, random.between(1, 4))[CUR] = 6),
@@ -334,6 +357,17 @@ pub const DAMAGES: &[Damage] = &[
     ("holding with cur", |_, _, seats| seat_in(seats, HOLDING)[CUR] = 1),
     ("withdrawn with prev", |_, _, seats| seat_in(seats, WITHDRAWN)[PREV] = 1),
     ("withdrawn with cur", |_, _, seats| seat_in(seats, WITHDRAWN)[CUR] = 1),
+    ("reserved with prev", |_, _, seats| seat_in(seats, RESERVED)[PREV] = 1),
+    ("reserved with cur", |_, _, seats| seat_in(seats, RESERVED)[CUR] = 1),
+    ("reserved with cur at the head", |_, nodes, seats| seat_in(seats, RESERVED)[CUR] = nodes[HEAD]),
+    ("reserved with own 0", |_, _, seats| seat_in(seats, RESERVED)[OWN] = 0),
+    ("reserved with own past N", |_, _, seats| seat_in(seats, RESERVED)[OWN] = 6),
+    ("reserved with own at a node of zeros", |_, _, seats| seat_in(seats, RESERVED)[OWN] = ZERO_NODE),
+    ("idle but for phase 7", |_, _, seats| seat_in(seats, IDLE)[PHASE] = RESERVED),
+    ("waiting but for phase 7", |random, _, seats| {
+        let waiting = random.pick(&[WAITING_TO_ENTER, READER_WAITING]);
+        seat_in(seats, waiting)[PHASE] = RESERVED;
+    }),
     ("the first listed node links to itself", |_, nodes, _| {
         let first = nodes[HEAD];
         nodes[link(first)] = first;

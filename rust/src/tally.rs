@@ -4,12 +4,14 @@
 use crate::driver::{every_call, Call};
 use crate::lists::{names_met, some_export, some_import};
 use crate::machine::{self, Answer, CUR, END, HOLDING, IDLE, KIND, MOST_SEATS, OWN, PHASE, PREV, READERS, ROW_WORDS};
-use crate::machine::{READER_WAITING, READS, SEAT_WORDS, START, TITLE, VALIDATING, WAITING_TO_ENTER, WALKING};
-use crate::machine::{WITHDRAWN, WRITERS, WRITES};
+use crate::machine::{HEAD, READER_WAITING, READS, RESERVED, SEAT_WORDS, START, TITLE, VALIDATING, WAITING_TO_ENTER};
+use crate::machine::{WALKING, WITHDRAWN, WRITERS, WRITES};
 use crate::random::Random;
-use crate::script::{call, read_script, BEGIN};
-use crate::tables::{any_words, damaged, largest_end, many_holders, many_waiters, miscounted, mistitled, put_counts};
-use crate::tables::{sound_words, Tables, DAMAGES, MISCOUNTS, MISTITLES};
+use crate::script::{call, read_script, ENTER, RESERVE};
+use crate::tables::{
+    any_words, damaged, largest_end, many_holders, many_reserved, many_waiters, miscounted, mistitled,
+};
+use crate::tables::{put_counts, sound_words, Tables, DAMAGES, MISCOUNTS, MISTITLES};
 use std::collections::{BTreeMap, BTreeSet};
 use std::ops::Range;
 
@@ -46,6 +48,7 @@ fn step_name(nodes: &[u32], before: &[u32], after: &[u32]) -> &'static str {
         (READER_WAITING, _) => "step: reader waits on in phase 4",
         (WITHDRAWN, _) if before[OWN] == after[OWN] => "step: fetch after withdrawal, the same node",
         (WITHDRAWN, _) => "step: fetch after withdrawal, another node",
+        (RESERVED, _) => "step: enters in phase 7",
         _ => "step: of a holder",
     }
 }
@@ -74,21 +77,62 @@ fn clear_name((nodes, seats): &Tables, title: u32) -> &'static str {
     }
 }
 
-/// What a begin meets that 11, "end beyond the title", or its place among the refusals, can make go wrong, if it does.
-fn begin_name(nodes: &[u32], seat: &[u32], [start, end, kind]: [u32; 3]) -> Option<&'static str> {
+/// What a reserve meets that 11, "end beyond the title", or its place among the refusals, can make go wrong, if it does.
+fn reserve_name(nodes: &[u32], seat: &[u32], [start, end, kind]: [u32; 3]) -> Option<&'static str> {
     let title = nodes[TITLE];
     let known_kind = kind == READS || kind == WRITES;
     match (start < end, known_kind, seat[PHASE] == IDLE) {
-        (false, ..) if end > title => Some("begin: beyond the title, and empty"),
-        (true, false, _) if end > title => Some("begin: beyond the title, of no known kind"),
-        (true, true, false) if end > title => Some("begin: beyond the title, by a seat that has a claim"),
-        (true, true, true) if end > title && end - title > 1 => Some("begin: beyond the title"),
-        (true, true, true) if end > title => Some("begin: beyond the title by a frame"),
-        (true, false, _) if end == title => Some("begin: up to the title, of no known kind"),
-        (true, true, false) if end == title => Some("begin: up to the title, by a seat that has a claim"),
-        (true, true, true) if end == title => Some("begin: up to the title"),
+        (false, ..) if end > title => Some("reserve: beyond the title, and empty"),
+        (true, false, _) if end > title => Some("reserve: beyond the title, of no known kind"),
+        (true, true, false) if end > title => Some("reserve: beyond the title, by a seat that has a claim"),
+        (true, true, true) if end > title && end - title > 1 => Some("reserve: beyond the title"),
+        (true, true, true) if end > title => Some("reserve: beyond the title by a frame"),
+        (true, false, _) if end == title => Some("reserve: up to the title, of no known kind"),
+        (true, true, false) if end == title => Some("reserve: up to the title, by a seat that has a claim"),
+        (true, true, true) if end == title => Some("reserve: up to the title"),
         _ => None,
     }
+}
+
+/// A seat that enters, by enter or by a step, in tables before that.
+struct Entry<'a> {
+    nodes: &'a [u32],
+    seats: &'a [u32],
+    own: u32,
+}
+
+impl Entry<'_> {
+    fn head_is(&self, wanted: impl Fn(u32) -> bool) -> bool {
+        self.nodes[HEAD] != 0 && wanted(self.nodes[HEAD])
+    }
+
+    fn seats_with_own_node(&self) -> usize {
+        self.seats.chunks_exact(SEAT_WORDS).filter(|seat| seat[OWN] == self.own).count()
+    }
+}
+
+type Entering = (&'static str, fn(&Entry) -> bool);
+
+/// What a seat can meet that enters: what is read of the head, and a node of its own that no call has left so.
+const ENTRIES: [Entering; 6] = [
+    ("no node is listed", |entry| entry.nodes[HEAD] == 0),
+    ("the first listed node is unmarked", |entry| entry.head_is(|node| !machine::marked(entry.nodes, node))),
+    ("the first listed node is marked", |entry| entry.head_is(|node| machine::marked(entry.nodes, node))),
+    // only in tables that were never reached
+    ("its own node is listed", |entry| machine::listed(entry.nodes).any(|node| node == entry.own)),
+    ("its own node is marked", |entry| machine::marked(entry.nodes, entry.own)),
+    ("its own node is another seat's too", |entry| entry.seats_with_own_node() > 1),
+];
+
+/// The tables without the claims of other reserved seats: a fetch that takes another node there has left theirs alone.
+fn without_reserved((nodes, seats): &Tables, asking: u32) -> Tables {
+    let mut seats = seats.clone();
+    for (number, seat) in (0..).zip(seats.chunks_exact_mut(SEAT_WORDS)) {
+        if number != asking && seat[PHASE] == RESERVED {
+            seat.fill(0);
+        }
+    }
+    (nodes.clone(), seats)
 }
 
 type Run = Range<u32>;
@@ -180,6 +224,17 @@ const WAITS: [Waiting; 23] = [
     ("wait: at its own node, in phase 4", |wait| wait.at_own && wait.phase == READER_WAITING),
 ];
 
+type Family = (&'static str, fn(&mut Random) -> Tables);
+
+/// The tables of a round that are not made to be damaged.
+const FAMILIES: [Family; 5] = [
+    ("any words", any_words),
+    ("sound words", sound_words),
+    ("many holders", many_holders),
+    ("many waiters", many_waiters),
+    ("many reserved", many_reserved),
+];
+
 impl Tally {
     fn count(&mut self, name: impl Into<String>) {
         *self.counts.entry(name.into()).or_insert(0) += 1;
@@ -196,11 +251,42 @@ impl Tally {
         self.see("the most writers holding at once", nodes[WRITERS]);
     }
 
-    /// Counts what a begin meets at the title's end, in sound tables.
-    fn count_begin(&mut self, nodes: &[u32], seats: &[u32], seat: u32, claim: [u32; 3]) {
+    /// Counts what a reserve meets at the title's end, in sound tables.
+    fn count_reserve(&mut self, nodes: &[u32], seats: &[u32], seat: u32, claim: [u32; 3]) {
         let words = seats.chunks_exact(SEAT_WORDS).nth(seat as usize);
-        if let Some(name) = words.and_then(|words| begin_name(nodes, words, claim)) {
+        if let Some(name) = words.and_then(|words| reserve_name(nodes, words, claim)) {
             self.count(name);
+        }
+    }
+
+    /// Counts what an enter, or a step in phase 7, meets in tables of any words: the phase of the seat if it is refused 14.
+    fn count_enter(&mut self, by: &str, (nodes, seats): &Tables, seat: u32) {
+        match machine::enter(nodes, &mut seats.clone(), seat) {
+            Err(14) => self.count(format!("{by}: refused in phase {}", seats[SEAT_WORDS * seat as usize + PHASE])),
+            Err(refusal) => self.count(format!("{by}: refused {refusal}")),
+            Ok(_) => {
+                let entry = Entry { nodes, seats, own: seats[SEAT_WORDS * seat as usize + OWN] };
+                for (name, _) in ENTRIES.iter().filter(|(_, met)| met(&entry)) {
+                    self.count(format!("{by}: {name}"));
+                }
+            }
+        }
+    }
+
+    /// Counts a fetch, by reserve or by a step in phase 6, that leaves the node of a reserved seat alone.
+    fn count_fetch(
+        &mut self,
+        by: &str,
+        tables: &Tables,
+        seat: u32,
+        fetch: impl Fn(&mut Tables) -> Result<Answer, u32>,
+    ) {
+        let own_then = |mut tables: Tables| {
+            let answer = fetch(&mut tables);
+            answer.map(|_| tables.1[SEAT_WORDS * seat as usize + OWN])
+        };
+        if own_then(tables.clone()) != own_then(without_reserved(tables, seat)) {
+            self.count(format!("{by}: the node of a reserved seat is left alone"));
         }
     }
 
@@ -213,29 +299,35 @@ impl Tally {
     }
 
     fn count_call(&mut self, nodes: &mut [u32], seats: &mut [u32], row: [u32; 5]) {
-        let (nodes_before, seats_before) = (nodes.to_vec(), seats.to_vec());
-        if let [BEGIN, seat, start, end, kind] = row {
-            self.count_begin(nodes, seats, seat, [start, end, kind]);
+        let tables_before = (nodes.to_vec(), seats.to_vec());
+        match row {
+            [RESERVE, seat, start, end, kind] => self.count_reserve(nodes, seats, seat, [start, end, kind]),
+            [ENTER, seat, ..] => self.count_enter("enter", &tables_before, seat),
+            _ => {}
         }
         let answer = call(nodes, seats, row);
-        let call_name = ["begin", "step", "release"][row[0] as usize - 1];
+        let call_name = ["reserve", "step", "release", "enter"][row[0] as usize - 1];
         if let Err(refusal) = answer {
             return self.count(format!("refusal {refusal} of {call_name}"));
         }
         let place = SEAT_WORDS * row[1] as usize;
+        let (nodes_before, seats_before) = &tables_before;
         let (before, after) = (&seats_before[place..][..SEAT_WORDS], &seats[place..][..SEAT_WORDS]);
         self.count(match answer {
-            Ok(Answer::Node(_)) => "begin",
-            Ok(Answer::Out) if reads(&nodes_before, before) => "release of a reader",
+            Ok(Answer::Node(_)) => "reserve",
+            Ok(Answer::Out) if reads(nodes_before, before) => "release of a reader",
             Ok(Answer::Out) => "release of a writer",
-            _ => step_name(&nodes_before, before, after),
+            _ if row[0] == ENTER => "enter",
+            _ => step_name(nodes_before, before, after),
         });
         if let Ok(Answer::Wait { first, end, .. }) = answer {
             self.count_wait(nodes, after, first..end);
         }
-        let fetched = row[0] == BEGIN || before[PHASE] == WITHDRAWN;
-        if fetched && machine::listed(&nodes_before).ne(machine::listed(nodes)) {
-            self.count("fetch that takes marked nodes out");
+        if row[0] == RESERVE || before[PHASE] == WITHDRAWN {
+            if machine::listed(nodes_before).ne(machine::listed(nodes)) {
+                self.count("fetch that takes marked nodes out");
+            }
+            self.count_fetch(call_name, &tables_before, row[1], |(nodes, seats)| call(nodes, seats, row));
         }
         self.count_holding(nodes);
     }
@@ -309,21 +401,59 @@ impl Tally {
         }
     }
 
-    /// Counts what the calls that are compared on such tables meet of the title, and how they leave a seat waiting.
+    /// Counts what a step meets: how it leaves a seat waiting, in which way one enters, and that reserved nodes are left alone.
+    fn count_step(&mut self, tables: &Tables, seat: u32) {
+        let words = tables.1.chunks_exact(SEAT_WORDS).nth(seat as usize);
+        match words.map(|words| words[PHASE]) {
+            Some(RESERVED) => self.count_enter("step in phase 7", tables, seat),
+            Some(WITHDRAWN) => {
+                self.count_fetch("step", tables, seat, |(nodes, seats)| machine::step(nodes, seats, seat));
+            }
+            _ => {}
+        }
+        let (mut nodes, mut seats) = tables.clone();
+        if let Ok(Answer::Wait { first, end, .. }) = machine::step(&mut nodes, &mut seats, seat) {
+            self.count_wait(&nodes, &seats[SEAT_WORDS * seat as usize..], first..end);
+        }
+    }
+
+    /// Counts what a run comes to of a seat that fetches again, and of one that enters.
+    fn count_run(&mut self, (nodes, seats): &Tables, entries: &[u32], budget: u32) {
+        let (mut nodes, mut seats) = (nodes.clone(), seats.clone());
+        let mut fetched = BTreeSet::new();
+        for &seat in entries.iter().take(budget as usize) {
+            let phase = seats.get(SEAT_WORDS * seat as usize + PHASE).copied();
+            if machine::step(&mut nodes, &mut seats, seat).is_err() {
+                return;
+            }
+            match phase {
+                Some(WITHDRAWN) => {
+                    fetched.insert(seat);
+                    self.count("run: a step in phase 6");
+                }
+                Some(RESERVED) if fetched.contains(&seat) => self.count("run: from phase 6 to 7 and to 1"),
+                Some(RESERVED) => self.count("run: a step in phase 7"),
+                _ => {}
+            }
+        }
+    }
+
+    /// Counts what the calls that are compared on such tables meet of the title, of reserved seats, and how they leave a seat
+    /// waiting.
     fn count_calls(&mut self, random: &mut Random, tables: &Tables) {
         let (nodes, seats) = tables;
         for call in every_call(random, tables) {
             match call {
                 Call::Clear { title } => self.count(clear_name(tables, title)),
-                Call::Begin { seat, start, end, kind } if machine::free_count(nodes, seats).is_ok() => {
-                    self.count_begin(nodes, seats, seat, [start, end, kind]);
+                Call::Reserve { seat, start, end, kind } if machine::free_count(nodes, seats).is_ok() => {
+                    self.count_reserve(nodes, seats, seat, [start, end, kind]);
+                    self.count_fetch("reserve", tables, seat, |(nodes, seats)| {
+                        machine::reserve(nodes, seats, seat, start, end, kind)
+                    });
                 }
-                Call::Step { seat, .. } => {
-                    let (mut nodes, mut seats) = tables.clone();
-                    if let Ok(Answer::Wait { first, end, .. }) = machine::step(&mut nodes, &mut seats, seat) {
-                        self.count_wait(&nodes, &seats[SEAT_WORDS * seat as usize..], first..end);
-                    }
-                }
+                Call::Enter { seat } => self.count_enter("enter", tables, seat),
+                Call::Step { seat, .. } => self.count_step(tables, seat),
+                Call::Run { entries, budget } => self.count_run(tables, &entries, budget),
                 _ => {}
             }
         }
@@ -337,9 +467,8 @@ impl Tally {
             self.count_calls(random, &tables);
         };
         for _ in 0..10 {
-            let families = [any_words(random), sound_words(random), many_holders(random), many_waiters(random)];
-            let names = ["any words", "sound words", "many holders", "many waiters"];
-            for (name, tables) in names.into_iter().zip(families) {
+            for (name, family) in FAMILIES {
+                let tables = family(random);
                 count(random, name, tables);
             }
         }

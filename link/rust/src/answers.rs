@@ -47,15 +47,15 @@ impl Display for Kind {
     }
 }
 
-/// What begin, step or release answers if it is accepted. It is displayed as the program prints it.
+/// What reserve, enter, step or release answers if it is accepted. It is displayed as the program prints it.
 #[derive(Clone, Copy, Debug, PartialEq, Eq, Hash)]
 #[non_exhaustive]
 pub enum Answer {
-    /// Begin: the claim has this node. Step it.
+    /// Reserve: the claim has this node. Enter it, or step it.
     Node(u32),
     /// Release: the seat is idle again.
     Out,
-    /// Step: the claim moved on. Step it again.
+    /// Enter and step: the claim moved on. Step it again.
     On,
     /// Step: the claim waits at this node, whose claim shares with it all frames from first up to but not including end, and no others.
     /// Step it again once that is released or withdrawn. In tables that these calls have not made, a claim may wait and share no frame:
@@ -63,7 +63,7 @@ pub enum Answer {
     Wait { node: u32, first: u32, end: u32 },
     /// Step: the claim holds its frames. The worker may write.
     Held,
-    /// Step: the claim was withdrawn, since a reader was there first. Step it again, and it takes a node anew.
+    /// Step: the claim was withdrawn, since a reader was there first. Step it again, and it takes a node anew, to enter with.
     Back,
 }
 
@@ -98,7 +98,7 @@ pub enum Refused {
     Damaged,
     /// 2: the seat's number is not below the number of seats.
     NoSuchSeat,
-    /// 3, of begin and export: the claim starts at its end, or behind it.
+    /// 3, of reserve and export: the claim starts at its end, or behind it.
     EmptyClaim,
     /// 3, of clear, import and export: the title has no frames.
     EmptyTitle,
@@ -110,13 +110,15 @@ pub enum Refused {
     BeyondTitle,
     /// 4: the kind is neither 1 nor 2.
     NoSuchKind,
-    /// 5: begin wants an idle seat.
+    /// 5: reserve wants an idle seat.
     SeatHasClaim,
     /// 6: step wants a seat with a claim.
     SeatIdle,
     /// 7: release wants a seat that holds.
     NotHolding,
-    /// 8: begin, or a step that takes a node anew, found no node free.
+    /// 14: enter wants a seat that has reserved a node and not entered.
+    NotReserved,
+    /// 8: reserve, or a step that takes a node anew, found no node free.
     NoNodeFree,
     /// 9, of the board: it has fewer rows than there are holders.
     BoardTooShort,
@@ -125,7 +127,7 @@ pub enum Refused {
 }
 
 impl Refused {
-    const ALL: [Refused; 14] = [
+    const ALL: [Refused; 15] = [
         Refused::Damaged,
         Refused::NoSuchSeat,
         Refused::EmptyClaim,
@@ -137,6 +139,7 @@ impl Refused {
         Refused::SeatHasClaim,
         Refused::SeatIdle,
         Refused::NotHolding,
+        Refused::NotReserved,
         Refused::NoNodeFree,
         Refused::BoardTooShort,
         Refused::ListTooShort,
@@ -156,6 +159,7 @@ impl Refused {
             Refused::SeatHasClaim => 5,
             Refused::SeatIdle => 6,
             Refused::NotHolding => 7,
+            Refused::NotReserved => 14,
             Refused::NoNodeFree => 8,
             Refused::BoardTooShort | Refused::ListTooShort => 9,
         }
@@ -187,6 +191,7 @@ impl Display for Refused {
             Refused::SeatHasClaim => "the seat has a claim already",
             Refused::SeatIdle => "the seat has no claim",
             Refused::NotHolding => "the seat does not hold",
+            Refused::NotReserved => "the seat has no node reserved to enter with",
             Refused::NoNodeFree => "no node is free",
             Refused::BoardTooShort => "the board has fewer rows than there are holders",
             Refused::ListTooShort => "there is room for fewer records than there are",
@@ -234,7 +239,7 @@ pub struct Lock {
     pub length: i64,
 }
 
-/// A claim's numbers as begin takes them: the frames from start up to but not including end, and what is done with them.
+/// A claim's numbers as reserve takes them: the frames from start up to but not including end, and what is done with them.
 #[derive(Clone, Copy, Debug, Default, PartialEq, Eq, Hash)]
 #[repr(C)]
 pub struct Claim {
@@ -245,7 +250,7 @@ pub struct Claim {
 }
 
 impl Claim {
-    /// The frames that it covers, for [`begin`](crate::Tables::begin).
+    /// The frames that it covers, for [`reserve`](crate::Tables::reserve).
     pub fn frames(self) -> Range<u32> {
         self.start..self.end
     }
@@ -382,7 +387,7 @@ mod tests {
 
     #[test]
     fn every_refusal_has_its_number_and_words_of_its_own() {
-        assert_eq!(Refused::ALL.map(Refused::number), [1, 2, 3, 3, 12, 13, 11, 4, 5, 6, 7, 8, 9, 9]);
+        assert_eq!(Refused::ALL.map(Refused::number), [1, 2, 3, 3, 12, 13, 11, 4, 5, 6, 7, 14, 8, 9, 9]);
         for (place, &refused) in Refused::ALL.iter().enumerate() {
             let told = match refused {
                 Refused::EmptyTitle => cleared(3),
@@ -426,7 +431,7 @@ mod tests {
 
     #[test]
     #[should_panic(expected = "answer 4")]
-    fn wait_is_no_answer_of_begin_or_release() {
+    fn wait_is_no_answer_of_reserve_enter_or_release() {
         let _ = answer(4 << 32);
     }
 

@@ -5,7 +5,7 @@ use crate::answers::Moved;
 
 extern "C" {
     pub fn soodhiqune_clear(nodes: *mut u32, node_words: usize, seats: *mut u32, seat_words: usize, title: u32) -> u64;
-    pub fn soodhiqune_begin(
+    pub fn soodhiqune_reserve(
         nodes: *mut u32,
         node_words: usize,
         seats: *mut u32,
@@ -15,6 +15,8 @@ extern "C" {
         end: u32,
         kind: u32,
     ) -> u64;
+    pub fn soodhiqune_enter(nodes: *const u32, node_words: usize, seats: *mut u32, seat_words: usize, seat: u32)
+        -> u64;
     pub fn soodhiqune_step(
         nodes: *mut u32,
         node_words: usize,

@@ -1,7 +1,7 @@
 //! The calls on tables and lists that stay the caller's: lent slices, as the archive takes them. Any slices and any numbers will do, and a
 //! refused call changes nothing. For who mirrors the tables on every store: a refused call, the board and the free count store nothing in
-//! them, not even what stands there already, and where nodes are taken off the list only the links that differ are stored. The two tables of
-//! a call must be those of one pair; [`Tables`](crate::Tables) keeps them together.
+//! them, not even what stands there already, where nodes are taken off the list only the links that differ are stored, and enter stores two
+//! words of its seat. The two tables of a call must be those of one pair; [`Tables`](crate::Tables) keeps them together.
 
 use crate::answers::{answer, cleared, count, moved, ran, stepped, well_formed};
 use crate::answers::{Answer, BadScript, Claim, Lock, NotMoved, Ran, Refused, Row, Shown};
@@ -60,9 +60,9 @@ pub fn clear(nodes: &mut [u32], seats: &mut [u32], title: u32) -> Result<(), Ref
     })
 }
 
-/// Takes a node for a claim of these frames, none of them beyond the title, and starts the seat's walk. The kind is a
-/// [`Kind`](crate::Kind) or a number.
-pub fn begin(
+/// Takes a node for a claim of these frames, none of them beyond the title: the seat has it from then on, though it enters later. The kind
+/// is a [`Kind`](crate::Kind) or a number.
+pub fn reserve(
     nodes: &mut [u32],
     seats: &mut [u32],
     seat: u32,
@@ -70,7 +70,7 @@ pub fn begin(
     kind: impl Into<u32>,
 ) -> Result<Answer, Refused> {
     answer(unsafe {
-        archive::soodhiqune_begin(
+        archive::soodhiqune_reserve(
             nodes.as_mut_ptr(),
             nodes.len(),
             seats.as_mut_ptr(),
@@ -83,7 +83,12 @@ pub fn begin(
     })
 }
 
-/// One step of a seat that has a claim.
+/// Lets a seat that has reserved a node come in, before the first claim on the list as it is now. The nodes are only read.
+pub fn enter(nodes: &[u32], seats: &mut [u32], seat: u32) -> Result<Answer, Refused> {
+    answer(unsafe { archive::soodhiqune_enter(nodes.as_ptr(), nodes.len(), seats.as_mut_ptr(), seats.len(), seat) })
+}
+
+/// One step of a seat that has a claim; of one that has reserved a node, it enters.
 pub fn step(nodes: &mut [u32], seats: &mut [u32], seat: u32) -> Result<Answer, Refused> {
     let mut shared = [0; 2];
     let given = unsafe {
@@ -144,8 +149,8 @@ pub fn free_count(nodes: &[u32], seats: &[u32]) -> Result<u32, Refused> {
     count(unsafe { archive::soodhiqune_free_count(nodes.as_ptr(), nodes.len(), seats.as_ptr(), seats.len()) })
 }
 
-/// The numbers of a script: N, S, K and the title's frame count, then five for each of 1,000 rows: a code (b 1, s 2, r 3), seat, start,
-/// end and kind; 0 where the script has none. Of one that is not well formed they stay as they were.
+/// The numbers of a script: N, S, K and the title's frame count, then five for each of 1,000 rows: a code (v 1, s 2, r 3, e 4), seat,
+/// start, end and kind; 0 where the script has none. Of one that is not well formed they stay as they were.
 pub fn read(script: &[u8], numbers: &mut [u32; SCRIPT_NUMBERS]) -> Result<(), BadScript> {
     well_formed(unsafe { archive::soodhiqune_read(script.as_ptr(), script.len(), numbers.as_mut_ptr()) })
 }

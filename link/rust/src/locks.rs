@@ -3,7 +3,7 @@
 use crate::answers::{Claim, Lock, NotMoved};
 use crate::lent;
 
-/// The claims that these locks are, in a title of so many frames: for [`begin`](crate::Tables::begin) on tables of that title.
+/// The claims that these locks are, in a title of so many frames: for [`reserve`](crate::Tables::reserve) on tables of that title.
 pub fn import(title: u32, locks: &[Lock]) -> Result<Vec<Claim>, NotMoved> {
     let mut claims = vec![Claim::default(); locks.len()];
     lent::import(title, locks, &mut claims).map(|()| claims)

@@ -16,17 +16,19 @@ pub struct Script {
 #[derive(Clone, Copy, Debug, PartialEq, Eq, Hash)]
 #[non_exhaustive]
 pub enum Line {
-    Begin { seat: u32, start: u32, end: u32, kind: u32 },
+    Reserve { seat: u32, start: u32, end: u32, kind: u32 },
     Step { seat: u32 },
     Release { seat: u32 },
+    Enter { seat: u32 },
 }
 
 impl Line {
     fn of(numbers: &[u32]) -> Line {
         match *numbers {
-            [1, seat, start, end, kind] => Line::Begin { seat, start, end, kind },
+            [1, seat, start, end, kind] => Line::Reserve { seat, start, end, kind },
             [2, seat, ..] => Line::Step { seat },
             [3, seat, ..] => Line::Release { seat },
+            [4, seat, ..] => Line::Enter { seat },
             _ => panic!("the archive that is linked read a line as {numbers:?}, which this package does not know"),
         }
     }

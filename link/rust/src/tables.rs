@@ -44,13 +44,18 @@ impl Tables {
         lent::clear(&mut self.nodes, &mut self.seats, title)
     }
 
-    /// Takes a node for a claim of these frames, none of them beyond the title, and starts the seat's walk. The kind is a
-    /// [`Kind`](crate::Kind) or a number.
-    pub fn begin(&mut self, seat: u32, frames: Range<u32>, kind: impl Into<u32>) -> Result<Answer, Refused> {
-        lent::begin(&mut self.nodes, &mut self.seats, seat, frames, kind)
+    /// Takes a node for a claim of these frames, none of them beyond the title: the seat has it from then on, though it enters later. The
+    /// kind is a [`Kind`](crate::Kind) or a number.
+    pub fn reserve(&mut self, seat: u32, frames: Range<u32>, kind: impl Into<u32>) -> Result<Answer, Refused> {
+        lent::reserve(&mut self.nodes, &mut self.seats, seat, frames, kind)
     }
 
-    /// One step of a seat that has a claim.
+    /// Lets a seat that has reserved a node come in, before the first claim on the list as it is now.
+    pub fn enter(&mut self, seat: u32) -> Result<Answer, Refused> {
+        lent::enter(&self.nodes, &mut self.seats, seat)
+    }
+
+    /// One step of a seat that has a claim; of one that has reserved a node, it enters.
     pub fn step(&mut self, seat: u32) -> Result<Answer, Refused> {
         lent::step(&mut self.nodes, &mut self.seats, seat)
     }

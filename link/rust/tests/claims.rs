@@ -1,5 +1,5 @@
-//! H1 of document 01 through tables that are owned and through lent ones, how many hold, which frames clash, and the edges of run and
-//! board.
+//! H1 of document 01 through tables that are owned and through lent ones, how many hold, which frames clash, nodes reserved before a seat
+//! enters, and the edges of run and board.
 
 use soodhiqune::lent::{self, node_words, seat_words, HOLDING_READERS, HOLDING_WRITERS};
 use soodhiqune::{Answer, Board, Kind, Ran, Refused, Row, Shown, Tables};
@@ -10,10 +10,12 @@ const SEAT_1_HOLDS: Row = Row { seat: 1, start: 15, end: 25, kind: 2 };
 /// H1 up to its end: seat 1 holds frames 15 up to 25.
 fn h1() -> Tables {
     let mut tables = Tables::new(4, 3, 25).unwrap();
-    assert_eq!(tables.begin(0, 10..20, Kind::Writes), Ok(Answer::Node(1)));
+    assert_eq!(tables.reserve(0, 10..20, Kind::Writes), Ok(Answer::Node(1)));
+    assert_eq!(tables.enter(0), Ok(Answer::On));
     assert_eq!(tables.step(0), Ok(Answer::On));
     assert_eq!(tables.step(0), Ok(Answer::Held));
-    assert_eq!(tables.begin(1, 15..25, Kind::Writes), Ok(Answer::Node(2)));
+    assert_eq!(tables.reserve(1, 15..25, Kind::Writes), Ok(Answer::Node(2)));
+    assert_eq!(tables.enter(1), Ok(Answer::On));
     assert_eq!(tables.step(1), Ok(Answer::Wait { node: 1, first: 15, end: 20 }));
     assert_eq!(tables.free_count(), Ok(2));
     assert_eq!(tables.release(0), Ok(Answer::Out));
@@ -31,9 +33,10 @@ fn h1_on_lent_tables_ends_in_the_same_words() {
     let (mut nodes, mut seats) = (vec![7; node_words(4)], vec![7; seat_words(3)]);
     assert_eq!(lent::step(&mut nodes, &mut seats, 0), Err(Refused::Damaged));
     assert_eq!(lent::clear(&mut nodes, &mut seats, 25), Ok(()));
-    assert_eq!(lent::begin(&mut nodes, &mut seats, 0, 10..20, Kind::Writes), Ok(Answer::Node(1)));
-    assert_eq!(lent::run(&mut nodes, &mut seats, &[0, 0], 9), Ran { steps: 2, refused: None });
-    assert_eq!(lent::begin(&mut nodes, &mut seats, 1, 15..25, 2_u32), Ok(Answer::Node(2)));
+    assert_eq!(lent::reserve(&mut nodes, &mut seats, 0, 10..20, Kind::Writes), Ok(Answer::Node(1)));
+    assert_eq!(lent::run(&mut nodes, &mut seats, &[0, 0, 0], 9), Ran { steps: 3, refused: None });
+    assert_eq!(lent::reserve(&mut nodes, &mut seats, 1, 15..25, 2_u32), Ok(Answer::Node(2)));
+    assert_eq!(lent::enter(&nodes, &mut seats, 1), Ok(Answer::On));
     assert_eq!(lent::step(&mut nodes, &mut seats, 1), Ok(Answer::Wait { node: 1, first: 15, end: 20 }));
     assert_eq!(lent::free_count(&nodes, &seats), Ok(2));
     assert_eq!(lent::release(&mut nodes, &mut seats, 0), Ok(Answer::Out));
@@ -56,7 +59,8 @@ fn the_rows_past_the_holders_stay() {
 fn a_frame_that_two_readers_hold_is_covered_once() {
     let mut tables = Tables::new(4, 4, 100).unwrap();
     for (seat, frames) in [(0, 0..100), (1, 50..60)] {
-        tables.begin(seat, frames, Kind::Reads).unwrap();
+        tables.reserve(seat, frames, Kind::Reads).unwrap();
+        tables.enter(seat).unwrap();
         while tables.step(seat).unwrap() != Answer::Held {}
     }
     let board = tables.board().unwrap();
@@ -78,7 +82,9 @@ fn how_many_hold_is_known_after_every_call() {
         [(0, 0..10, Kind::Reads, [1, 0]), (1, 5..10, Kind::Reads, [2, 0]), (2, 20..30, Kind::Writes, [2, 1])]
     {
         let before = holding(&tables);
-        tables.begin(seat, frames, kind).unwrap();
+        tables.reserve(seat, frames, kind).unwrap();
+        assert_eq!(holding(&tables), before);
+        tables.enter(seat).unwrap();
         assert_eq!(holding(&tables), before);
         while tables.step(seat).unwrap() != Answer::Held {
             assert_eq!(holding(&tables), before);
@@ -107,9 +113,10 @@ fn run_stops_at_its_end_its_budget_and_a_refused_entry() {
 /// What seat 1 is told that claims frames 15 up to 25, while seat 0 holds these.
 fn waits_at(frames: Range<u32>) -> Answer {
     let mut tables = Tables::new(2, 2, u32::MAX).unwrap();
-    tables.begin(0, frames, Kind::Reads).unwrap();
-    assert_eq!(tables.run(&[0; 2], 9), Ran { steps: 2, refused: None });
-    tables.begin(1, 15..25, Kind::Writes).unwrap();
+    tables.reserve(0, frames, Kind::Reads).unwrap();
+    assert_eq!(tables.run(&[0; 3], 9), Ran { steps: 3, refused: None });
+    tables.reserve(1, 15..25, Kind::Writes).unwrap();
+    tables.enter(1).unwrap();
     let answer = tables.step(1).unwrap();
     assert_eq!(tables.step(1), Ok(answer), "it waits on");
     answer
@@ -139,9 +146,10 @@ fn wait_names_the_frames_that_both_claims_cover() {
 #[test]
 fn a_claim_that_shares_no_frame_is_told_0_and_0() {
     let mut tables = Tables::new(2, 2, 25).unwrap();
-    tables.begin(0, 10..20, Kind::Writes).unwrap();
-    tables.run(&[0; 2], 9);
-    tables.begin(1, 15..25, Kind::Writes).unwrap();
+    tables.reserve(0, 10..20, Kind::Writes).unwrap();
+    tables.run(&[0; 3], 9);
+    tables.reserve(1, 15..25, Kind::Writes).unwrap();
+    tables.enter(1).unwrap();
     tables.step(1).unwrap();
     let (mut nodes, mut seats) = (tables.words().0.to_vec(), tables.words().1.to_vec());
     let (end_of_node_1, cur_of_seat_1) = (node_words(0) + 1, seat_words(1) + 3);
@@ -155,12 +163,13 @@ fn a_claim_that_shares_no_frame_is_told_0_and_0() {
 #[test]
 fn a_writer_that_meets_a_reader_goes_back() {
     let mut tables = Tables::new(8, 4, 20).unwrap();
-    tables.begin(0, 1..10, Kind::Reads).unwrap();
-    tables.run(&[0; 2], 9);
-    tables.begin(1, 12..14, Kind::Reads).unwrap();
-    tables.run(&[1; 3], 9);
-    tables.begin(2, 5..20, Kind::Reads).unwrap();
-    tables.begin(3, 15..20, Kind::Writes).unwrap();
+    tables.reserve(0, 1..10, Kind::Reads).unwrap();
+    tables.run(&[0; 3], 9);
+    tables.reserve(1, 12..14, Kind::Reads).unwrap();
+    tables.run(&[1; 4], 9);
+    tables.reserve(2, 5..20, Kind::Reads).unwrap();
+    tables.reserve(3, 15..20, Kind::Writes).unwrap();
+    assert_eq!([2, 3].map(|seat| tables.enter(seat)), [Ok(Answer::On); 2]);
     tables.run(&[3, 3, 2, 2, 3, 2], 9);
     for _ in 0..2 {
         assert_eq!(tables.step(2), Ok(Answer::Wait { node: 4, first: 15, end: 20 }));
@@ -169,6 +178,31 @@ fn a_writer_that_meets_a_reader_goes_back() {
     assert_eq!((tables.step(3), holding(&tables)), (Ok(Answer::Back), [2, 0]));
     assert_eq!(tables.step(2), Ok(Answer::On), "the reader's wait is over");
     assert_eq!(tables.step(3), Ok(Answer::On), "it takes a node anew, though its claim ends at the title");
+    assert_eq!(tables.enter(3), Ok(Answer::On), "and enters with it");
+    assert_eq!(tables.enter(3), Err(Refused::NotReserved));
+}
+
+/// The words of a seat: phase, own, prev, cur.
+fn seat(tables: &Tables, number: usize) -> [u32; 4] {
+    tables.words().1[seat_words(number)..][..seat_words(1)].try_into().unwrap()
+}
+
+#[test]
+fn workers_that_have_their_nodes_enter_in_another_order() {
+    let mut tables = Tables::new(3, 4, 100).unwrap();
+    for number in 0..3 {
+        assert_eq!(tables.reserve(number, 10 * number..100, Kind::Reads), Ok(Answer::Node(number + 1)));
+        assert_eq!(seat(&tables, number as usize), [7, number + 1, 0, 0]);
+    }
+    assert_eq!((tables.reserve(3, 0..1, Kind::Reads), tables.free_count()), (Err(Refused::NoNodeFree), Ok(0)));
+    assert_eq!((tables.enter(2), seat(&tables, 2)), (Ok(Answer::On), [1, 3, 0, 0]));
+    assert_eq!(tables.run(&[2; 2], 9), Ran { steps: 2, refused: None });
+    let nodes = tables.words().0.to_vec();
+    assert_eq!((tables.enter(0), seat(&tables, 0)), (Ok(Answer::On), [1, 1, 0, 3]), "the head as it is now");
+    assert_eq!(tables.words().0, nodes);
+    assert_eq!((tables.step(1), seat(&tables, 1)), (Ok(Answer::On), [1, 2, 0, 3]), "a step enters too");
+    while tables.step(0).unwrap() != Answer::Held || tables.step(1).unwrap() != Answer::Held {}
+    assert_eq!(holding(&tables), [3, 0]);
 }
 
 #[test]

@@ -99,10 +99,11 @@ fn lent_lists_keep_what_is_behind_the_records_and_all_of_it_if_refused() {
 }
 
 #[test]
-fn an_imported_claim_is_begun() {
+fn an_imported_claim_is_reserved() {
     let mut tables = Tables::new(2, 2, 20).unwrap();
     for (seat, claim) in (0..).zip(import(20, &[lock(2, 15, -5), lock(1, 15, 0)]).unwrap()) {
-        assert_eq!(tables.begin(seat, claim.frames(), claim.kind), Ok(Answer::Node(seat + 1)));
+        assert_eq!(tables.reserve(seat, claim.frames(), claim.kind), Ok(Answer::Node(seat + 1)));
+        assert_eq!(tables.enter(seat), Ok(Answer::On));
         while tables.step(seat).unwrap() != Answer::Held {}
     }
     let board = tables.board().unwrap().rows;

@@ -6,7 +6,8 @@ use soodhiqune::{Answer, Kind, Ran, Refused, Row, Tables};
 /// One node, which seat 0 holds; seat 1 is idle.
 fn seat_0_holds() -> Tables {
     let mut tables = Tables::new(1, 2, 10).unwrap();
-    tables.begin(0, 0..10, Kind::Writes).unwrap();
+    tables.reserve(0, 0..10, Kind::Writes).unwrap();
+    tables.enter(0).unwrap();
     assert_eq!(tables.run(&[0, 0], 9), Ran { steps: 2, refused: None });
     tables
 }
@@ -20,14 +21,17 @@ fn refuses(refused: Refused, call: impl Fn(&mut Tables) -> Result<Answer, Refuse
 
 #[test]
 fn the_first_refusal_that_holds_is_given() {
-    refuses(Refused::NoSuchSeat, |tables| tables.begin(2, 11..11, 9_u32));
-    refuses(Refused::EmptyClaim, |tables| tables.begin(0, 11..11, 9_u32));
-    refuses(Refused::BeyondTitle, |tables| tables.begin(0, 7..11, 9_u32));
-    refuses(Refused::BeyondTitle, |tables| tables.begin(0, 7..11, Kind::Reads));
-    refuses(Refused::BeyondTitle, |tables| tables.begin(1, 7..11, Kind::Reads));
-    refuses(Refused::NoSuchKind, |tables| tables.begin(0, 7..10, 9_u32));
-    refuses(Refused::SeatHasClaim, |tables| tables.begin(0, 7..10, Kind::Reads));
-    refuses(Refused::NoNodeFree, |tables| tables.begin(1, 7..10, Kind::Reads));
+    refuses(Refused::NoSuchSeat, |tables| tables.reserve(2, 11..11, 9_u32));
+    refuses(Refused::EmptyClaim, |tables| tables.reserve(0, 11..11, 9_u32));
+    refuses(Refused::BeyondTitle, |tables| tables.reserve(0, 7..11, 9_u32));
+    refuses(Refused::BeyondTitle, |tables| tables.reserve(0, 7..11, Kind::Reads));
+    refuses(Refused::BeyondTitle, |tables| tables.reserve(1, 7..11, Kind::Reads));
+    refuses(Refused::NoSuchKind, |tables| tables.reserve(0, 7..10, 9_u32));
+    refuses(Refused::SeatHasClaim, |tables| tables.reserve(0, 7..10, Kind::Reads));
+    refuses(Refused::NoNodeFree, |tables| tables.reserve(1, 7..10, Kind::Reads));
+    refuses(Refused::NoSuchSeat, |tables| tables.enter(2));
+    refuses(Refused::NotReserved, |tables| tables.enter(0));
+    refuses(Refused::NotReserved, |tables| tables.enter(1));
     refuses(Refused::NoSuchSeat, |tables| tables.step(u32::MAX));
     refuses(Refused::SeatIdle, |tables| tables.step(1));
     refuses(Refused::NoSuchSeat, |tables| tables.release(2));
@@ -38,7 +42,8 @@ fn the_first_refusal_that_holds_is_given() {
 fn all_find_damage(nodes: Vec<u32>, seats: Vec<u32>) {
     let before = Tables::from_words(nodes, seats);
     let mut tables = before.clone();
-    assert_eq!(tables.begin(0, 7..8, Kind::Reads), Err(Refused::Damaged));
+    assert_eq!(tables.reserve(0, 7..8, Kind::Reads), Err(Refused::Damaged));
+    assert_eq!(tables.enter(0), Err(Refused::Damaged));
     assert_eq!(tables.step(0), Err(Refused::Damaged));
     assert_eq!(tables.release(0), Err(Refused::Damaged));
     assert_eq!(tables.run(&[0], 9), Ran { steps: 0, refused: Some(Refused::Damaged) });
@@ -137,14 +142,32 @@ fn a_board_too_short_keeps_its_rows() {
     let (nodes, seats) = tables.words();
     assert_eq!(lent::board(nodes, seats, &mut []), Err(Refused::BoardTooShort));
     let mut both = Tables::new(2, 2, 1).unwrap();
-    both.begin(0, 0..1, Kind::Reads).unwrap();
-    both.run(&[0; 2], 9);
-    both.begin(1, 0..1, Kind::Reads).unwrap();
-    both.run(&[1; 3], 9);
+    both.reserve(0, 0..1, Kind::Reads).unwrap();
+    both.run(&[0; 3], 9);
+    both.reserve(1, 0..1, Kind::Reads).unwrap();
+    both.run(&[1; 4], 9);
     let (nodes, seats) = both.words();
     let mut rows = [Row { seat: 9, start: 9, end: 9, kind: 9 }];
     assert_eq!(lent::board(nodes, seats, &mut rows), Err(Refused::BoardTooShort));
     assert_eq!(rows, [Row { seat: 9, start: 9, end: 9, kind: 9 }]);
+}
+
+#[test]
+fn a_reserved_seat_has_a_claim_and_does_not_hold() {
+    let mut tables = Tables::new(2, 1, 10).unwrap();
+    tables.reserve(0, 0..10, Kind::Writes).unwrap();
+    let reserved = tables.clone();
+    assert_eq!(tables.reserve(0, 0..10, Kind::Writes), Err(Refused::SeatHasClaim));
+    assert_eq!(tables.release(0), Err(Refused::NotHolding));
+    assert_eq!(tables, reserved);
+    for (words, sound) in [([7, 1, 0, 0], true), ([7, 0, 0, 0], false), ([7, 1, 1, 0], false), ([8, 1, 0, 0], false)] {
+        let (nodes, _) = reserved.words();
+        if sound {
+            assert_eq!(lent::enter(nodes, &mut words.to_vec(), 0), Ok(Answer::On));
+        } else {
+            all_find_damage(nodes.to_vec(), words.to_vec());
+        }
+    }
 }
 
 #[test]

@@ -26,12 +26,13 @@ fn other_machine() -> Library {
 type Family = (&'static str, u32, fn(&mut Driver, &mut Random) -> Result<(), Difference>);
 
 /// What one round compares, and how often.
-const FAMILIES: [Family; 8] = [
+const FAMILIES: [Family; 9] = [
     ("histories from fresh tables", 2, Driver::history),
     ("any words", 200, Driver::any_words),
     ("sound words", 400, Driver::sound_words),
     ("many holders", 100, Driver::many_holders),
     ("many waiters", 100, Driver::many_waiters),
+    ("many reserved", 100, Driver::many_reserved),
     ("each clause of sound shape broken", 2, Driver::damages),
     ("scripts read and played", 1, Driver::scripts),
     (LISTS, 400, Driver::lists),

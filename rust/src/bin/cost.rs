@@ -38,7 +38,7 @@ fn idle(node_count: u32, seat_count: u32) -> Bench {
 fn holders_at(node_count: u32, places: Vec<u32>, kind: u32) -> Bench {
     let mut bench = idle(node_count, places.len() as u32 + 2);
     for (seat, place) in (0..).zip(places) {
-        bench.begin(seat, 10 * (place + 1), 10 * (place + 1) + 5, kind);
+        bench.enter(seat, 10 * (place + 1), 10 * (place + 1) + 5, kind);
         bench.step_until_held(seat);
     }
     bench
@@ -71,8 +71,14 @@ fn outward(count: u32) -> Vec<u32> {
 }
 
 impl Bench {
-    fn begin(&mut self, seat: u32, start: u32, end: u32, kind: u32) {
-        machine::begin(&mut self.nodes, &mut self.seats, seat, start, end, kind).expect("a node is free");
+    fn reserve(&mut self, seat: u32, start: u32, end: u32, kind: u32) {
+        machine::reserve(&mut self.nodes, &mut self.seats, seat, start, end, kind).expect("a node is free");
+    }
+
+    /// The seat reserves, and enters at once.
+    fn enter(&mut self, seat: u32, start: u32, end: u32, kind: u32) {
+        self.reserve(seat, start, end, kind);
+        machine::enter(&self.nodes, &mut self.seats, seat).expect("the seat has reserved");
     }
 
     fn step(&mut self, seat: u32) -> Answer {
@@ -88,22 +94,22 @@ impl Bench {
         self
     }
 
-    /// The seat has begun before all holders, over all of them or behind them, and has made some steps.
+    /// The seat has entered before all holders, over all of them or behind them, and has made some steps.
     fn before(self, seat: u32, kind: u32, steps: u32) -> Bench {
-        self.begun(seat, 0, 5, kind, steps)
+        self.entered(seat, 0, 5, kind, steps)
     }
 
     fn over(self, seat: u32, kind: u32, steps: u32) -> Bench {
-        self.begun(seat, 0, TITLE, kind, steps)
+        self.entered(seat, 0, TITLE, kind, steps)
     }
 
     fn behind(self, seat: u32, kind: u32, steps: u32) -> Bench {
         let first = 10 * (self.last + 1);
-        self.begun(seat, first, first + 5, kind, steps)
+        self.entered(seat, first, first + 5, kind, steps)
     }
 
-    fn begun(mut self, seat: u32, start: u32, end: u32, kind: u32, steps: u32) -> Bench {
-        self.begin(seat, start, end, kind);
+    fn entered(mut self, seat: u32, start: u32, end: u32, kind: u32, steps: u32) -> Bench {
+        self.enter(seat, start, end, kind);
         for _ in 0..steps {
             self.step(seat);
         }
@@ -167,9 +173,16 @@ impl Bench {
         self.call(Call::Board { rows: vec![0; 4 * rows as usize] })
     }
 
-    fn begins(self) -> Case {
+    fn reserves(self) -> Case {
         let seat = self.last;
-        self.call(Call::Begin { seat, start: 0, end: 5, kind: WRITES })
+        self.call(Call::Reserve { seat, start: 0, end: 5, kind: WRITES })
+    }
+
+    /// The seat has reserved a node, and makes this call.
+    fn reserved(mut self, call: fn(u32) -> Call) -> Case {
+        let seat = self.last;
+        self.reserve(seat, 0, 5, WRITES);
+        self.call(call(seat))
     }
 }
 
@@ -195,13 +208,13 @@ fn reader_before_writer(nodes: u32, seats: u32) -> Bench {
     bench.over(last, READS, 1 + beside)
 }
 
-/// All seats have begun, every fourth reads over all the others' frames, and a thousand steps follow in no order.
+/// All seats have entered, every fourth reads over all the others' frames, and a thousand steps follow in no order.
 fn long_run(node_count: u32, seat_count: u32) -> Case {
     let mut bench = idle(node_count, seat_count);
     for seat in 0..seat_count {
         let (start, end, kind) =
             if seat % 4 == 3 { (10 * seat, 2000, READS) } else { (10 * seat, 10 * seat + 15, WRITES) };
-        bench.begin(seat, start, end, kind);
+        bench.enter(seat, start, end, kind);
     }
     let mut random = Random::new(1);
     let entries = (0..1000).map(|_| random.below(seat_count)).collect();
@@ -212,16 +225,18 @@ type Operation = (&'static str, fn(u32, u32) -> Case);
 
 const OPERATIONS: &[Operation] = &[
     ("clear", |nodes, seats| holders(nodes, seats, WRITES).call(Call::Clear { title: TITLE })),
-    ("begin", |nodes, seats| holders(nodes, seats, WRITES).begins()),
-    ("begin, marked nodes are taken out", |nodes, seats| holders(nodes, seats, WRITES).full(1).begins()),
-    ("begin, every node is listed, one is marked", |nodes, seats| {
-        holders(nodes, seats, WRITES).full(0).one_marked().begins()
+    ("reserve", |nodes, seats| holders(nodes, seats, WRITES).reserves()),
+    ("reserve, marked nodes are taken out", |nodes, seats| holders(nodes, seats, WRITES).full(1).reserves()),
+    ("reserve, every node is listed, one is marked", |nodes, seats| {
+        holders(nodes, seats, WRITES).full(0).one_marked().reserves()
     }),
-    ("begin, every node is listed, every second is marked", |nodes, seats| {
-        holders(nodes, seats, WRITES).full(0).every_second_marked().begins()
+    ("reserve, every node is listed, every second is marked", |nodes, seats| {
+        holders(nodes, seats, WRITES).full(0).every_second_marked().reserves()
     }),
-    ("begin, every node is listed, all are marked", |nodes, seats| idle(nodes, seats).full(1).begins()),
-    ("begin, refused 8", |nodes, seats| holders(nodes, seats, WRITES).full(0).begins()),
+    ("reserve, every node is listed, all are marked", |nodes, seats| idle(nodes, seats).full(1).reserves()),
+    ("reserve, refused 8", |nodes, seats| holders(nodes, seats, WRITES).full(0).reserves()),
+    ("enter", |nodes, seats| holders(nodes, seats, WRITES).reserved(|seat| Call::Enter { seat })),
+    ("enter, refused 14", |nodes, seats| holders(nodes, seats, WRITES).call(Call::Enter { seat: 0 })),
     ("step 1, pass", |nodes, seats| holders(nodes, seats, WRITES).behind(seats - 1, WRITES, 0).steps()),
     ("step 1, insert", |nodes, seats| holders(nodes, seats, WRITES).before(seats - 1, WRITES, 0).steps()),
     ("step 1, unlink", |nodes, seats| holders(nodes, seats, WRITES).release(0).before(seats - 1, WRITES, 0).steps()),
@@ -241,11 +256,12 @@ const OPERATIONS: &[Operation] = &[
         bench.steps()
     }),
     ("step 5", |nodes, seats| holders(nodes, seats, WRITES).call(steps(0))),
-    ("step 6, fetch", |nodes, seats| {
+    ("step 6, fetch to 7", |nodes, seats| {
         let mut bench = race(nodes, seats);
         bench.step(seats - 1);
         bench.steps()
     }),
+    ("step 7, enter", |nodes, seats| holders(nodes, seats, WRITES).reserved(steps)),
     ("release", |nodes, seats| holders(nodes, seats, WRITES).call(Call::Release { seat: 0 })),
     ("run of 1,000 entries", long_run),
     ("board", |nodes, seats| holders(nodes, seats, WRITES).board(seats)),

@@ -6,13 +6,13 @@
 
 use second::driver::{every_call, some_history, Call, Case, Library};
 use second::lists::{some_export, some_import, Lists};
-use second::machine::{IDLE, PHASE, SEAT_WORDS, TITLE, WITHDRAWN};
+use second::machine::{IDLE, PHASE, RESERVED, SEAT_WORDS, TITLE, WITHDRAWN};
 use second::random::Random;
 use second::shrink::{case_text, shrink, shrink_lists};
 use second::stores::{Watcher, NOT_HERE};
 use second::storing::{judge, watched, KINDS, TAKEN_OUT_OF_REACHED};
 use second::storing_lists::{can_be_watched, judge_lists, watched_lists, LIST_KINDS};
-use second::tables::{any_words, damaged, full_lists, many_holders, sound_words, Tables, DAMAGES};
+use second::tables::{any_words, damaged, full_lists, many_holders, many_reserved, sound_words, Tables, DAMAGES};
 use std::cell::RefCell;
 use std::collections::BTreeMap;
 use std::process::exit;
@@ -139,6 +139,12 @@ impl Watch {
         self.each(&tables, calls);
     }
 
+    fn entries(&mut self, random: &mut Random) {
+        let tables = many_reserved(random);
+        let calls = some_entries(&tables);
+        self.each(&tables, calls);
+    }
+
     fn damages(&mut self, random: &mut Random) {
         for damage in DAMAGES {
             self.every_call(random, |random| damaged(random, damage));
@@ -215,7 +221,7 @@ fn some_fetches(random: &mut Random, (nodes, seats): &Tables) -> Vec<Call> {
     let mut calls = vec![];
     for (seat, _) in in_phase(IDLE).take(2) {
         let start = random.below(nodes[TITLE]);
-        calls.push(Call::Begin {
+        calls.push(Call::Reserve {
             seat,
             start,
             end: random.between(start + 1, nodes[TITLE]),
@@ -228,15 +234,26 @@ fn some_fetches(random: &mut Random, (nodes, seats): &Tables) -> Vec<Call> {
     calls
 }
 
+/// Calls by which reserved seats enter: enter itself, and steps and runs.
+fn some_entries((_, seats): &Tables) -> Vec<Call> {
+    let reserved = (0..).zip(seats.chunks_exact(SEAT_WORDS)).filter(|(_, seat)| seat[PHASE] == RESERVED);
+    let entries = |seat| {
+        [Call::Enter { seat }, Call::Step { seat, shared: [0; 2] }, Call::Run { entries: vec![seat], budget: 1 }]
+    };
+    reserved.take(2).flat_map(|(seat, _)| entries(seat)).collect()
+}
+
 type Family = (u32, fn(&mut Watch, &mut Random));
 
 /// What one round watches, and how often.
-const FAMILIES: [Family; 6] = [
+const FAMILIES: [Family; 8] = [
     (2, Watch::history),
     (60, Watch::fetches),
     (10, |watch, random| watch.every_call(random, any_words)),
     (10, |watch, random| watch.every_call(random, sound_words)),
     (10, |watch, random| watch.every_call(random, many_holders)),
+    (10, |watch, random| watch.every_call(random, many_reserved)),
+    (10, Watch::entries),
     (1, Watch::damages),
 ];
 

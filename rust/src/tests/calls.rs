@@ -1,24 +1,29 @@
 //! Each refusal, the board, run, and a step that damages.
 
-use crate::machine::{begin, board, clear, free_count, fresh, place, release, run, step, Answer, WALKING};
+use crate::machine::{board, clear, enter, free_count, fresh, place, release, reserve, run, step, Answer, WALKING};
 use crate::machine::{END, HEAD, KIND, NEXT, OWN, PHASE, PREV, START, TITLE};
 
 #[test]
 fn the_first_refusal_that_holds_is_given() {
     let (mut nodes, mut seats) = fresh(1, 2, 8);
-    assert_eq!(begin(&mut nodes, &mut seats, 2, 9, 9, 9), Err(2));
-    assert_eq!(begin(&mut nodes, &mut seats, 0, 9, 9, 9), Err(3));
-    assert_eq!(begin(&mut nodes, &mut seats, 0, 7, 9, 9), Err(11));
-    assert_eq!(begin(&mut nodes, &mut seats, 0, 7, 8, 9), Err(4));
-    assert_eq!(begin(&mut nodes, &mut seats, 0, 7, 8, 2), Ok(Answer::Node(1)));
-    assert_eq!(begin(&mut nodes, &mut seats, 0, 7, 8, 2), Err(5));
-    assert_eq!(begin(&mut nodes, &mut seats, 1, 7, 8, 2), Err(8));
+    assert_eq!(reserve(&mut nodes, &mut seats, 2, 9, 9, 9), Err(2));
+    assert_eq!(reserve(&mut nodes, &mut seats, 0, 9, 9, 9), Err(3));
+    assert_eq!(reserve(&mut nodes, &mut seats, 0, 7, 9, 9), Err(11));
+    assert_eq!(reserve(&mut nodes, &mut seats, 0, 7, 8, 9), Err(4));
+    assert_eq!(reserve(&mut nodes, &mut seats, 0, 7, 8, 2), Ok(Answer::Node(1)));
+    assert_eq!(reserve(&mut nodes, &mut seats, 0, 7, 8, 2), Err(5));
+    assert_eq!(enter(&nodes, &mut seats, 2), Err(2));
+    assert_eq!(enter(&nodes, &mut seats, 1), Err(14));
+    assert_eq!(enter(&nodes, &mut seats, 0), Ok(Answer::On));
+    assert_eq!(enter(&nodes, &mut seats, 0), Err(14));
+    assert_eq!(reserve(&mut nodes, &mut seats, 1, 7, 8, 2), Err(8));
     assert_eq!(step(&mut nodes, &mut seats, 1), Err(6));
     assert_eq!(step(&mut nodes, &mut seats, u32::MAX), Err(2));
     assert_eq!(release(&mut nodes, &mut seats, 0), Err(7));
     assert_eq!(release(&mut nodes, &mut seats, 2), Err(2));
     nodes[HEAD] = 2;
-    assert_eq!(begin(&mut nodes, &mut seats, 2, 7, 7, 9), Err(1));
+    assert_eq!(reserve(&mut nodes, &mut seats, 2, 7, 7, 9), Err(1));
+    assert_eq!(enter(&nodes, &mut seats, 2), Err(1));
     assert_eq!(step(&mut nodes, &mut seats, 2), Err(1));
     assert_eq!(release(&mut nodes, &mut seats, 2), Err(1));
     assert_eq!(free_count(&nodes, &seats), Err(1));
@@ -52,7 +57,8 @@ fn lengths_that_do_not_fit_are_refused() {
 fn all_hold(seat_count: u32) -> (Vec<u32>, Vec<u32>) {
     let (mut nodes, mut seats) = fresh(seat_count, seat_count, seat_count);
     for seat in 0..seat_count {
-        begin(&mut nodes, &mut seats, seat, seat, seat + 1, 2).unwrap();
+        reserve(&mut nodes, &mut seats, seat, seat, seat + 1, 2).unwrap();
+        enter(&nodes, &mut seats, seat).unwrap();
         while step(&mut nodes, &mut seats, seat).expect("the seat is under way") != Answer::Held {}
     }
     (nodes, seats)

@@ -1,10 +1,12 @@
 //! How many hold, known at once: the two counts of 02 along the histories, after any call on any sound tables, and wrong.
 
 use crate::generate::good;
-use crate::machine::{begin, board, clear, free_count, fresh, release, run, step, Answer, MOST_SEATS, ROW_WORDS};
+use crate::machine::{
+    board, clear, enter, free_count, fresh, release, reserve, run, step, Answer, MOST_SEATS, ROW_WORDS,
+};
 use crate::random::Random;
 use crate::script::{call, read_script};
-use crate::tables::{many_holders, sound_words, Tables};
+use crate::tables::{many_holders, many_reserved, sound_words, Tables};
 use crate::tests::histories::{History, H1, H11, H2, H3, H4, H5, H6, H7, H8, H9, THEN_H10};
 use crate::tests::layout::{counts_kept, counts_over_seats, place, word, KIND, MARK, OWN, PHASE, READERS};
 use crate::tests::layout::{SEAT_WORDS, WRITERS};
@@ -37,35 +39,35 @@ fn along((nodes, seats, bodies): History) -> String {
 
 #[test]
 fn h1_a_writer_that_waits_counts_once_it_holds() {
-    assert_eq!(along(H1), "00 00 01 01 01 00 00 00 00 01");
+    assert_eq!(along(H1), "00 00 00 01 01 01 01 00 00 00 00 01");
 }
 
 #[test]
 fn h2_two_writers_and_h3_one() {
-    assert_eq!(along(H2), "00 00 01 01 01 01 01 02");
-    assert_eq!(along(H3), "00 00 01 01 01 01");
+    assert_eq!(along(H2), "00 00 00 01 01 01 01 01 01 02");
+    assert_eq!(along(H3), "00 00 00 01 01 01 01 01");
 }
 
 #[test]
 fn h4_and_h5_two_readers() {
-    assert_eq!(along(H4), "00 00 10 10 10 10 20 20 20");
-    assert_eq!(along(H5), "00 00 10 10 10 10 20");
+    assert_eq!(along(H4), "00 00 00 10 10 10 10 10 20 20 20 20");
+    assert_eq!(along(H5), "00 00 00 10 10 10 10 10 20");
 }
 
 #[test]
 fn h6_to_h8_and_h11_what_is_released_or_refused_does_not_count() {
-    assert_eq!(along(H6), "00 00 01 00 00");
-    assert_eq!(along(H7), "00 00 01 01");
-    assert_eq!(along(H8), "00 00 01 01 01 00 00");
-    assert_eq!(along(H11), "00 00");
+    assert_eq!(along(H6), "00 00 00 01 00 00 00");
+    assert_eq!(along(H7), "00 00 00 01 01");
+    assert_eq!(along(H8), "00 00 00 01 01 01 01 00 00");
+    assert_eq!(along(H11), "00 00 00");
 }
 
-/// Seat 2 waits in phase 4 before it holds, and seat 3 goes back and begins anew: the one counts once, the other never.
+/// Seat 2 waits in phase 4 before it holds, and seat 3 goes back and enters anew: the one counts once, the other never.
 #[test]
 fn h9_and_h10_a_reader_that_waited_counts_once_and_a_withdrawal_not_at_all() {
     assert_eq!(
         along((H9.0, H9.1, &format!("{}; {THEN_H10}", H9.2))),
-        "00 00 10 10 10 10 20 20 20 20 20 20 20 20 20 20 20 20 20 20 30 30 30 30"
+        "00 00 00 10 10 10 10 10 20 20 20 20 20 20 20 20 20 20 20 20 20 20 20 20 30 30 30 30 30"
     );
 }
 
@@ -73,8 +75,12 @@ fn h9_and_h10_a_reader_that_waited_counts_once_and_a_withdrawal_not_at_all() {
 #[test]
 fn a_reader_and_a_writer_are_counted_apart() {
     assert_eq!(
-        along((4, 4, "b 0 0 9 1; s 0; s 0; b 1 20 30 2; s 1; s 1; s 1; s 1; s 0; s 1; b 0 0 9 1; r 0; r 0; r 1")),
-        "00 00 10 10 10 10 10 11 11 11 11 01 01 00"
+        along((
+            4,
+            4,
+            "v 0 0 9 1; e 0; s 0; s 0; v 1 20 30 2; e 1; s 1; s 1; s 1; s 1; s 0; s 1; v 0 0 9 1; e 0; r 0; r 0; r 1"
+        )),
+        "00 00 00 10 10 10 10 10 10 11 11 11 11 11 01 01 00"
     );
 }
 
@@ -92,7 +98,8 @@ fn the_counts_are_those_over_the_seats_after_every_call_of_generated_scripts() {
 
 /// Sound tables that nobody need have reached, own nodes shared, marked or off the list among them, and one of their seats.
 fn some_tables(random: &mut Random) -> (Tables, u32) {
-    let tables = if random.percent(50) { sound_words(random) } else { many_holders(random) };
+    let family = random.pick(&[sound_words, many_holders, many_reserved]);
+    let tables = family(random);
     let seat_count = (tables.1.len() / SEAT_WORDS) as u32;
     (tables, random.below(seat_count))
 }
@@ -132,7 +139,7 @@ fn of_all_steps_only_those_that_come_to_hold_count() {
         }
     }
     assert!(came_to_hold.iter().all(|&times| times >= 50), "{came_to_hold:?}");
-    assert!((0..=6).all(|phase| others.get(&phase) >= Some(&500)), "{others:?}");
+    assert!((0..=7).all(|phase| others.get(&phase) >= Some(&500)), "{others:?}");
 }
 
 #[test]
@@ -155,16 +162,19 @@ fn a_release_takes_one_off_the_count_of_its_kind() {
 }
 
 #[test]
-fn begin_counts_nothing() {
+fn reserve_and_enter_count_nothing() {
     let mut random = Random::new(12);
-    let mut begun = 0;
+    let mut accepted = [0, 0];
     for _ in 0..10_000 {
         let (tables, seat) = some_tables(&mut random);
         let mut after = tables.clone();
-        begun += u32::from(begin(&mut after.0, &mut after.1, seat, 3, 5, random.between(1, 2)).is_ok());
+        accepted[0] += u32::from(reserve(&mut after.0, &mut after.1, seat, 3, 5, random.between(1, 2)).is_ok());
+        assert_eq!(rise(&tables, &after), [0, 0], "{tables:?} {seat}");
+        let mut after = tables.clone();
+        accepted[1] += u32::from(enter(&after.0, &mut after.1, seat).is_ok());
         assert_eq!(rise(&tables, &after), [0, 0], "{tables:?} {seat}");
     }
-    assert!(begun >= 500, "{begun}");
+    assert!(accepted.iter().all(|&times| times >= 500), "{accepted:?}");
 }
 
 #[test]
@@ -197,7 +207,8 @@ fn the_board_has_as_many_rows_as_are_counted() {
 fn two_readers_and_a_writer() -> Tables {
     let (mut nodes, mut seats) = fresh(4, 4, 30);
     for (seat, start, kind) in [(0, 0, 1), (1, 0, 1), (2, 20, 2)] {
-        begin(&mut nodes, &mut seats, seat, start, start + 10, kind).expect("a node is free");
+        reserve(&mut nodes, &mut seats, seat, start, start + 10, kind).expect("a node is free");
+        enter(&nodes, &mut seats, seat).expect("it has reserved");
         while step(&mut nodes, &mut seats, seat).expect("the seat is under way") != Answer::Held {}
     }
     (nodes, seats)

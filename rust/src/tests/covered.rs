@@ -1,7 +1,7 @@
 //! Covered frames as 02 has them, "the number of frames that at least one holder covers": small boards, and counts frame by
 //! frame.
 
-use crate::machine::{begin, board, fresh, link, place, step, Answer};
+use crate::machine::{board, enter, fresh, link, place, reserve, step, Answer};
 use crate::machine::{END, HOLDING, KIND, MARK, MOST_SEATS, OWN, PHASE, ROW_WORDS, SEAT_WORDS, START};
 use crate::random::Random;
 use crate::tables::{many_holders, put_counts};
@@ -17,7 +17,8 @@ fn covered(nodes: &[u32], seats: &[u32]) -> u64 {
 fn covered_by_readers(runs: &[Range<u32>]) -> u64 {
     let (mut nodes, mut seats) = fresh(runs.len() as u32, runs.len() as u32, LONGEST_TITLE);
     for (seat, run) in (0..).zip(runs) {
-        begin(&mut nodes, &mut seats, seat, run.start, run.end, 1).expect("a node is free");
+        reserve(&mut nodes, &mut seats, seat, run.start, run.end, 1).expect("a node is free");
+        enter(&nodes, &mut seats, seat).expect("it has reserved");
         while step(&mut nodes, &mut seats, seat).expect("the seat is under way") != Answer::Held {}
     }
     covered(&nodes, &seats)

@@ -9,6 +9,7 @@ mod covered;
 mod histories;
 mod layout;
 mod posix;
+mod reserved;
 mod scripts;
 mod shared;
 mod stores;
@@ -36,7 +37,8 @@ fn refused_by_every_call(name: &str, nodes: &[u32], seats: &[u32]) {
     let library = library_of!(crate::library);
     let damaged = 1;
     let calls = [
-        (Call::Begin { seat: 0, start: 0, end: 1, kind: 1 }, damaged),
+        (Call::Reserve { seat: 0, start: 0, end: 1, kind: 1 }, damaged),
+        (Call::Enter { seat: 0 }, damaged),
         (Call::Step { seat: 0, shared: [7; 2] }, damaged),
         (Call::Release { seat: 0 }, damaged),
         (Call::Run { entries: vec![0], budget: 9 }, damaged << 32),
@@ -53,16 +55,41 @@ fn refused_by_every_call(name: &str, nodes: &[u32], seats: &[u32]) {
     }
 }
 
-/// What begins must meet at the title's end, in the generated scripts and on the tables of a seed.
-const BEGINS: [&str; 8] = [
-    "begin: beyond the title, and empty",
-    "begin: beyond the title, of no known kind",
-    "begin: beyond the title, by a seat that has a claim",
-    "begin: beyond the title",
-    "begin: beyond the title by a frame",
-    "begin: up to the title, of no known kind",
-    "begin: up to the title, by a seat that has a claim",
-    "begin: up to the title",
+/// What reserves must meet at the title's end, in the generated scripts and on the tables of a seed.
+const RESERVES: [&str; 8] = [
+    "reserve: beyond the title, and empty",
+    "reserve: beyond the title, of no known kind",
+    "reserve: beyond the title, by a seat that has a claim",
+    "reserve: beyond the title",
+    "reserve: beyond the title by a frame",
+    "reserve: up to the title, of no known kind",
+    "reserve: up to the title, by a seat that has a claim",
+    "reserve: up to the title",
+];
+
+/// What must be met of reserved seats, in the generated scripts and on the tables of a seed: each phase in which enter is
+/// refused, what the head is where it is not, and that no fetch takes their nodes.
+const ENTRIES: [&str; 12] = [
+    "enter: refused in phase 0",
+    "enter: refused in phase 1",
+    "enter: refused in phase 2",
+    "enter: refused in phase 3",
+    "enter: refused in phase 4",
+    "enter: refused in phase 5",
+    "enter: refused in phase 6",
+    "enter: refused 2",
+    "enter: no node is listed",
+    "enter: the first listed node is unmarked",
+    "enter: the first listed node is marked",
+    "reserve: the node of a reserved seat is left alone",
+];
+
+/// What must be met of them on the tables of a seed alone.
+const ENTRIES_NEVER_REACHED: [&str; 4] = [
+    "enter: refused 1",
+    "enter: its own node is listed",
+    "enter: its own node is marked",
+    "enter: its own node is another seat's too",
 ];
 
 /// The titles that they must have.

@@ -4,7 +4,7 @@
 
 use crate::library;
 use crate::lists::{names, some_export, some_import, Lists, Way};
-use crate::machine::{begin, fresh, Answer};
+use crate::machine::{fresh, reserve, Answer};
 use crate::posix::{export, import, Claim, Lock, RECORD_WORDS};
 use crate::random::Random;
 use crate::shrink::shrink_lists;
@@ -281,16 +281,16 @@ fn each_way_undoes_the_other() {
     assert!(moved.iter().all(|&lists| lists > 3_000), "{moved:?}");
 }
 
-/// An imported claim may begin, on tables of that title.
+/// An imported claim may be reserved, on tables of that title.
 #[test]
-fn what_is_imported_is_not_refused_by_begin() {
+fn what_is_imported_is_not_refused_by_reserve() {
     for title in TITLES {
         for (start, length) in
             edges(title).into_iter().flat_map(|start| edges(title).into_iter().map(move |l| (start, l)))
         {
             if let Ok([start, end, kind]) = imported(title, [2, start, length]) {
                 let (mut nodes, mut seats) = fresh(1, 1, title);
-                assert_eq!(begin(&mut nodes, &mut seats, 0, start, end, kind), Ok(Answer::Node(1)));
+                assert_eq!(reserve(&mut nodes, &mut seats, 0, start, end, kind), Ok(Answer::Node(1)));
             }
         }
     }

@@ -4,7 +4,7 @@ use crate::generate::{any_text, good, put_change, script, FLAWS};
 use crate::random::Random;
 use crate::script::read_script;
 use crate::tally::Tally;
-use crate::tests::{BEGINS, BOARDS, TITLES, WAITS, WAITS_NEVER_REACHED};
+use crate::tests::{BOARDS, ENTRIES, ENTRIES_NEVER_REACHED, RESERVES, TITLES, WAITS, WAITS_NEVER_REACHED};
 
 #[test]
 fn bad_scripts_name_the_first_wrong_line() {
@@ -26,7 +26,7 @@ fn bad_scripts_name_the_first_wrong_line() {
     for title in ["0", "", "00", "09", "+9", "-1", "9 9", "9\0", "\u{e9}", "4294967296", "42949672950"] {
         assert_eq!(line(format!("1 1 0 {title}\n").as_bytes()), Some(1), "{title}");
     }
-    assert_eq!(line(b"1 1 1 1\nb 4294967295 0 4294967295 9\n"), None);
+    assert_eq!(line(b"1 1 1 1\nv 4294967295 0 4294967295 9\n"), None);
     for body in [
         "",
         "s",
@@ -36,8 +36,20 @@ fn bad_scripts_name_the_first_wrong_line() {
         "s 99999999999",
         "S 0",
         "x 0",
-        "b 0 1 2",
-        "b 0 1 2 2 0",
+        "v 0 1 2",
+        "v 0 1 2 2 0",
+        "v 0",
+        "v",
+        "V 0 1 2 2",
+        "vv 0 1 2 2",
+        "b 0 1 2 2",
+        "b 0",
+        "e",
+        "e ",
+        "e 00",
+        "e 0 1 2 2",
+        "E 0",
+        "ee 0",
         "r 0 0",
         "ss 0",
     ] {
@@ -54,7 +66,7 @@ fn bad_scripts_name_the_first_wrong_line() {
 #[test]
 fn the_generated_scripts_reach_every_rule() {
     let mut tally = Tally::default();
-    for (flaw, bytes) in (0..400).map(|number| script(1, number)) {
+    for (flaw, bytes) in (0..500).map(|number| script(1, number)) {
         tally.count_script(flaw, &bytes);
     }
     let steps = [
@@ -77,20 +89,25 @@ fn the_generated_scripts_reach_every_rule() {
         "step: withdrawal",
         "step: fetch after withdrawal, the same node",
         "step: fetch after withdrawal, another node",
+        "step: enters in phase 7",
+        "step: the node of a reserved seat is left alone",
+        "reserve",
+        "enter",
         "fetch that takes marked nodes out",
         "script with a list longer than 30",
         "release of a reader",
         "release of a writer",
     ];
-    let refusals =
-        ["2 of begin", "3 of begin", "11 of begin", "4 of begin", "5 of begin", "8 of begin", "2 of step", "6 of step"];
-    for name in steps.iter().chain(&BOARDS).chain(&BEGINS).chain(&WAITS) {
+    let of_reserve = [2, 3, 11, 4, 5, 8].map(|number| format!("{number} of reserve"));
+    let of_others =
+        ["2 of enter", "14 of enter", "2 of step", "6 of step", "8 of step", "2 of release", "7 of release"];
+    for name in steps.iter().chain(&BOARDS).chain(&RESERVES).chain(&ENTRIES).chain(&WAITS) {
         assert!(tally.of(name) >= 10, "{name}");
     }
     for name in TITLES {
         assert!(tally.of(name) >= 5, "{name}");
     }
-    for refusal in refusals.iter().chain(&["8 of step", "2 of release", "7 of release"]) {
+    for refusal in of_reserve.iter().map(String::as_str).chain(of_others) {
         assert!(tally.of(&format!("refusal {refusal}")) >= 10, "{refusal}");
     }
     for name in ["the most readers holding at once", "the most writers holding at once"] {
@@ -99,7 +116,11 @@ fn the_generated_scripts_reach_every_rule() {
     for (flaw, _) in FLAWS {
         assert!(tally.of(&format!("script: {flaw}")) >= 2, "{flaw}");
     }
-    for name in WAITS_NEVER_REACHED.iter().chain(&["refusal 11 of step"]) {
+    let refusals_never_met = ["11 of step", "14 of step", "6 of enter", "7 of enter", "8 of enter"];
+    for refusal in refusals_never_met {
+        assert_eq!(tally.of(&format!("refusal {refusal}")), 0, "{refusal}");
+    }
+    for name in WAITS_NEVER_REACHED.iter().chain(&ENTRIES_NEVER_REACHED) {
         assert_eq!(tally.of(name), 0, "{name}");
     }
     for line in ["bad 0", "bad 1", "bad 2", "bad, a later line"] {

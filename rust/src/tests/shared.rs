@@ -5,7 +5,7 @@ use crate::driver::{outcome, Call, Case};
 use crate::generate::{good, of_waits};
 use crate::library::{Printed, Shared};
 use crate::library_of;
-use crate::machine::{begin, fresh, release, step, Answer};
+use crate::machine::{enter, fresh, release, reserve, step, Answer};
 use crate::random::Random;
 use crate::script::{call, play, read_script};
 use crate::tables::{many_holders, many_waiters, sound_words, Tables};
@@ -143,22 +143,22 @@ fn waits_of((nodes, seats, bodies): History) -> String {
 
 #[test]
 fn the_waits_of_the_histories() {
-    assert_eq!(waits_of(H1), "5 wait 1 15 20");
-    assert_eq!(waits_of(H3), "5 wait 1 19 20; 6 wait 1 19 20");
-    assert_eq!(waits_of(H4), "9 wait 1 70 80");
-    assert_eq!(waits_of(H8), "5 wait 1 0 10");
-    assert_eq!(waits_of(H9), "16 wait 4 15 20");
-    assert_eq!(waits_of((H9.0, H9.1, &format!("{}; {THEN_H10}", H9.2))), "16 wait 4 15 20; 24 wait 3 15 20");
+    assert_eq!(waits_of(H1), "7 wait 1 15 20");
+    assert_eq!(waits_of(H3), "7 wait 1 19 20; 8 wait 1 19 20");
+    assert_eq!(waits_of(H4), "12 wait 1 70 80");
+    assert_eq!(waits_of(H8), "7 wait 1 0 10");
+    assert_eq!(waits_of(H9), "20 wait 4 15 20");
+    assert_eq!(waits_of((H9.0, H9.1, &format!("{}; {THEN_H10}", H9.2))), "20 wait 4 15 20; 29 wait 3 15 20");
     assert_eq!([H2, H5, H6, H7, H11].map(waits_of), [""; 5]);
 }
 
 /// H9 with two steps more of the reader that waits in phase 4, before the writer goes back.
 #[test]
 fn a_claim_that_waits_on_is_told_the_same_again_in_both_phases() {
-    let phase_2 = "b 0 10 20 2; s 0; s 0; b 1 15 25 1; s 1; s 1; s 1; r 0; s 1";
-    assert_eq!(waits_of((4, 4, phase_2)), "5 wait 1 15 20; 6 wait 1 15 20; 7 wait 1 15 20");
+    let phase_2 = "v 0 10 20 2; e 0; s 0; s 0; v 1 15 25 1; e 1; s 1; s 1; s 1; r 0; s 1";
+    assert_eq!(waits_of((4, 4, phase_2)), "7 wait 1 15 20; 8 wait 1 15 20; 9 wait 1 15 20");
     let phase_4 = H9.2.replace("; s 3; s 3; s 2; s 2; s 2", "; s 2; s 2; s 3; s 3; s 2; s 2; s 2");
-    assert_eq!(waits_of((H9.0, H9.1, &phase_4)), "16 wait 4 15 20; 17 wait 4 15 20; 18 wait 4 15 20");
+    assert_eq!(waits_of((H9.0, H9.1, &phase_4)), "20 wait 4 15 20; 21 wait 4 15 20; 22 wait 4 15 20");
 }
 
 /// A writer of 20..50 waits in turn at claims that it shares a part of, all of itself or all of the other with, or one frame.
@@ -168,9 +168,11 @@ fn what_is_shared_follows_the_claim_that_is_waited_at() {
     for (at, first, end) in
         [(10..30, 20, 30), (40..60, 40, 50), (10..60, 20, 50), (25..30, 25, 30), (0..21, 20, 21), (20..50, 20, 50)]
     {
-        begin(&mut nodes, &mut seats, 0, at.start, at.end, 1).unwrap();
+        reserve(&mut nodes, &mut seats, 0, at.start, at.end, 1).unwrap();
+        enter(&nodes, &mut seats, 0).unwrap();
         while step(&mut nodes, &mut seats, 0).expect("the seat is under way") != Answer::Held {}
-        begin(&mut nodes, &mut seats, 1, 20, 50, 2).unwrap();
+        reserve(&mut nodes, &mut seats, 1, 20, 50, 2).unwrap();
+        enter(&nodes, &mut seats, 1).unwrap();
         let node = seats[OWN];
         let mut answer = step(&mut nodes, &mut seats, 1);
         while answer == Ok(Answer::On) {
@@ -251,10 +253,12 @@ fn with_every_other_answer_and_refusal_the_two_words_stay() {
         (on, marked(in_phase(4, 0, 1, 1), 1), 0),
         (on, unlisted(in_phase(1, 0, 0, 2)), 0),
         (on, in_phase(6, 0, 0, 2), 0),
+        (on, in_phase(7, 0, 0, 2), 0),
         (held, in_phase(3, 0, 2, 2), 0),
         (held, in_phase(3, 0, 0, 1), 0),
         (back, in_phase(3, 0, 1, 2), 0),
         (1, in_phase(7, 0, 1, 2), 0),
+        (1, in_phase(8, 0, 0, 2), 0),
         (2, in_phase(2, 0, 1, 2), 1),
         (6, fresh(2, 1, 9), 0),
         (8, full, 0),

@@ -1,9 +1,11 @@
 //! The watcher of stores, where there is one: a volatile store is one that the compiler neither leaves out nor doubles. And
-//! what the second machine stores when it takes nodes out, by hand.
+//! what the second machine stores when it takes nodes out, fetches and enters, by hand.
 
-use crate::machine::{begin, fresh, Answer};
+use crate::machine::{enter, fresh, reserve, step, Answer};
 use crate::stores::{Store, Table, Watcher};
-use crate::tests::layout::{place, END, HEAD, KIND, MARK, NEXT, NODE_WORDS, START};
+use crate::tests::layout::{
+    place, CUR, END, HEAD, KIND, MARK, NEXT, NODE_WORDS, PHASE, PREV, SEAT_WORDS, START, WRITERS,
+};
 use crate::tests::LONGEST_TITLE;
 
 const NODES: [u32; 6] = [10, 11, 12, 13, 14, 15];
@@ -164,8 +166,8 @@ fn taking_out_changes_the_links_that_differ() {
             then[link_of(node)] = next;
         }
         then[place(taken, START)..][..NODE_WORDS].copy_from_slice(&[7, 8, 1, 0, 0]);
-        assert_eq!(begin(&mut nodes, &mut seats, 1, 7, 8, 1), Ok(Answer::Node(taken)), "{marks:?}");
-        assert_eq!((&nodes, seats), (&then, vec![0, 0, 0, 0, 1, taken, 0, then[HEAD]]), "{marks:?}");
+        assert_eq!(reserve(&mut nodes, &mut seats, 1, 7, 8, 1), Ok(Answer::Node(taken)), "{marks:?}");
+        assert_eq!((&nodes, seats), (&then, vec![0, 0, 0, 0, 7, taken, 0, 0]), "{marks:?}");
     }
 }
 
@@ -177,7 +179,7 @@ fn taking_out_stores_the_links_that_differ_and_no_other() {
             Some(watcher) => watcher,
             None => return,
         };
-        let (_, stores) = watcher.watch(&mut nodes, &mut seats, |nodes, seats| begin(nodes, seats, 1, 7, 8, 1));
+        let (_, stores) = watcher.watch(&mut nodes, &mut seats, |nodes, seats| reserve(nodes, seats, 1, 7, 8, 1));
         let elsewhere = |store: &Store| {
             let words_of_taken = place(taken, START)..place(taken, START) + NODE_WORDS;
             store.table == Table::Nodes && !words_of_taken.contains(&store.word)
@@ -188,14 +190,67 @@ fn taking_out_stores_the_links_that_differ_and_no_other() {
     }
 }
 
+type OnTables = fn(&mut [u32], &mut [u32]);
+
+/// What the second machine stores of the seats, and how many words of the nodes: seat 1 with these words is entered or stepped.
+fn stored_of_seats(words: [u32; 4], call: OnTables) -> Option<(Vec<Store>, usize)> {
+    let (mut nodes, mut seats) = listed_and_marked([0; 6]);
+    nodes[link_of(2)] = 0;
+    seats[SEAT_WORDS..].copy_from_slice(&words);
+    let ((), stores) = Watcher::new()?.watch(&mut nodes, &mut seats, call);
+    let (of_seats, of_nodes): (Vec<Store>, Vec<Store>) =
+        stores.into_iter().partition(|store| store.table == Table::Seats);
+    Some((of_seats, of_nodes.len()))
+}
+
+#[test]
+fn enter_and_a_step_in_phase_7_store_phase_and_cur() {
+    let in_seat_1 = |field, value| Store {
+        table: Table::Seats,
+        word: SEAT_WORDS + field,
+        value,
+        changed_to: SEAT_WORDS + field + 1,
+    };
+    let enters: [OnTables; 2] = [
+        |nodes, seats| assert_eq!(enter(nodes, seats, 1), Ok(Answer::On)),
+        |nodes, seats| assert_eq!(step(nodes, seats, 1), Ok(Answer::On)),
+    ];
+    for enters in enters {
+        if let Some(stored) = stored_of_seats([7, 5, 0, 0], enters) {
+            assert_eq!(stored, (vec![in_seat_1(PHASE, 1), in_seat_1(CUR, 3)], 0));
+        }
+    }
+    if let Some(stored) = stored_of_seats([5, 5, 0, 0], |nodes, seats| {
+        nodes[WRITERS] = 1;
+        assert_eq!(enter(nodes, seats, 1), Err(14));
+    }) {
+        assert_eq!(stored, (vec![], 1));
+    }
+}
+
+#[test]
+fn a_fetch_stores_phase_and_own_of_its_seat() {
+    let fetches: [([u32; 4], OnTables); 2] = [
+        ([0; 4], |nodes, seats| assert_eq!(reserve(nodes, seats, 1, 7, 8, 1), Ok(Answer::Node(4)))),
+        ([6, 5, 0, 0], |nodes, seats| assert_eq!(step(nodes, seats, 1), Ok(Answer::On))),
+    ];
+    for (words, fetch) in fetches {
+        if let Some((stores, _)) = stored_of_seats(words, fetch) {
+            let stored = stores.iter().map(|store| (store.word, store.changed_to.max(store.word + 1)));
+            assert!(stored.clone().all(|(first, end)| first >= SEAT_WORDS && end <= SEAT_WORDS + PREV), "{stores:?}");
+            assert!(stored.count() > 0);
+        }
+    }
+}
+
 #[test]
 fn where_nothing_is_marked_nothing_is_taken_out_or_stored() {
     let tables = listed_and_marked([0; 6]);
     let (mut nodes, mut seats) = tables.clone();
-    assert_eq!(begin(&mut nodes, &mut seats, 1, 7, 8, 1), Err(8));
+    assert_eq!(reserve(&mut nodes, &mut seats, 1, 7, 8, 1), Err(8));
     assert_eq!((&nodes, &seats), (&tables.0, &tables.1));
     if let Some(mut watcher) = Watcher::new() {
-        let watched = watcher.watch(&mut nodes, &mut seats, |nodes, seats| begin(nodes, seats, 1, 7, 8, 1));
+        let watched = watcher.watch(&mut nodes, &mut seats, |nodes, seats| reserve(nodes, seats, 1, 7, 8, 1));
         assert_eq!(watched, (Err(8), vec![]));
     }
 }

@@ -5,7 +5,7 @@ use crate::library_of;
 use crate::stores::{Store, Table};
 use crate::storing::{judge, Watched};
 use crate::tests::layout::{
-    place, HEAD, KIND, MARK, NODE_WORDS, OWN, PHASE, READERS, SEAT_WORDS, START, TITLE, WRITERS,
+    place, CUR, HEAD, KIND, MARK, NODE_WORDS, OWN, PHASE, PREV, READERS, SEAT_WORDS, START, TITLE, WRITERS,
 };
 use crate::tests::stores::{link_of, listed_and_marked, store};
 
@@ -17,10 +17,10 @@ fn wrong(nodes: &[u32], seats: &[u32], call: Call, stores: &[Store]) -> Option<S
     judge(&case, &Watched { answer: after.answer, tables, stores: stores.to_vec() }).wrong
 }
 
-/// Seat 1 begins on the list 3 1 6 2 5 4, of which 3, 6, 2 and 4 are marked, and takes node 2.
-fn wrong_of_begin(stores: &[Store]) -> Option<String> {
+/// Seat 1 reserves on the list 3 1 6 2 5 4, of which 3, 6, 2 and 4 are marked, and takes node 2.
+fn wrong_of_reserve(stores: &[Store]) -> Option<String> {
     let (nodes, seats) = listed_and_marked([1, 0, 1, 1, 0, 1]);
-    wrong(&nodes, &seats, Call::Begin { seat: 1, start: 7, end: 8, kind: 1 }, stores)
+    wrong(&nodes, &seats, Call::Reserve { seat: 1, start: 7, end: 8, kind: 1 }, stores)
 }
 
 /// The links that differ.
@@ -34,10 +34,10 @@ fn in_seats(word: usize, value: u32, changed_to: usize) -> Store {
 
 #[test]
 fn the_links_that_differ_are_right() {
-    assert_eq!(wrong_of_begin(&links()), None);
+    assert_eq!(wrong_of_reserve(&links()), None);
     let taken: Vec<Store> = (0..NODE_WORDS).map(|field| store(place(2, field), 0, field == MARK)).collect();
-    let seat = [in_seats(SEAT_WORDS, 1, 2 * SEAT_WORDS), in_seats(SEAT_WORDS + OWN, 2, SEAT_WORDS + OWN)];
-    assert_eq!(wrong_of_begin(&[&taken, links().as_slice(), &seat].concat()), None);
+    let seat = [in_seats(SEAT_WORDS, 7, SEAT_WORDS + OWN + 1), in_seats(SEAT_WORDS + OWN, 2, SEAT_WORDS + OWN)];
+    assert_eq!(wrong_of_reserve(&[&taken, links().as_slice(), &seat].concat()), None);
 }
 
 #[test]
@@ -53,7 +53,7 @@ fn links_left_out_or_stored_otherwise_are_wrong() {
         ("first to a marked node", &[head, store(link_of(1), 2, true), middle, last]),
     ];
     for (name, stores) in wrong_lists {
-        assert!(wrong_of_begin(stores).is_some(), "{name}");
+        assert!(wrong_of_reserve(stores).is_some(), "{name}");
     }
 }
 
@@ -66,6 +66,8 @@ fn stores_elsewhere_are_wrong() {
         ("the next of a marked node", store(link_of(6), 2, false)),
         ("a claim that stays", store(place(1, KIND), 2, false)),
         ("another seat", in_seats(PHASE, 0, PHASE)),
+        ("prev, which is 0", in_seats(SEAT_WORDS + PREV, 0, SEAT_WORDS + PREV)),
+        ("cur, which is 0", in_seats(SEAT_WORDS + CUR, 0, SEAT_WORDS + CUR)),
         ("behind the seats", in_seats(2 * SEAT_WORDS, 0, 2 * SEAT_WORDS)),
         (
             "from the taken node into the next",
@@ -74,7 +76,7 @@ fn stores_elsewhere_are_wrong() {
     ];
     for (name, strange) in elsewhere {
         let [head, middle, last] = links();
-        assert!(wrong_of_begin(&[head, middle, strange, last]).is_some(), "{name}");
+        assert!(wrong_of_reserve(&[head, middle, strange, last]).is_some(), "{name}");
     }
 }
 
@@ -82,9 +84,9 @@ fn stores_elsewhere_are_wrong() {
 fn where_a_node_is_free_a_link_is_wrong() {
     let (mut nodes, seats) = listed_and_marked([1, 0, 1, 1, 0, 1]);
     nodes[link_of(5)] = 0;
-    let begins = Call::Begin { seat: 1, start: 7, end: 8, kind: 1 };
-    assert_eq!(wrong(&nodes, &seats, begins.clone(), &[store(place(4, MARK), 0, true)]), None);
-    assert!(wrong(&nodes, &seats, begins, &[store(HEAD, 3, false)]).is_some());
+    let reserves = Call::Reserve { seat: 1, start: 7, end: 8, kind: 1 };
+    assert_eq!(wrong(&nodes, &seats, reserves.clone(), &[store(place(4, MARK), 0, true)]), None);
+    assert!(wrong(&nodes, &seats, reserves, &[store(HEAD, 3, false)]).is_some());
 }
 
 #[test]
@@ -92,7 +94,8 @@ fn a_refused_call_and_a_look_store_nothing() {
     let (nodes, seats) = listed_and_marked([0; 6]);
     let calls = [
         Call::Clear { title: 0 },
-        Call::Begin { seat: 1, start: 7, end: 8, kind: 1 },
+        Call::Reserve { seat: 1, start: 7, end: 8, kind: 1 },
+        Call::Enter { seat: 1 },
         Call::Step { seat: 1, shared: [0; 2] },
         Call::Release { seat: 1 },
         Call::Run { entries: vec![1], budget: 9 },
@@ -113,7 +116,7 @@ fn a_refused_call_and_a_look_store_nothing() {
 fn a_step_stores_no_word_but_those_of_its_rule() {
     let (mut nodes, mut seats) = listed_and_marked([0, 1, 0, 0, 0, 0]);
     nodes[link_of(5)] = 0;
-    let steps: [([u32; 3], &[usize]); 9] = [
+    let steps: [([u32; 3], &[usize]); 10] = [
         ([1, 5, 0], &[link_of(5), link_of(4)]), // insert
         ([1, 3, 1], &[link_of(3)]),             // unlink
         ([1, 6, 1], &[]),                       // unlink behind another node
@@ -123,6 +126,7 @@ fn a_step_stores_no_word_but_those_of_its_rule() {
         ([3, 0, 4], &[WRITERS]),                // hold
         ([3, 5, 0], &[place(4, MARK)]),         // withdraw
         ([5, 0, 0], &[]),                       // holding
+        ([7, 0, 0], &[]),                       // enter
     ];
     for ([phase, prev, cur], may) in steps {
         seats[..SEAT_WORDS].copy_from_slice(&[phase, 4, prev, cur]);
@@ -133,6 +137,22 @@ fn a_step_stores_no_word_but_those_of_its_rule() {
         expected.sort_unstable();
         assert_eq!((0..nodes.len()).filter(allowed).collect::<Vec<usize>>(), expected, "{phase} {prev} {cur}");
     }
+}
+
+/// Seat 1 has reserved node 4, and seat 0 is idle.
+#[test]
+fn enter_stores_its_phase_and_cur_and_no_word_of_a_node() {
+    let (mut nodes, mut seats) = listed_and_marked([0, 1, 0, 0, 0, 0]);
+    nodes[link_of(5)] = 0;
+    seats[SEAT_WORDS..].copy_from_slice(&[7, 4, 0, 0]);
+    let enters = Call::Enter { seat: 1 };
+    let allowed_in = |made: fn(usize) -> Store, words: usize| -> Vec<usize> {
+        (0..words).filter(|&word| wrong(&nodes, &seats, enters.clone(), &[made(word)]).is_none()).collect()
+    };
+    assert_eq!(allowed_in(|word| in_seats(word, 0, word), seats.len()), [SEAT_WORDS + PHASE, SEAT_WORDS + CUR]);
+    assert_eq!(allowed_in(|word| store(word, 0, false), nodes.len()), [0; 0]);
+    let whole_seat = in_seats(SEAT_WORDS + PHASE, 1, SEAT_WORDS + CUR + 1);
+    assert!(wrong(&nodes, &seats, enters, &[whole_seat]).is_some());
 }
 
 #[test]

@@ -1,14 +1,15 @@
 //! The machine on tables that no history need have reached, against slow renderings of the same sentences of documents 01
 //! and 02.
 
-use crate::machine::{begin, free_count, listed, run, step, Answer};
+use crate::machine::{free_count, listed, reserve, run, step, Answer};
 use crate::random::Random;
-use crate::tables::{any_words, damaged, full_lists, many_holders, many_waiters, miscounted, mistitled, put_counts};
-use crate::tables::{sound_words, DAMAGES, MISCOUNTS, MISTITLES};
+use crate::tables::{any_words, damaged, full_lists, many_holders, many_reserved, many_waiters, miscounted, mistitled};
+use crate::tables::{put_counts, sound_words, DAMAGES, MISCOUNTS, MISTITLES};
 use crate::tally::Tally;
 use crate::tests::layout::{counts_kept, counts_over_seats, place, word, CUR, END, HEAD, KIND, MARK, NEXT, NODE_WORDS};
 use crate::tests::layout::{title_is_damage, OWN, PHASE, PREV, SEAT_WORDS, START, TITLE, WORDS_BEFORE_NODES};
-use crate::tests::{refused_by_every_call, BEGINS, BOARDS, LONGEST_TITLE, TITLES, WAITS, WAITS_NEVER_REACHED};
+use crate::tests::{refused_by_every_call, BOARDS, ENTRIES, ENTRIES_NEVER_REACHED, LONGEST_TITLE, RESERVES, TITLES};
+use crate::tests::{WAITS, WAITS_NEVER_REACHED};
 
 fn node_count(nodes: &[u32]) -> usize {
     nodes.len().saturating_sub(WORDS_BEFORE_NODES) / NODE_WORDS
@@ -40,10 +41,10 @@ fn is_sound(nodes: &[u32], seats: &[u32]) -> bool {
     let seats_fit = seats.chunks(SEAT_WORDS).all(|seat| match seat[PHASE] {
         0 => seat.iter().all(|&word| word == 0),
         phase => {
-            phase <= 6
+            phase <= 7
                 && seat[OWN] != 0
                 && names(seat).into_iter().all(named)
-                && (![5, 6].contains(&phase) || [seat[PREV], seat[CUR]] == [0, 0])
+                && (![5, 6, 7].contains(&phase) || [seat[PREV], seat[CUR]] == [0, 0])
                 && (![2, 4].contains(&phase) || seat[CUR] != 0)
         }
     });
@@ -93,8 +94,8 @@ fn taken_out(nodes: &[u32]) -> Vec<u32> {
     after
 }
 
-/// Begin on sound tables with arguments that are not refused, or nothing for refusal 8.
-fn begun(nodes: &[u32], seats: &[u32], seat: usize, claim: [u32; 3]) -> Option<(Vec<u32>, Vec<u32>)> {
+/// Reserve on sound tables with arguments that are not refused, or nothing for refusal 8.
+fn reserved(nodes: &[u32], seats: &[u32], seat: usize, claim: [u32; 3]) -> Option<(Vec<u32>, Vec<u32>)> {
     let mut after = nodes.to_vec();
     let mut free = free_nodes(&after, seats, Some(seat));
     if free.is_empty() {
@@ -107,7 +108,7 @@ fn begun(nodes: &[u32], seats: &[u32], seat: usize, claim: [u32; 3]) -> Option<(
         after[place(node, field)] = value;
     }
     let mut seats = seats.to_vec();
-    for (field, value) in [(PHASE, 1), (OWN, node), (PREV, 0), (CUR, after[HEAD])] {
+    for (field, value) in [(PHASE, 7), (OWN, node), (PREV, 0), (CUR, 0)] {
         seats[SEAT_WORDS * seat + field] = value;
     }
     Some((after, seats))
@@ -124,7 +125,7 @@ fn sound_shape_is_what_its_clauses_say() {
     }
     assert!(sound_ones > 400, "{sound_ones}");
     for _ in 0..2_000 {
-        let families = [sound_words, many_holders, many_waiters, full_lists];
+        let families = [sound_words, many_holders, many_waiters, many_reserved, full_lists];
         for (nodes, seats) in families.map(|family| family(&mut random)) {
             assert!(is_sound(&nodes, &seats) && free_count(&nodes, &seats).is_ok(), "{nodes:?} {seats:?}");
         }
@@ -194,7 +195,7 @@ fn the_tables_of_a_seed_are_what_their_names_say() {
     for (name, _) in MISTITLES {
         assert_eq!(tally.of(&format!("title, {name}: damaged by its title alone")), rounds, "{name}");
     }
-    for name in ["sound words", "many holders", "many waiters"] {
+    for name in ["sound words", "many holders", "many waiters", "many reserved"] {
         assert_eq!(tally.of(&format!("{name}: sound")), 10 * rounds, "{name}");
     }
     for name in ["the most readers holding at once", "the most writers holding at once"] {
@@ -211,7 +212,15 @@ fn the_tables_of_a_seed_are_what_their_names_say() {
         "clear: another title on tables without claims",
         "title that is the end of a node",
     ];
-    for name in clears.iter().chain(&BEGINS).chain(&TITLES).chain(&WAITS).chain(&WAITS_NEVER_REACHED) {
+    let entered_by_step = ENTRIES.iter().chain(&ENTRIES_NEVER_REACHED).filter(|name| !name.contains("refused"));
+    let entered_by_step: Vec<String> = entered_by_step.map(|name| name.replace("enter:", "step in phase 7:")).collect();
+    let runs = ["run: a step in phase 6", "run: a step in phase 7", "run: from phase 6 to 7 and to 1"];
+    let fetches =
+        ["reserve: the node of a reserved seat is left alone", "step: the node of a reserved seat is left alone"];
+    let waits = WAITS.iter().chain(&WAITS_NEVER_REACHED);
+    let entries = ENTRIES.iter().chain(&ENTRIES_NEVER_REACHED).chain(&runs).chain(&fetches);
+    let by_step = entered_by_step.iter().map(String::as_str);
+    for name in clears.iter().chain(&RESERVES).chain(&TITLES).chain(waits).chain(entries).copied().chain(by_step) {
         assert!(tally.of(name) >= 10, "{name}");
     }
 }
@@ -232,8 +241,8 @@ fn fetch_and_free_count_are_what_the_rule_says() {
         let idle = seats.chunks(SEAT_WORDS).position(|seat| seat[PHASE] == 0);
         if let Some(seat) = idle {
             let (mut after_nodes, mut after_seats) = (nodes.clone(), seats.clone());
-            let answer = begin(&mut after_nodes, &mut after_seats, seat as u32, 3, 5, 2);
-            match begun(&nodes, &seats, seat, [3, 5, 2]) {
+            let answer = reserve(&mut after_nodes, &mut after_seats, seat as u32, 3, 5, 2);
+            match reserved(&nodes, &seats, seat, [3, 5, 2]) {
                 Some(after) => {
                     assert_eq!(answer, Ok(Answer::Node(after.1[SEAT_WORDS * seat + OWN])));
                     assert_eq!((after_nodes, after_seats), after, "{nodes:?} {seats:?}");

@@ -4,7 +4,7 @@
 use crate::driver::{every_call, outcome, Call, Case};
 use crate::library::{self, CONTENTS_WORDS};
 use crate::library_of;
-use crate::machine::{begin, board, clear, free_count, fresh, release, step, Answer, MOST_SEATS, ROW_WORDS};
+use crate::machine::{board, clear, enter, free_count, fresh, release, reserve, step, Answer, MOST_SEATS, ROW_WORDS};
 use crate::random::Random;
 use crate::script::{play, MOST_ROWS};
 use crate::tables::{any_words, many_holders, mistitled, sound_words, Tables, MISTITLES};
@@ -19,31 +19,33 @@ const REFUSED_BEYOND: Result<Answer, u32> = Err(11);
 fn a_claim_may_end_at_the_title_and_not_beyond() {
     for title in [1, 2, 20, LONGEST_TITLE - 1] {
         let (mut nodes, mut seats) = fresh(1, 1, title);
-        assert_eq!(begin(&mut nodes, &mut seats, 0, 0, title + 1, 2), REFUSED_BEYOND);
-        assert_eq!(begin(&mut nodes, &mut seats, 0, title, title + 1, 2), REFUSED_BEYOND);
-        assert_eq!(begin(&mut nodes, &mut seats, 0, 0, LONGEST_TITLE, 1), REFUSED_BEYOND);
+        assert_eq!(reserve(&mut nodes, &mut seats, 0, 0, title + 1, 2), REFUSED_BEYOND);
+        assert_eq!(reserve(&mut nodes, &mut seats, 0, title, title + 1, 2), REFUSED_BEYOND);
+        assert_eq!(reserve(&mut nodes, &mut seats, 0, 0, LONGEST_TITLE, 1), REFUSED_BEYOND);
         assert_eq!((&nodes, &seats), (&fresh(1, 1, title).0, &fresh(1, 1, title).1));
-        assert_eq!(begin(&mut nodes, &mut seats, 0, title - 1, title, 2), Ok(Answer::Node(1)));
+        assert_eq!(reserve(&mut nodes, &mut seats, 0, title - 1, title, 2), Ok(Answer::Node(1)));
     }
     let (mut nodes, mut seats) = fresh(1, 1, LONGEST_TITLE);
-    assert_eq!(begin(&mut nodes, &mut seats, 0, 0, LONGEST_TITLE, 2), Ok(Answer::Node(1)));
+    assert_eq!(reserve(&mut nodes, &mut seats, 0, 0, LONGEST_TITLE, 2), Ok(Answer::Node(1)));
 }
 
 /// Two nodes for a title of twenty frames: seat 0 holds all of it, seat 1 waits, seat 2 is idle, and no node is free.
 fn full_tables() -> Tables {
     let (mut nodes, mut seats) = fresh(2, 3, 20);
-    assert_eq!(begin(&mut nodes, &mut seats, 0, 0, 20, 2), Ok(Answer::Node(1)));
+    assert_eq!(reserve(&mut nodes, &mut seats, 0, 0, 20, 2), Ok(Answer::Node(1)));
+    assert_eq!(enter(&nodes, &mut seats, 0), Ok(Answer::On));
     assert_eq!([0, 0].map(|seat| step(&mut nodes, &mut seats, seat)), [Ok(Answer::On), Ok(Answer::Held)]);
-    assert_eq!(begin(&mut nodes, &mut seats, 1, 10, 20, 2), Ok(Answer::Node(2)));
+    assert_eq!(reserve(&mut nodes, &mut seats, 1, 10, 20, 2), Ok(Answer::Node(2)));
+    assert_eq!(enter(&nodes, &mut seats, 1), Ok(Answer::On));
     assert_eq!(step(&mut nodes, &mut seats, 1), Ok(Answer::Wait { node: 1, first: 10, end: 20 }));
     (nodes, seats)
 }
 
 #[test]
-fn of_two_refusals_of_begin_the_first_in_its_order_is_given() {
+fn of_two_refusals_of_reserve_the_first_in_its_order_is_given() {
     let refused = |seat, start, end, kind| {
         let (mut nodes, mut seats) = full_tables();
-        let answer = begin(&mut nodes, &mut seats, seat, start, end, kind);
+        let answer = reserve(&mut nodes, &mut seats, seat, start, end, kind);
         assert_eq!((nodes, seats), full_tables());
         answer.expect_err("no node is free")
     };
@@ -64,8 +66,8 @@ fn of_two_refusals_of_begin_the_first_in_its_order_is_given() {
 fn damage_is_told_before_the_end_of_the_title() {
     let (mut nodes, mut seats) = full_tables();
     nodes[HEAD] = 3;
-    assert_eq!(begin(&mut nodes, &mut seats, 2, 10, 21, 2), Err(1));
-    assert_eq!(begin(&mut nodes, &mut seats, 3, 25, 21, 9), Err(1));
+    assert_eq!(reserve(&mut nodes, &mut seats, 2, 10, 21, 2), Err(1));
+    assert_eq!(reserve(&mut nodes, &mut seats, 3, 25, 21, 9), Err(1));
 }
 
 #[test]
@@ -103,12 +105,12 @@ fn clear_remembers_its_count_and_writes_0_everywhere_else() {
 #[test]
 fn a_new_title_is_that_of_the_next_claims() {
     let (mut nodes, mut seats) = full_tables();
-    assert_eq!(begin(&mut nodes, &mut seats, 2, 10, 21, 2), REFUSED_BEYOND);
+    assert_eq!(reserve(&mut nodes, &mut seats, 2, 10, 21, 2), REFUSED_BEYOND);
     clear(&mut nodes, &mut seats, 21).unwrap();
-    assert_eq!(begin(&mut nodes, &mut seats, 2, 10, 21, 2), Ok(Answer::Node(1)));
+    assert_eq!(reserve(&mut nodes, &mut seats, 2, 10, 21, 2), Ok(Answer::Node(1)));
     clear(&mut nodes, &mut seats, 19).unwrap();
-    assert_eq!(begin(&mut nodes, &mut seats, 2, 10, 20, 2), REFUSED_BEYOND);
-    assert_eq!(begin(&mut nodes, &mut seats, 2, 10, 19, 2), Ok(Answer::Node(1)));
+    assert_eq!(reserve(&mut nodes, &mut seats, 2, 10, 20, 2), REFUSED_BEYOND);
+    assert_eq!(reserve(&mut nodes, &mut seats, 2, 10, 19, 2), Ok(Answer::Node(1)));
 }
 
 #[test]
@@ -135,13 +137,16 @@ fn assert_shortest_title(name: &str, (nodes, seats): &Tables, shortest: u32) {
 #[test]
 fn a_title_below_the_end_of_any_node_is_damage() {
     let (mut nodes, mut seats) = fresh(4, 2, 50);
-    begin(&mut nodes, &mut seats, 0, 30, 40, 2).unwrap();
+    reserve(&mut nodes, &mut seats, 0, 30, 40, 2).unwrap();
+    assert_shortest_title("a reserved node", &(nodes.clone(), seats.clone()), 40);
+    enter(&nodes, &mut seats, 0).unwrap();
     assert_shortest_title("a walker's node", &(nodes.clone(), seats.clone()), 40);
     while step(&mut nodes, &mut seats, 0).expect("the seat is under way") != Answer::Held {}
     assert_shortest_title("a held node", &(nodes.clone(), seats.clone()), 40);
     release(&mut nodes, &mut seats, 0).unwrap();
     assert_shortest_title("a released node on the list", &(nodes.clone(), seats.clone()), 40);
-    begin(&mut nodes, &mut seats, 1, 0, 10, 2).unwrap();
+    reserve(&mut nodes, &mut seats, 1, 0, 10, 2).unwrap();
+    enter(&nodes, &mut seats, 1).unwrap();
     while step(&mut nodes, &mut seats, 1).expect("the seat is under way") != Answer::Held {}
     release(&mut nodes, &mut seats, 1).unwrap();
     assert_eq!((word(&nodes, 1, END), nodes[HEAD], free_count(&nodes, &seats)), (40, 2, Ok(3)));
@@ -226,8 +231,9 @@ fn covered_is_at_most_the_title() {
 
 #[test]
 fn a_title_of_one_frame_is_held_by_one_writer() {
-    let script = script_on(2, 2, 1, "b 0 0 2 2; b 0 1 1 2; b 0 0 1 2; s 0; s 0; b 1 0 1 1; s 1");
-    let printed = "1 no 11\n2 no 3\n3 node 1\n4 on\n5 held\n6 node 2\n7 wait 1 0 1\nlist 1\nhold 0 0 1 2\ncovered 1\n";
+    let script = script_on(2, 2, 1, "v 0 0 2 2; v 0 1 1 2; v 0 0 1 2; e 0; s 0; s 0; v 1 0 1 1; e 1; s 1");
+    let printed = "1 no 11\n2 no 3\n3 node 1\n4 on\n5 on\n6 held\n7 node 2\n8 on\n9 wait 1 0 1\n\
+                   list 1\nhold 0 0 1 2\ncovered 1\n";
     assert_eq!(play(script.as_bytes()), printed);
 }
 
@@ -246,11 +252,11 @@ fn the_histories_are_the_same_where_the_last_claim_ends_at_the_title() {
 #[test]
 fn the_title_is_the_fourth_number_of_a_script() {
     let mut numbers = [9; CONTENTS_WORDS + 5 * MOST_ROWS];
-    assert_eq!(library::read(b"4 3 1 20\nb 2 10 21 1\n", &mut numbers), 0);
+    assert_eq!(library::read(b"4 3 1 20\nv 2 10 21 1\n", &mut numbers), 0);
     let filled = [4, 3, 1, 20, 1, 2, 10, 21, 1];
     assert_eq!((numbers.len(), &numbers[..filled.len()]), (5004, &filled[..]));
     assert!(numbers[filled.len()..].iter().all(|&number| number == 0));
-    assert_eq!(library::read(b"4 3 1 0\nb 2 10 21 1\n", &mut numbers), 10 << 32 | 1);
+    assert_eq!(library::read(b"4 3 1 0\nv 2 10 21 1\n", &mut numbers), 10 << 32 | 1);
     assert_eq!(numbers[3], 20);
 }
 
@@ -267,5 +273,5 @@ fn a_holder_of_the_whole_title_steps_and_releases_like_any_other() {
     seats[OWN] = 1;
     assert_eq!(step(&mut nodes, &mut seats, 0), Ok(Answer::Held));
     assert_eq!(release(&mut nodes, &mut seats, 0), Ok(Answer::Out));
-    assert_eq!(begin(&mut nodes, &mut seats, 0, 0, 20, 1), Ok(Answer::Node(1)));
+    assert_eq!(reserve(&mut nodes, &mut seats, 0, 0, 20, 1), Ok(Answer::Node(1)));
 }
