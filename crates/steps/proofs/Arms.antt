@@ -230,18 +230,18 @@ module _ (n t t′ : List ℕ) (s c o : ℕ) (r : ℤ) where
       w ∙ sym (rw (way q pc po) (above-zero r _ _ _ (rw q (compare-fits (claimOf (tables n []) c) (claimOf (tables n []) o))) d e))
 
 -- ---- waiting, of both kinds
-pub enter-is : (n t t′ : List ℕ) (s : ℕ) → tables n t′ ≡ wakeTo 1 (tables n t) s → tables n t′ ≡ waitingToEnter (tables n t) s
+pub to-enter-is : (n t t′ : List ℕ) (s : ℕ) → tables n t′ ≡ wakeTo 1 (tables n t) s → tables n t′ ≡ waitingToEnter (tables n t) s
 unfolding wakeTo waitingToEnter
-enter-is n t t′ s w = w
+to-enter-is n t t′ s w = w
 
 pub reader-is : (n t t′ : List ℕ) (s : ℕ) → tables n t′ ≡ wakeTo 3 (tables n t) s → tables n t′ ≡ readerWaiting (tables n t) s
 unfolding wakeTo readerWaiting
 reader-is n t t′ s w = w
 
 -- ---- entering
-pub enters-is : (n t t₁ t′ : List ℕ) (s h : ℕ) → t′ ≡ putSeat t₁ s curAt h → t₁ ≡ putSeat t s phaseAt 1 → h ≡ linkWord n 0 → tables n t′ ≡ entering (tables n t) s
+pub entering-is : (n t t₁ t′ : List ℕ) (s h : ℕ) → t′ ≡ putSeat t₁ s curAt h → t₁ ≡ putSeat t s phaseAt 1 → h ≡ linkWord n 0 → tables n t′ ≡ entering (tables n t) s
 unfolding entering
-enters-is n t t₁ t′ s h p q e = rw (p, q, e)
+entering-is n t t₁ t′ s h p q e = rw (p, q, e)
 
 -- ---- the answer
 module _ (n t : List ℕ) (s : ℕ) where

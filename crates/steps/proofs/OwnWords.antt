@@ -209,15 +209,21 @@ module _ (t : List ℕ) (s a e : ℕ) (starts : a ≡ seatWidth * s) (ends : e �
   abbrev pub ownWords : List ℕ
   ownWords = take (e - a) (drop a t)
 
+  abbrev front : List ℕ
+  front = take a t
+
+  abbrev rear : List ℕ
+  rear = drop (e - a) (drop a t)
+
   abbrev around : List ℕ → List ℕ
-  around l = take a t ++ (l ++ drop (e - a) (drop a t))
+  around l = front ++ (l ++ rear)
 
   pub part-within : e ≤ length t
   unfolding seatCountOf
   part-within = let b = seat-within s (seatCountOf t) is-seat in omega arith
 
-  before-long : length (take a t) ≡ seatWidth * s
-  before-long = length-take-le a t (let h = part-within in omega arith) ∙ starts
+  front-long : length front ≡ seatWidth * s
+  front-long = length-take-le a t (let h = part-within in omega arith) ∙ starts
 
   pub part-full : seatWidth ≤ length ownWords
   part-full =
@@ -227,40 +233,40 @@ module _ (t : List ℕ) (s a e : ℕ) (starts : a ≡ seatWidth * s) (ends : e �
       omega arith
 
   pub together : around ownWords ≡ t
-  together = ap (λ l. take a t ++ l) (take-append-drop (e - a) (drop a t)) ∙ take-append-drop a t
+  together = ap (λ l. front ++ l) (take-append-drop (e - a) (drop a t)) ∙ take-append-drop a t
 
   -- what a rule does to the part, it does to the whole
   as-whole : (rule : Tables → ℕ → Tables)
-      → ((u : Tables) → seatWidth ≤ length (u .seats) → Placed (take a t) (drop (e - a) (drop a t)) s before-long (rule (placed (take a t) (drop (e - a) (drop a t)) s before-long u) s) (rule u 0))
+      → ((u : Tables) → seatWidth ≤ length (u .seats) → Placed front rear s front-long (rule (placed front rear s front-long u) s) (rule u 0))
       → (n n′ l′ : List ℕ) → tables n′ l′ ≡ rule (tables n ownWords) 0 → tables n′ (around l′) ≡ rule (tables n t) s
   as-whole rule in-place n n′ l′ w =
       ap (λ (u : Tables). tables (u .nodes) (around (u .seats))) w ∙ sym (in-place (tables n ownWords) part-full .same) ∙ ap (λ l. rule (tables n l) s) together
 
   module _ (n n′ l′ : List ℕ) where
     pub walks : tables n′ l′ ≡ walking (tables n ownWords) 0 → tables n′ (around l′) ≡ walking (tables n t) s
-    walks = as-whole walking (walking-placed (take a t) (drop (e - a) (drop a t)) s before-long) n n′ l′
+    walks = as-whole walking (walking-placed front rear s front-long) n n′ l′
 
     pub waits-to-enter : tables n′ l′ ≡ waitingToEnter (tables n ownWords) 0 → tables n′ (around l′) ≡ waitingToEnter (tables n t) s
-    waits-to-enter = as-whole waitingToEnter (waiting-placed (take a t) (drop (e - a) (drop a t)) s before-long) n n′ l′
+    waits-to-enter = as-whole waitingToEnter (waiting-placed front rear s front-long) n n′ l′
 
     pub validates : tables n′ l′ ≡ validating (tables n ownWords) 0 → tables n′ (around l′) ≡ validating (tables n t) s
-    validates = as-whole validating (validating-placed (take a t) (drop (e - a) (drop a t)) s before-long) n n′ l′
+    validates = as-whole validating (validating-placed front rear s front-long) n n′ l′
 
     pub waits-as-reader : tables n′ l′ ≡ readerWaiting (tables n ownWords) 0 → tables n′ (around l′) ≡ readerWaiting (tables n t) s
-    waits-as-reader = as-whole readerWaiting (reader-waiting-placed (take a t) (drop (e - a) (drop a t)) s before-long) n n′ l′
+    waits-as-reader = as-whole readerWaiting (reader-waiting-placed front rear s front-long) n n′ l′
 
     pub enters : tables n′ l′ ≡ entering (tables n ownWords) 0 → tables n′ (around l′) ≡ entering (tables n t) s
-    enters = as-whole entering (entering-placed (take a t) (drop (e - a) (drop a t)) s before-long) n n′ l′
+    enters = as-whole entering (entering-placed front rear s front-long) n n′ l′
 
     pub leaves : tables n′ l′ ≡ leave (tables n ownWords) 0 → tables n′ (around l′) ≡ leave (tables n t) s
-    leaves = as-whole leave (leave-placed (take a t) (drop (e - a) (drop a t)) s before-long) n n′ l′
+    leaves = as-whole leave (leave-placed front rear s front-long) n n′ l′
 
   -- what is read of the part, is read of the whole
   pub same-answer : (n : List ℕ) → answerOf (tables n ownWords) 0 ≡ answerOf (tables n t) s
   same-answer n =
-      sym (answer-placed (take a t) (drop (e - a) (drop a t)) s before-long (tables n ownWords) part-full) ∙ ap (λ l. answerOf (tables n l) s) together
+      sym (answer-placed front rear s front-long (tables n ownWords) part-full) ∙ ap (λ l. answerOf (tables n l) s) together
 
   pub same-kind : (n : List ℕ) → kindOf (tables n ownWords) 0 ≡ kindOf (tables n t) s
   same-kind n =
       ap (λ o. kind (tables n []) o)
-      (sym (read-own (take a t) (drop (e - a) (drop a t)) s before-long (tables n ownWords) part-full) ∙ ap (λ l. own (tables n l) s) together)
+      (sym (read-own front rear s front-long (tables n ownWords) part-full) ∙ ap (λ l. own (tables n l) s) together)

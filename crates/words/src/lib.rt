@@ -247,16 +247,17 @@ pub fn put_seat(seats: &mut [u32], s: u32, field: u32, value: u32)
 
 // where the part starts
 pub fn seat_start(s: u32) -> usize
-    ensures { λ r. ⌜ r ≡ seatWidth * s ⌝ }
+    ensures place { λ r. ⌜ r ≡ seatWidth * s ⌝ }
+    ensures small { λ r. ⌜ r < 34359738368 ⌝ }
 {
-    SEAT_WIDTH * s as usize
+    seat_place(s, 0)
 }
 
 // and where it ends
 pub fn seat_end(s: u32) -> usize
     ensures { λ r. ⌜ r ≡ seatWidth * s + seatWidth ⌝ }
 {
-    SEAT_WIDTH * s as usize + SEAT_WIDTH
+    seat_start(s) + SEAT_WIDTH
 }
 
 pub fn field(seat: &[u32], at: u32) -> u32

@@ -1,5 +1,5 @@
 -- `steps::enter` meets its promise.
-use Rattle.steps.proofs.Arms.{enters-is}
+use Rattle.steps.proofs.Arms.{entering-is}
 use borrow.Author.Needs.{needs}
 use Rattle.steps.proofs.enter.Statement.{statement}
 use Rattle.steps.proofs.enter.Tie as tie
@@ -17,7 +17,7 @@ same-length : tie.Need-same-length
 same-length c = search needs
 
 returns : tie.Need-returns
-returns c = search enters-is
+returns c = search entering-is
 
 pub enter-spec : {M : Type 1} → statement M
 enter-spec =
