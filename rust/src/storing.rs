@@ -119,8 +119,10 @@ fn stored_by_step(nodes: &[u32], before: &[u32], phase_after: u32) -> Vec<usize>
 
 fn step(case: &Case, seat: u32, seats_after: &[u32]) -> Allowed {
     let (before, after) = (&case.seats[words_of_seat(seat)], &seats_after[words_of_seat(seat)]);
-    if before[PHASE] == WITHDRAWN {
-        return fetch(case, seat, after[OWN]);
+    match before[PHASE] {
+        WITHDRAWN => return fetch(case, seat, after[OWN]),
+        RESERVED => return enter(seat),
+        _ => {}
     }
     let stored = stored_by_step(&case.nodes, before, after[PHASE]);
     Allowed {

@@ -2,11 +2,11 @@
 use Prim.Native.Nat.{ℕ, suc, _+_, _≤_, _<_, _-_, _*_}
 use mathlib.Core.Path.{_≡_, refl, sym, ap, _∙_}
 use mathlib.Core.Bool.{Bool, true, false, not}
-use mathlib.Core.List.{List, [], _∷_, _++_}
+use mathlib.Core.List.{List, [], _∷_}
 use mathlib.Core.Logic.{_≢_, _⊎_, ⊎-elim}
 use native.Mathlib.Omega.{arith}
 use native.Mathlib.Nat.{eq-or-lt-of-le}
-use lib.ListN.{length, getD, set, take, drop}
+use lib.ListN.{length, getD, set}
 use lib.Seq.{getD-set-same, getD-set-other}
 use borrow.Author.Tests.{eq-eqb, ne-eqb, le-leb, lt-leb, le-ltb, lt-ltb, not-true, not-false}
 use Rattle.rules.specs.Notation.{_is_}
@@ -17,7 +17,7 @@ use Rattle.rules.specs.Reach.{countFree}
 use Rattle.rules.specs.Fetch.{fetched, fetch}
 use Rattle.rules.specs.Answers.{Answer, node, out, refused, done, answerOf, on}
 use Rattle.rules.specs.Steps.{leave, entering}
-use Rattle.rules.specs.Calls.{clear, reserved, reserve, step, release, enter}
+use Rattle.rules.specs.Calls.{clear, reserved, reserve, enter, step, release}
 use Rattle.rules.specs.Run.{refusalOf}
 use Rattle.rules.specs.FreeCount.{Counted, freeCount}
 use Rattle.rules.proofs.Laws.Words.{same-seat-count}
@@ -107,22 +107,16 @@ module _ (n t : List ℕ) (s x y k : ℕ) where
 -- ---- enter and release, past 2: the part from a up to e, which are the seat's own words, is lent, and l′ is what they are then
 module _ (n t : List ℕ) (s p : ℕ) (isPhase : p ≡ seatWord t s phaseAt) where
   module _ (a e : ℕ) (starts : a ≡ seatWidth * s) (ends : e ≡ seatWidth * s + seatWidth) (is-seat : s < seatCountOf t) (l′ : List ℕ) where
-    abbrev own-words : List ℕ
-    own-words = take (e - a) (drop a t)
-
-    abbrev back : List ℕ
-    back = take a t ++ (l′ ++ drop (e - a) (drop a t))
-
-    pub enter-reserved : tables n l′ ≡ entering (tables n own-words) 0 → p ≡ 7 → done on (tables n back) ≡ enterSeat (tables n t) s
+    pub enter-reserved : tables n l′ ≡ entering (tables n (own.part t a e)) 0 → p ≡ 7 → done on (tables n (own.back t a e l′)) ≡ enterSeat (tables n t) s
     enter-reserved w q =
         let says = entering-says-on (tables n t) s (let h = own.part-within t s a e starts ends is-seat in omega arith) in
         rw (eq-eqb (seatWord t s phaseAt) 7 (sym isPhase ∙ q), own.enters t s a e starts ends is-seat n n l′ w)
         (ap (λ (x : Answer). done x (entering (tables n t) s)) (sym says))
 
-    pub release-holder : (n′ : List ℕ) → tables n′ l′ ≡ leave (tables n own-words) 0 → p ≡ 5 → done out (tables n′ back) ≡ releaseSeat (tables n t) s
+    pub release-holder : (n′ : List ℕ) → tables n′ l′ ≡ leave (tables n (own.part t a e)) 0 → p ≡ 5 → done out (tables n′ (own.back t a e l′)) ≡ releaseSeat (tables n t) s
     release-holder n′ w q = rw (eq-eqb (seatWord t s phaseAt) 5 (sym isPhase ∙ q), own.leaves t s a e starts ends is-seat n n′ l′ w)
 
-    pub one-to-take-off : sound (tables n t) ≡ true → p ≡ 5 → 1 ≤ countOfKind (tables n own-words) 0
+    pub one-to-take-off : sound (tables n t) ≡ true → p ≡ 5 → 1 ≤ countOfKind (tables n (own.part t a e)) 0
     one-to-take-off z q = rw (own.same-kind t s a e starts ends is-seat n) (holder-counts (tables n t) z s is-seat (sym isPhase ∙ q))
 
   pub enter-other : (p ≡ 7 → ⊥) → done (refused 14) (tables n t) ≡ enterSeat (tables n t) s
@@ -197,7 +191,7 @@ module _ (n t n′ t′ : List ℕ) (s r : ℕ) (stepped : done r (tables n′ t
     pub part-there : y ≤ length t′
     part-there = own.part-within t′ s x y starts ends (still-there z long)
 
-    pub step-answered : (a : Answer) → a ≡ answerOf (tables n′ (take (y - x) (drop x t′))) 0 → done a (tables n′ t′) ≡ step (tables n t) s
+    pub step-answered : (a : Answer) → a ≡ answerOf (tables n′ (own.part t′ x y)) 0 → done a (tables n′ t′) ≡ step (tables n t) s
     step-answered a e =
         let said : step (tables n t) s .answer ≡ answerOf (step (tables n t) s .after) s = answers-from-phase (tables n t) s (sym refusal ∙ z) in
         rw (e ∙ own.same-answer t′ s x y starts ends (still-there z long) n′, after) (ap (λ (x : Answer). done x (step (tables n t) s .after)) (sym said))

@@ -2,17 +2,16 @@
 use Prim.Native.Nat.{ℕ, _≤_, _<_, _+_, _-_, _*_}
 use mathlib.Core.Path.{_≡_, refl, sym, ap, _∙_}
 use mathlib.Core.Bool.{true}
-use mathlib.Core.List.{List, _++_}
+use mathlib.Core.List.{List}
 use mathlib.Core.Logic.{_≢_}
 use native.Mathlib.Omega.{arith}
-use lib.ListN.{take, drop}
 use borrow.Author.Tests.{ne-eqb, le-leb, lt-leb}
 use Rattle.rules.specs.Tables.{Tables, tables, nodeWord, seatWord, seatCountOf, phaseAt, ownAt, startAt, endAt, kindAt, seatWidth}
 use Rattle.rules.specs.Comparison.{claim, claimOf}
 use Rattle.rules.specs.Shape.{sound}
 use Rattle.rules.specs.Fetch.{fetched, fetch}
 use Rattle.rules.specs.Answers.{Answer, Done, done, answered}
-use Rattle.rules.specs.Steps.{walking, waitingToEnter, validating, readerWaiting, refetched, withdrawn, stepByPhase, entering, kindOf}
+use Rattle.rules.specs.Steps.{walking, waitingToEnter, validating, readerWaiting, refetched, withdrawn, entering, stepByPhase, kindOf}
 use Rattle.rules.specs.Calls.{step}
 use Rattle.rules.specs.Run.{refusalOf}
 use Rattle.rules.proofs.Ground.Deciding.{beyond-3}
@@ -71,26 +70,20 @@ module _ (n t : List ℕ) (s p : ℕ) (isPhase : p ≡ seatWord t s phaseAt) whe
 
   -- the others are lent the part from a up to e, which are the seat's own words: l′ is what they are then
   module _ (a e : ℕ) (starts : a ≡ seatWidth * s) (ends : e ≡ seatWidth * s + seatWidth) (is-seat : s < seatCountOf t) (l′ : List ℕ) where
-    abbrev own-words : List ℕ
-    own-words = take (e - a) (drop a t)
-
-    abbrev back : List ℕ
-    back = take a t ++ (l′ ++ drop (e - a) (drop a t))
-
-    pub step-two : tables n l′ ≡ waitingToEnter (tables n own-words) 0 → p ≡ 2 → done 0 (tables n back) ≡ unanswered (stepBusy (tables n t) s)
+    pub step-two : tables n l′ ≡ waitingToEnter (tables n (own.part t a e)) 0 → p ≡ 2 → done 0 (tables n (own.back t a e l′)) ≡ unanswered (stepBusy (tables n t) s)
     step-two w q = by-rule _ _ (own.waits-to-enter t s a e starts ends is-seat n n l′ w) (omega arith) (by-phase-2 (tables n t) s (sym isPhase ∙ q))
 
-    pub step-four : tables n l′ ≡ readerWaiting (tables n own-words) 0 → p ≡ 4 → done 0 (tables n back) ≡ unanswered (stepBusy (tables n t) s)
+    pub step-four : tables n l′ ≡ readerWaiting (tables n (own.part t a e)) 0 → p ≡ 4 → done 0 (tables n (own.back t a e l′)) ≡ unanswered (stepBusy (tables n t) s)
     step-four w q = by-rule _ _ (own.waits-as-reader t s a e starts ends is-seat n n l′ w) (omega arith) (by-phase-4 (tables n t) s (sym isPhase ∙ q))
 
-    pub step-seven : tables n l′ ≡ entering (tables n own-words) 0 → p ≡ 7 → done 0 (tables n back) ≡ unanswered (stepBusy (tables n t) s)
+    pub step-seven : tables n l′ ≡ entering (tables n (own.part t a e)) 0 → p ≡ 7 → done 0 (tables n (own.back t a e l′)) ≡ unanswered (stepBusy (tables n t) s)
     step-seven w q = by-rule _ _ (own.enters t s a e starts ends is-seat n n l′ w) (omega arith) (by-phase-7 (tables n t) s (sym isPhase ∙ q))
 
     module _ (n′ : List ℕ) where
-      pub step-one : tables n′ l′ ≡ walking (tables n own-words) 0 → p ≡ 1 → done 0 (tables n′ back) ≡ unanswered (stepBusy (tables n t) s)
+      pub step-one : tables n′ l′ ≡ walking (tables n (own.part t a e)) 0 → p ≡ 1 → done 0 (tables n′ (own.back t a e l′)) ≡ unanswered (stepBusy (tables n t) s)
       step-one w q = by-rule _ _ (own.walks t s a e starts ends is-seat n n′ l′ w) (omega arith) (by-phase-1 (tables n t) s (sym isPhase ∙ q))
 
-      pub step-three : tables n′ l′ ≡ validating (tables n own-words) 0 → p ≡ 3 → done 0 (tables n′ back) ≡ unanswered (stepBusy (tables n t) s)
+      pub step-three : tables n′ l′ ≡ validating (tables n (own.part t a e)) 0 → p ≡ 3 → done 0 (tables n′ (own.back t a e l′)) ≡ unanswered (stepBusy (tables n t) s)
       step-three w q = by-rule _ _ (own.validates t s a e starts ends is-seat n n′ l′ w) (omega arith) (by-phase-3 (tables n t) s (sym isPhase ∙ q))
 
 -- in sound tables one more is still a count

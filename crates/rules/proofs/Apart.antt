@@ -12,7 +12,7 @@ use Rattle.rules.specs.Shape.{sound}
 use Rattle.rules.specs.Reach.{listOf}
 use Rattle.rules.specs.Answers.{refused}
 use Rattle.rules.specs.Steps.{kindOf}
-use Rattle.rules.specs.Calls.{reserve, step, release, enter}
+use Rattle.rules.specs.Calls.{reserve, enter, step, release}
 use Rattle.rules.specs.Run.{run}
 use Rattle.rules.specs.Play.{Call, call, afterAll, seatOf}
 use Rattle.rules.specs.Reached.{Request, afterRequest, afterRequests, Reached, asked}

@@ -14,7 +14,7 @@ use Rattle.rules.specs.Answers.{Answer, node, out, on, wait, held, back,
 use Rattle.rules.specs.Calls.{clear}
 use Rattle.rules.specs.FreeCount.{counted, freeCount}
 use Rattle.rules.specs.Board.{holders, coveredBy, filled, shown, board}
-use Rattle.rules.specs.Play.{Call, reserveCall, stepCall, releaseCall, enterCall, Turn, trace, afterAll, ascii, play}
+use Rattle.rules.specs.Play.{Call, reserveCall, enterCall, stepCall, releaseCall, Turn, trace, afterAll, ascii, play}
 use Rattle.rules.specs.declared.Row.{Row}
 use Rattle.rules.proofs.Laws.Opened.{rules}
 

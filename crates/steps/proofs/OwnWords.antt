@@ -204,19 +204,19 @@ module _ (before behind : List ℕ) (s : ℕ) (at-seat : length before ≡ seatW
     unfolding answerOf
     answer-placed = rw (read u h phaseAt (omega arith), read-own u h, read-cur u h)
 
--- ---- the part of a whole seat table in which the seat's words stand, from a up to e, is lent to a rule and comes back
-module _ (t : List ℕ) (s a e : ℕ) (starts : a ≡ seatWidth * s) (ends : e ≡ seatWidth * s + seatWidth) (is-seat : s < seatCountOf t) where
-  abbrev pub ownWords : List ℕ
-  ownWords = take (e - a) (drop a t)
+-- ---- the part of a whole seat table in which the seat's words stand, from a up to e, is lent to a rule and comes back with these words
+abbrev pub part : List ℕ → ℕ → ℕ → List ℕ
+part t a e = take (e - a) (drop a t)
 
+abbrev pub back : List ℕ → ℕ → ℕ → List ℕ → List ℕ
+back t a e words = take a t ++ (words ++ drop (e - a) (drop a t))
+
+module _ (t : List ℕ) (s a e : ℕ) (starts : a ≡ seatWidth * s) (ends : e ≡ seatWidth * s + seatWidth) (is-seat : s < seatCountOf t) where
   abbrev front : List ℕ
   front = take a t
 
   abbrev rear : List ℕ
   rear = drop (e - a) (drop a t)
-
-  abbrev around : List ℕ → List ℕ
-  around l = front ++ (l ++ rear)
 
   pub part-within : e ≤ length t
   unfolding seatCountOf
@@ -225,48 +225,48 @@ module _ (t : List ℕ) (s a e : ℕ) (starts : a ≡ seatWidth * s) (ends : e �
   front-long : length front ≡ seatWidth * s
   front-long = length-take-le a t (let h = part-within in omega arith) ∙ starts
 
-  pub part-full : seatWidth ≤ length ownWords
+  pub part-full : seatWidth ≤ length (part t a e)
   part-full =
       let h = part-within in
       let d = length-drop a t in
       let l = length-take-le (e - a) (drop a t) (omega arith) in
       omega arith
 
-  pub together : around ownWords ≡ t
+  pub together : back t a e (part t a e) ≡ t
   together = ap (λ l. front ++ l) (take-append-drop (e - a) (drop a t)) ∙ take-append-drop a t
 
   -- what a rule does to the part, it does to the whole
   as-whole : (rule : Tables → ℕ → Tables)
       → ((u : Tables) → seatWidth ≤ length (u .seats) → Placed front rear s front-long (rule (placed front rear s front-long u) s) (rule u 0))
-      → (n n′ l′ : List ℕ) → tables n′ l′ ≡ rule (tables n ownWords) 0 → tables n′ (around l′) ≡ rule (tables n t) s
+      → (n n′ l′ : List ℕ) → tables n′ l′ ≡ rule (tables n (part t a e)) 0 → tables n′ (back t a e l′) ≡ rule (tables n t) s
   as-whole rule in-place n n′ l′ w =
-      ap (λ (u : Tables). tables (u .nodes) (around (u .seats))) w ∙ sym (in-place (tables n ownWords) part-full .same) ∙ ap (λ l. rule (tables n l) s) together
+      ap (λ (u : Tables). tables (u .nodes) (back t a e (u .seats))) w ∙ sym (in-place (tables n (part t a e)) part-full .same) ∙ ap (λ l. rule (tables n l) s) together
 
   module _ (n n′ l′ : List ℕ) where
-    pub walks : tables n′ l′ ≡ walking (tables n ownWords) 0 → tables n′ (around l′) ≡ walking (tables n t) s
+    pub walks : tables n′ l′ ≡ walking (tables n (part t a e)) 0 → tables n′ (back t a e l′) ≡ walking (tables n t) s
     walks = as-whole walking (walking-placed front rear s front-long) n n′ l′
 
-    pub waits-to-enter : tables n′ l′ ≡ waitingToEnter (tables n ownWords) 0 → tables n′ (around l′) ≡ waitingToEnter (tables n t) s
+    pub waits-to-enter : tables n′ l′ ≡ waitingToEnter (tables n (part t a e)) 0 → tables n′ (back t a e l′) ≡ waitingToEnter (tables n t) s
     waits-to-enter = as-whole waitingToEnter (waiting-placed front rear s front-long) n n′ l′
 
-    pub validates : tables n′ l′ ≡ validating (tables n ownWords) 0 → tables n′ (around l′) ≡ validating (tables n t) s
+    pub validates : tables n′ l′ ≡ validating (tables n (part t a e)) 0 → tables n′ (back t a e l′) ≡ validating (tables n t) s
     validates = as-whole validating (validating-placed front rear s front-long) n n′ l′
 
-    pub waits-as-reader : tables n′ l′ ≡ readerWaiting (tables n ownWords) 0 → tables n′ (around l′) ≡ readerWaiting (tables n t) s
+    pub waits-as-reader : tables n′ l′ ≡ readerWaiting (tables n (part t a e)) 0 → tables n′ (back t a e l′) ≡ readerWaiting (tables n t) s
     waits-as-reader = as-whole readerWaiting (reader-waiting-placed front rear s front-long) n n′ l′
 
-    pub enters : tables n′ l′ ≡ entering (tables n ownWords) 0 → tables n′ (around l′) ≡ entering (tables n t) s
+    pub enters : tables n′ l′ ≡ entering (tables n (part t a e)) 0 → tables n′ (back t a e l′) ≡ entering (tables n t) s
     enters = as-whole entering (entering-placed front rear s front-long) n n′ l′
 
-    pub leaves : tables n′ l′ ≡ leave (tables n ownWords) 0 → tables n′ (around l′) ≡ leave (tables n t) s
+    pub leaves : tables n′ l′ ≡ leave (tables n (part t a e)) 0 → tables n′ (back t a e l′) ≡ leave (tables n t) s
     leaves = as-whole leave (leave-placed front rear s front-long) n n′ l′
 
   -- what is read of the part, is read of the whole
-  pub same-answer : (n : List ℕ) → answerOf (tables n ownWords) 0 ≡ answerOf (tables n t) s
+  pub same-answer : (n : List ℕ) → answerOf (tables n (part t a e)) 0 ≡ answerOf (tables n t) s
   same-answer n =
-      sym (answer-placed front rear s front-long (tables n ownWords) part-full) ∙ ap (λ l. answerOf (tables n l) s) together
+      sym (answer-placed front rear s front-long (tables n (part t a e)) part-full) ∙ ap (λ l. answerOf (tables n l) s) together
 
-  pub same-kind : (n : List ℕ) → kindOf (tables n ownWords) 0 ≡ kindOf (tables n t) s
+  pub same-kind : (n : List ℕ) → kindOf (tables n (part t a e)) 0 ≡ kindOf (tables n t) s
   same-kind n =
       ap (λ o. kind (tables n []) o)
-      (sym (read-own front rear s front-long (tables n ownWords) part-full) ∙ ap (λ l. own (tables n l) s) together)
+      (sym (read-own front rear s front-long (tables n (part t a e)) part-full) ∙ ap (λ l. own (tables n l) s) together)

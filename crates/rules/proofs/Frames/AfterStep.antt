@@ -15,7 +15,7 @@ use Rattle.rules.specs.Calls.{step}
 use Rattle.rules.proofs.Ground.Logic.{branch}
 use Rattle.rules.proofs.Rules.Effects.{Room, Seated}
 use Rattle.rules.proofs.Rules.RuleEffects.{phase-stored, cur-stored, place-stored, pass-stored, start-stored, hold-stored, withdraw-stored, enter-stored, reserve-stored}
-use Rattle.rules.proofs.Rules.Reasons.{Unlinking, takes-out, goes-past, as-reader, as-writer, links-in, restarts, rereads, Walking, inserts, unlinks, passes, waits, Waking, wakes, stays, reader-holds, reader-unlinks, reader-passes, reader-waits, writer-holds, writer-unlinks, writer-passes, withdraws, Validating, validates-reader, validates-writer, Fetching, found, found-then, none, Stepping, in-1, in-2, in-3, in-4, in-6, at-rest, in-7}
+use Rattle.rules.proofs.Rules.Reasons.{Unlinking, takes-out, goes-past, as-reader, as-writer, links-in, restarts, rereads, Walking, inserts, unlinks, passes, waits, Waking, wakes, stays, reader-holds, reader-unlinks, reader-passes, reader-waits, writer-holds, writer-unlinks, writer-passes, withdraws, Validating, validates-reader, validates-writer, Fetching, found, found-then, none, Stepping, in-1, in-2, in-3, in-4, in-6, in-7, at-rest}
 use Rattle.rules.proofs.Rules.Accepting.{Stepped, step-refused, step-accepted, stepped}
 use Rattle.rules.proofs.Frames.SeatFrames.{sound-room}
 use Rattle.rules.proofs.Laws.NodesAlone.{taken-out-seats}

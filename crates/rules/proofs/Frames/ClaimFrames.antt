@@ -16,7 +16,7 @@ use Rattle.rules.specs.Fetch.{Fetched, takenOut}
 use Rattle.rules.specs.Answers.{Answer, Done, node}
 use Rattle.rules.specs.Steps.{refetched}
 use Rattle.rules.specs.Calls.{reserved, step, reserve}
-use Rattle.rules.specs.Play.{Call, reserveCall, stepCall, releaseCall, call, seatOf, enterCall}
+use Rattle.rules.specs.Play.{Call, reserveCall, enterCall, stepCall, releaseCall, call, seatOf}
 use Rattle.rules.specs.Apart.{claimOfSeat}
 use Rattle.rules.proofs.Ground.Logic.{branch, or-neither, not-true, clash}
 use Rattle.rules.proofs.Ground.Deciding.{if-same}
@@ -29,7 +29,7 @@ use Rattle.rules.proofs.Laws.Free.{others-miss}
 use Rattle.rules.proofs.Rules.Reasons.{by-phase-6, by-no-phase, Fetching, found, found-then, none, fetching as fetching-of}
 use Rattle.rules.proofs.Rules.Accepting.{Reserving, reserve-refused, reserve-accepted, reserving, step-or-same, step-enters}
 use Rattle.rules.proofs.Frames.SeatFrames.{other-seats-kept}
-use Rattle.rules.proofs.Frames.NodeFrames.{taking-out, fetching, step-1-kept, step-2-kept, step-3-kept, step-4-kept, step-6-kept, reserve-kept, release-kept, enter-kept}
+use Rattle.rules.proofs.Frames.NodeFrames.{taking-out, fetching, step-1-kept, step-2-kept, step-3-kept, step-4-kept, step-6-kept, reserve-kept, enter-kept, release-kept}
 use Rattle.rules.proofs.Rules.RefusedExactly.{not-refused}
 
 -- ---- only fetch changes a claim

@@ -17,7 +17,7 @@ use Rattle.rules.specs.Fetch.{Fetched, writeClaim, takeNode, takenOut}
 use Rattle.rules.specs.Answers.{Answer, refused, Done, done}
 use Rattle.rules.specs.Steps.{moveTo, kindOf, hold, leave, refetched, entering}
 use Rattle.rules.specs.Calls.{clear, reserved}
-use Rattle.rules.specs.Play.{Call, reserveCall, stepCall, releaseCall, call, seatOf, enterCall}
+use Rattle.rules.specs.Play.{Call, reserveCall, enterCall, stepCall, releaseCall, call, seatOf}
 use Rattle.rules.specs.Run.{run}
 use Rattle.rules.specs.Reached.{Reached}
 use Rattle.rules.specs.Refusing.{damaged}
@@ -32,9 +32,9 @@ use Rattle.rules.proofs.Laws.Counts.{wrong-damaged, kinds-apart, own-ki
 use Rattle.rules.proofs.Laws.NodesAlone.{taken-out-seats}
 use Rattle.rules.proofs.Laws.RunSteps.{run-keeps, reached-has}
 use Rattle.rules.proofs.Rules.Effects.{Room}
-use Rattle.rules.proofs.Rules.RuleEffects.{hold-stored, leave-stored, enter-stored, reserve-stored}
-use Rattle.rules.proofs.Rules.Reasons.{Fetching, found, found-then, none, Stepping, in-1, in-2, in-3, in-4, in-6, at-rest, in-7}
-use Rattle.rules.proofs.Rules.Accepting.{Reserving, reserve-refused, reserve-accepted, reserving, Stepped, step-refused, step-accepted, stepped, Releasing, release-refused, release-accepted, releasing, Entering, enter-refused, enter-accepted, enters}
+use Rattle.rules.proofs.Rules.RuleEffects.{hold-stored, leave-stored, reserve-stored, enter-stored}
+use Rattle.rules.proofs.Rules.Reasons.{Fetching, found, found-then, none, Stepping, in-1, in-2, in-3, in-4, in-6, in-7, at-rest}
+use Rattle.rules.proofs.Rules.Accepting.{Reserving, reserve-refused, reserve-accepted, reserving, Entering, enter-refused, enter-accepted, enters, Stepped, step-refused, step-accepted, stepped, Releasing, release-refused, release-accepted, releasing}
 use Rattle.rules.proofs.Rules.RefusedExactly.{table-refused, clear-accepted}
 use Rattle.rules.proofs.Frames.SeatFrames.{sound-room, other-seats-kept}
 use Rattle.rules.proofs.Frames.NodeFrames.{walking, waking, unless-held, fetching, entering-kept}

@@ -10,10 +10,10 @@ use Rattle.rules.specs.Notation.{_is_}
 use Rattle.rules.specs.Tables.{Tables, tables, countAt, nodeWidth, nodeCount, startAt, endAt, kindAt, markAt, nextAt, ownAt, nodeWord, marked, next, head, phase, own, prev, cur, setCount, setNode, setLink, setMark, clearSeat}
 use Rattle.rules.specs.Comparison.{Claim, claimOf}
 use Rattle.rules.specs.Reach.{met, listed}
-use Rattle.rules.specs.Fetch.{Fetched, fetch, keptFrom, kept, linkThrough, takenOut, writeClaim, takeNode, reserveFor}
+use Rattle.rules.specs.Fetch.{Fetched, fetch, keptFrom, kept, linkThrough, takenOut, writeClaim, reserveFor, takeNode}
 use Rattle.rules.specs.Answers.{Answer, Done}
 use Rattle.rules.specs.Steps.{moveTo, linkIn, pass, kindOf, hold, withdraw, leave, refetched, entering}
-use Rattle.rules.specs.Calls.{reserved, reserve, step, release, enter}
+use Rattle.rules.specs.Calls.{reserved, reserve, enter, step, release}
 use Rattle.rules.specs.Apart.{Stands, NodesKept, NoNode, NoPlace, FetchKept}
 use Rattle.rules.proofs.Ground.Logic.{branch, or-left, or-right}
 use Rattle.rules.proofs.Laws.Words.{node-put-field, node-put-node, node-put-link, link-put-field, link-put-other, top-put-node, top-put-link, top-put-other, node-put-top, link-put-top, count-low, count-not-head, put-node-length, put-link-length, put-top-length}
@@ -23,7 +23,7 @@ use Rattle.rules.proofs.Rules.RuleEffects.{reserve-stored}
 use Rattle.rules.proofs.Laws.NodesAlone.{taken-out-seats}
 use Rattle.rules.proofs.Frames.SeatFrames.{sound-room}
 use Rattle.rules.proofs.Rules.Reasons.{Unlinking, takes-out, goes-past, as-reader, as-writer, Inserting, links-in, restarts, rereads, Walking, inserts, unlinks, passes, waits, walks, Waking, wakes, stays, wakes-to-walk, wakes-to-validate, reader-holds, reader-unlinks, reader-passes, reader-waits, writer-holds, writer-unlinks, writer-passes, withdraws, Validating, validates-reader, validates-writer, validates, by-phase-1, by-phase-2, by-phase-3, by-phase-4, by-phase-5, by-phase-6, Fetching, found, found-then, none, fetching as fetching-of}
-use Rattle.rules.proofs.Rules.Accepting.{Reserving, reserve-refused, reserve-accepted, reserving, step-or-same, Releasing, release-refused, release-accepted, releasing, Entering, enter-refused, enter-accepted, enters}
+use Rattle.rules.proofs.Rules.Accepting.{Reserving, reserve-refused, reserve-accepted, reserving, Entering, enter-refused, enter-accepted, enters, step-or-same, Releasing, release-refused, release-accepted, releasing}
 
 -- ---- keeping, in general
 pub kept-same : {L M C P : ℕ → Type 0} (t : Tables) → NodesKept L M C P t t

@@ -14,15 +14,15 @@ use Rattle.rules.specs.Fetch.{Fetched, writeClaim, takeNode, takenOut}
 use Rattle.rules.specs.Answers.{Answer, Done}
 use Rattle.rules.specs.Steps.{refetched, linkIn}
 use Rattle.rules.specs.Calls.{reserved}
-use Rattle.rules.specs.Play.{Call, reserveCall, stepCall, releaseCall, call, seatOf, enterCall}
+use Rattle.rules.specs.Play.{Call, reserveCall, enterCall, stepCall, releaseCall, call, seatOf}
 use Rattle.rules.specs.Apart.{OtherSeatsKept}
 use Rattle.rules.proofs.Ground.Logic.{branch}
 use Rattle.rules.proofs.Laws.Words.{seat-within}
 use Rattle.rules.proofs.Laws.Shape.{is-sound}
 use Rattle.rules.proofs.Rules.Effects.{Room, Seated}
-use Rattle.rules.proofs.Rules.RuleEffects.{phase-stored, cur-stored, place-stored, pass-stored, start-stored, hold-stored, withdraw-stored, leave-stored, enter-stored, reserve-stored}
-use Rattle.rules.proofs.Rules.Reasons.{Unlinking, takes-out, goes-past, Starting, as-reader, as-writer, Inserting, links-in, restarts, rereads, Walking, inserts, unlinks, passes, waits, Waking, wakes, stays, ReaderValidating, reader-holds, reader-unlinks, reader-passes, reader-waits, WriterValidating, writer-holds, writer-unlinks, writer-passes, withdraws, Validating, validates-reader, validates-writer, Fetching, found, found-then, none, Stepping, in-1, in-2, in-3, in-4, in-6, at-rest, in-7}
-use Rattle.rules.proofs.Rules.Accepting.{Reserving, reserve-refused, reserve-accepted, reserving, Stepped, step-refused, step-accepted, stepped, Releasing, release-refused, release-accepted, releasing, Entering, enter-refused, enter-accepted, enters}
+use Rattle.rules.proofs.Rules.RuleEffects.{phase-stored, cur-stored, place-stored, pass-stored, start-stored, hold-stored, withdraw-stored, leave-stored, reserve-stored, enter-stored}
+use Rattle.rules.proofs.Rules.Reasons.{Unlinking, takes-out, goes-past, Starting, as-reader, as-writer, Inserting, links-in, restarts, rereads, Walking, inserts, unlinks, passes, waits, Waking, wakes, stays, ReaderValidating, reader-holds, reader-unlinks, reader-passes, reader-waits, WriterValidating, writer-holds, writer-unlinks, writer-passes, withdraws, Validating, validates-reader, validates-writer, Fetching, found, found-then, none, Stepping, in-1, in-2, in-3, in-4, in-6, in-7, at-rest}
+use Rattle.rules.proofs.Rules.Accepting.{Reserving, reserve-refused, reserve-accepted, reserving, Entering, enter-refused, enter-accepted, enters, Stepped, step-refused, step-accepted, stepped, Releasing, release-refused, release-accepted, releasing}
 use Rattle.rules.proofs.Laws.NodesAlone.{taken-out-seats}
 
 pub sound-room : (t : Tables) (s : ℕ) → sound t ≡ true → s < seatCount t → Room t s

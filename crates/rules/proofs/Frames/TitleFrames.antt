@@ -13,7 +13,7 @@ use Rattle.rules.specs.Fetch.{Fetched, writeClaim, reserveFor, takeNode,
 use Rattle.rules.specs.Answers.{Answer, node, refused, Done, done}
 use Rattle.rules.specs.Steps.{kindOf, refetched}
 use Rattle.rules.specs.Calls.{clear, reserved, reserve}
-use Rattle.rules.specs.Play.{Call, reserveCall, stepCall, releaseCall, call, enterCall}
+use Rattle.rules.specs.Play.{Call, reserveCall, enterCall, stepCall, releaseCall, call}
 use Rattle.rules.specs.Reached.{Request, afterRequests, Reached}
 use Rattle.rules.specs.Refusing.{WithinTitle, damaged}
 use Rattle.rules.specs.Apart.{NodesKept, NoNode}
@@ -22,8 +22,8 @@ use Rattle.rules.proofs.Ground.Logic.{branch, not-of}
 use Rattle.rules.proofs.Laws.Words.{node-put-field, node-put-link, node-put-at-most, count-not-title, fresh-title, fresh-node-word}
 use Rattle.rules.proofs.Laws.Shape.{is-sound}
 use Rattle.rules.proofs.Laws.RunSteps.{requests-keep, reached-has}
-use Rattle.rules.proofs.Rules.Reasons.{Fetching, found, found-then, none, Stepping, in-1, in-2, in-3, in-4, in-6, at-rest, in-7}
-use Rattle.rules.proofs.Rules.Accepting.{refusal-tells, Reserving, reserve-refused, reserve-accepted, reserving, Stepped, step-refused, step-accepted, stepped, Releasing, release-refused, release-accepted, releasing, Entering, enter-refused, enter-accepted, enters}
+use Rattle.rules.proofs.Rules.Reasons.{Fetching, found, found-then, none, Stepping, in-1, in-2, in-3, in-4, in-6, in-7, at-rest}
+use Rattle.rules.proofs.Rules.Accepting.{refusal-tells, Reserving, reserve-refused, reserve-accepted, reserving, Entering, enter-refused, enter-accepted, enters, Stepped, step-refused, step-accepted, stepped, Releasing, release-refused, release-accepted, releasing}
 use Rattle.rules.proofs.Rules.RefusedExactly.{not-refused, call-by-table, table-refused, clear-accepted}
 use Rattle.rules.proofs.Frames.NodeFrames.{walking, waking, validating, leaving, fetching, taking, taking-out, entering-kept}
 

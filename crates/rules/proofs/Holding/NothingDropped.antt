@@ -10,7 +10,7 @@ use Rattle.rules.specs.Comparison.{Claim, claimOf}
 use Rattle.rules.specs.Answers.{Answer, back, Done, answered}
 use Rattle.rules.specs.Steps.{withdraw}
 use Rattle.rules.specs.Calls.{step, release}
-use Rattle.rules.specs.Play.{Call, reserveCall, stepCall, releaseCall, call, seatOf, afterAll, enterCall}
+use Rattle.rules.specs.Play.{Call, reserveCall, enterCall, stepCall, releaseCall, call, seatOf, afterAll}
 use Rattle.rules.specs.Reached.{Request, afterRequests}
 use Rattle.rules.specs.Apart.{LinkedIn, Stands, GivesUp, released, withdrawn, GivenUp, now, later, callsMade, StillStands}
 use Rattle.rules.proofs.Ground.Deciding.{if-same}
@@ -20,8 +20,8 @@ use Rattle.rules.proofs.Invariant.View.{Linked, validating, reader-wait
 use Rattle.rules.proofs.Invariant.Phases.{linked-busy, linked-in, in-linked}
 use Rattle.rules.proofs.Rules.Effects.{Room, Seated}
 use Rattle.rules.proofs.Rules.RuleEffects.{phase-stored, cur-stored, pass-stored, hold-stored, withdraw-stored}
-use Rattle.rules.proofs.Rules.Reasons.{Unlinking, takes-out, goes-past, Waking, wakes, stays, reader-holds, reader-unlinks, reader-passes, reader-waits, writer-holds, writer-unlinks, writer-passes, withdraws, Validating, validates-reader, validates-writer, Stepping, in-1, in-2, in-3, in-4, in-6, at-rest, in-7}
-use Rattle.rules.proofs.Rules.Accepting.{Reserving, reserve-refused, reserve-accepted, reserving, Stepped, step-refused, step-accepted, stepped, Releasing, release-refused, release-accepted, releasing, Entering, enter-refused, enter-accepted, enters}
+use Rattle.rules.proofs.Rules.Reasons.{Unlinking, takes-out, goes-past, Waking, wakes, stays, reader-holds, reader-unlinks, reader-passes, reader-waits, writer-holds, writer-unlinks, writer-passes, withdraws, Validating, validates-reader, validates-writer, Stepping, in-1, in-2, in-3, in-4, in-6, in-7, at-rest}
+use Rattle.rules.proofs.Rules.Accepting.{Reserving, reserve-refused, reserve-accepted, reserving, Entering, enter-refused, enter-accepted, enters, Stepped, step-refused, step-accepted, stepped, Releasing, release-refused, release-accepted, releasing}
 use Rattle.rules.proofs.Keeping.Aside.{seat-room}
 use Rattle.rules.proofs.Keeping.Good.{Good}
 use Rattle.rules.proofs.Keeping.Hops.{on-list, is-listed}

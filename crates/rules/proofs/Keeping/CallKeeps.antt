@@ -10,7 +10,7 @@ use Rattle.rules.specs.Fetch.{Fetched}
 use Rattle.rules.specs.Answers.{Answer, Done}
 use Rattle.rules.specs.Steps.{refetched}
 use Rattle.rules.specs.Calls.{reserved, step}
-use Rattle.rules.specs.Play.{Call, reserveCall, stepCall, releaseCall, call, enterCall}
+use Rattle.rules.specs.Play.{Call, reserveCall, enterCall, stepCall, releaseCall, call}
 use Rattle.rules.specs.Reached.{Reached}
 use Rattle.rules.proofs.Ground.Logic.{branch}
 use Rattle.rules.proofs.Laws.Words.{seat-count, fresh-nodes-length, fresh-seats-length, fresh-node-word, fresh-link, fresh-seat-word}
@@ -21,8 +21,8 @@ use Rattle.rules.proofs.Invariant.Clauses.{nothing, Seen, from-head, fr
 use Rattle.rules.proofs.Invariant.Known.{own-proper}
 use Rattle.rules.proofs.Invariant.SeatShapes.{idle-seat}
 use Rattle.rules.proofs.Invariant.SeatMoves.{not-stuck}
-use Rattle.rules.proofs.Rules.Reasons.{Stepping, in-1, in-2, in-3, in-4, in-6, at-rest, in-7}
-use Rattle.rules.proofs.Rules.Accepting.{Reserving, reserve-refused, reserve-accepted, reserving, Stepped, step-refused, step-accepted, stepped, Releasing, release-refused, release-accepted, releasing, Entering, enter-refused, enter-accepted, enters}
+use Rattle.rules.proofs.Rules.Reasons.{Stepping, in-1, in-2, in-3, in-4, in-6, in-7, at-rest}
+use Rattle.rules.proofs.Rules.Accepting.{Reserving, reserve-refused, reserve-accepted, reserving, Entering, enter-refused, enter-accepted, enters, Stepped, step-refused, step-accepted, stepped, Releasing, release-refused, release-accepted, releasing}
 use Rattle.rules.proofs.Laws.RunSteps.{reached-has}
 use Rattle.rules.proofs.Keeping.Good.{Good}
 use Rattle.rules.proofs.Keeping.StepKeeps.{walking-keeps, waiting-keeps, reader-waiting-keeps, validating-keeps, leave-keeps, entering-keeps}

@@ -8,7 +8,7 @@ use lib.ListN.{length}
 use Rattle.rules.specs.Tables.{Tables, beforeNodes, nodeWidth, nodeCount, nodeWord, startAt, endAt, kindAt, markAt, nextAt, phase}
 use Rattle.rules.specs.Comparison.{Claim}
 use Rattle.rules.specs.Reach.{free, lowestFree}
-use Rattle.rules.specs.Fetch.{Fetched, writeClaim, takeNode, reserveFor}
+use Rattle.rules.specs.Fetch.{Fetched, writeClaim, reserveFor, takeNode}
 use Rattle.rules.proofs.Laws.Words.{link-node, node-count}
 use Rattle.rules.proofs.Ground.Counting.{lowest-has}
 use Rattle.rules.proofs.Invariant.View.{nodesOf}

@@ -12,14 +12,14 @@ use Rattle.rules.specs.Shape.{sound, isKind}
 use Rattle.rules.specs.Fetch.{Fetched}
 use Rattle.rules.specs.Answers.{Answer, node, refused, out, Done, done, answerOf, answered}
 use Rattle.rules.specs.Steps.{leave, refetched, stepByPhase, entering}
-use Rattle.rules.specs.Calls.{noSeat, reserved, reserve, step, release, enter}
+use Rattle.rules.specs.Calls.{noSeat, reserved, reserve, enter, step, release}
 use Rattle.rules.specs.Run.{refusalOf}
-use Rattle.rules.specs.Play.{Call, reserveCall, stepCall, releaseCall, enterCall}
+use Rattle.rules.specs.Play.{Call, reserveCall, enterCall, stepCall, releaseCall}
 use Rattle.rules.proofs.Ground.Logic.{branch, not-true, or-neither}
 use Rattle.rules.proofs.Laws.Shape.{is-kind}
-use Rattle.rules.specs.Refusing.{HasSeat, Proper, WithinTitle, Refuses, damaged, no-seat, no-frames, beyond-title, no-kind, not-idle, idle, not-holding, none-to-reserve, none-again, not-reserved}
+use Rattle.rules.specs.Refusing.{HasSeat, Proper, WithinTitle, Refuses, damaged, no-seat, no-frames, beyond-title, no-kind, not-idle, idle, not-holding, not-reserved, none-to-reserve, none-again}
 use Rattle.rules.specs.Title.{ReservesBeyond, reserves-beyond}
-use Rattle.rules.proofs.Rules.Reasons.{Fetching, fetching, Stepping, in-1, in-2, in-3, in-4, in-6, at-rest, steps, in-7}
+use Rattle.rules.proofs.Rules.Reasons.{Fetching, fetching, Stepping, in-1, in-2, in-3, in-4, in-6, in-7, at-rest, steps}
 
 -- what a refusal's number tells: it is never 0, 1 only for damaged tables, and 11 only of a reserve that ends beyond the title
 pub record Tells (t : Tables) (c : Call) (number : ℕ) : Type 0 where
@@ -58,6 +58,16 @@ seat-first t s P broken past there =
     branch P (noSeat t s) (λ h. past (not-false (sound t) e) (leb-true (seatCount t) s h)) (λ h.
     there (record { is-sound = not-false (sound t) e; is-seat = leb-false (seatCount t) s h })))
 
+-- and two of them want it in one phase
+phase-wanted : (t : Tables) (s wanted number : ℕ) {d : Done Answer} (P : Done Answer → Type 0)
+    → (HasSeat t s → phase t s ≢ wanted → P (done (refused number) t))
+    → (HasSeat t s → phase t s ≡ wanted → P d)
+    → HasSeat t s → P (if not (phase t s is wanted) then done (refused number) t else d)
+phase-wanted t s wanted number P other there has =
+    branch P (not (phase t s is wanted))
+    (λ e. other has (eqb-false (phase t s) wanted (not-true (phase t s is wanted) e)))
+    (λ e. there has (eqb-true (phase t s) wanted (not-false (phase t s is wanted) e)))
+
 pub data Reserving (t : Tables) (s : ℕ) (c : Claim) : Done Answer → Type 0 where
   reserve-refused : (number : ℕ) → Refuses t (reserveCall s c) number → Reserving t s c (done (refused number) t)
   reserve-accepted : {f : Fetched} → sound t ≡ true → s < seatCount t → Proper c → WithinTitle t c → phase t s ≡ 0 → Fetching t s c f → Reserving t s c (reserved t f)
@@ -94,10 +104,8 @@ pub data Entering (t : Tables) (s : ℕ) : Done Answer → Type 0 where
 pub enters : (t : Tables) (s : ℕ) → Entering t s (enter t s)
 unfolding enter
 enters t s =
-    seat-first t s (Entering t s) (λ e. enter-refused 1 (damaged e)) (λ e h. enter-refused 2 (no-seat e h)) (λ has.
-    branch (Entering t s) (not (phase t s is 7))
-    (λ e. enter-refused 14 (not-reserved has (eqb-false (phase t s) 7 (not-true (phase t s is 7) e))))
-    (λ e. enter-accepted (has .is-sound) (has .is-seat) (eqb-true (phase t s) 7 (not-false (phase t s is 7) e))))
+    seat-first t s (Entering t s) (λ e. enter-refused 1 (damaged e)) (λ e h. enter-refused 2 (no-seat e h))
+    (phase-wanted t s 7 14 (Entering t s) (λ has d. enter-refused 14 (not-reserved has d)) (λ has p. enter-accepted (has .is-sound) (has .is-seat) p))
 
 pub data Stepped (t : Tables) (s : ℕ) : Done Answer → Type 0 where
   step-refused : (number : ℕ) → Refuses t (stepCall s) number → Stepped t s (done (refused number) t)
@@ -156,10 +164,8 @@ pub data Releasing (t : Tables) (s : ℕ) : Done Answer → Type 0 where
 pub releasing : (t : Tables) (s : ℕ) → Releasing t s (release t s)
 unfolding release
 releasing t s =
-    seat-first t s (Releasing t s) (λ e. release-refused 1 (damaged e)) (λ e h. release-refused 2 (no-seat e h)) (λ has.
-    branch (Releasing t s) (not (phase t s is 5))
-    (λ e. release-refused 7 (not-holding has (eqb-false (phase t s) 5 (not-true (phase t s is 5) e))))
-    (λ e. release-accepted (has .is-sound) (has .is-seat) (eqb-true (phase t s) 5 (not-false (phase t s is 5) e))))
+    seat-first t s (Releasing t s) (λ e. release-refused 1 (damaged e)) (λ e h. release-refused 2 (no-seat e h))
+    (phase-wanted t s 5 7 (Releasing t s) (λ has d. release-refused 7 (not-holding has d)) (λ has p. release-accepted (has .is-sound) (has .is-seat) p))
 
 -- release answers `out`, or is refused
 pub release-answers : (t : Tables) (s : ℕ) (P : Answer → Type 0) → P out → ((number : ℕ) → P (refused number)) → P (release t s .answer)

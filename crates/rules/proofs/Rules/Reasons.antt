@@ -12,7 +12,7 @@ use Rattle.rules.specs.Comparison.{Claim, claimOf, reads, byComparison}
 use Rattle.rules.specs.Reach.{lowestFree}
 use Rattle.rules.specs.Fetch.{Fetched, fetched, takenOut, takeNode, fetch, fetchAgain}
 use Rattle.rules.specs.Answers.{Answer, Done, answered}
-use Rattle.rules.specs.Steps.{entering, moveTo, joined, unlink, pass, linkIn, startValidating, lookAgain, insert, hold, withdraw, walking, waitingToEnter, readerValidating, writerValidating, validating, readerWaiting, refetched, withdrawn, stepByPhase}
+use Rattle.rules.specs.Steps.{moveTo, joined, unlink, pass, linkIn, startValidating, lookAgain, insert, hold, withdraw, walking, waitingToEnter, readerValidating, writerValidating, validating, readerWaiting, refetched, withdrawn, entering, stepByPhase}
 use Rattle.rules.proofs.Ground.Logic.{branch, both, or-case, or-neither, not-true}
 use Rattle.rules.proofs.Laws.Compared.{Precedes, Compared, after, before, clashing, compared}
 

@@ -14,17 +14,17 @@ use Rattle.rules.specs.Shape.{lengthsFit, sound, isKind}
 use Rattle.rules.specs.Fetch.{Fetched, fetched, fetch, fetchAgain}
 use Rattle.rules.specs.Answers.{Answer, node, refused, Done, done}
 use Rattle.rules.specs.Steps.{refetched, entering}
-use Rattle.rules.specs.Calls.{reserved, clear, reserve, step, release, enter}
+use Rattle.rules.specs.Calls.{reserved, clear, reserve, enter, step, release}
 use Rattle.rules.specs.FreeCount.{Counted, freeCount}
 use Rattle.rules.specs.Board.{Boarded, Shown, shown, holders, board, rowWidth, boardNumbers}
 use Rattle.rules.specs.Run.{refusalOf}
-use Rattle.rules.specs.Play.{Call, reserveCall, stepCall, releaseCall, call, seatOf, enterCall}
-use Rattle.rules.specs.Refusing.{HasSeat, Proper, WithinTitle, NoNodeFree, Refuses, damaged, no-seat, no-frames, beyond-title, no-kind, not-idle, idle, not-holding, none-to-reserve, none-again, ClearRefuses, lengths-wrong, title-of-none, DamageRefuses, tables-damaged, BoardRefuses, board-damaged, too-few-rows, not-reserved}
+use Rattle.rules.specs.Play.{Call, reserveCall, enterCall, stepCall, releaseCall, call, seatOf}
+use Rattle.rules.specs.Refusing.{HasSeat, Proper, WithinTitle, NoNodeFree, Refuses, damaged, no-seat, no-frames, beyond-title, no-kind, not-idle, idle, not-holding, not-reserved, none-to-reserve, none-again, ClearRefuses, lengths-wrong, title-of-none, DamageRefuses, tables-damaged, BoardRefuses, board-damaged, too-few-rows}
 use Rattle.rules.specs.declared.Row.{Row}
 use Rattle.rules.proofs.Ground.Logic.{branch, not-true, neither, or-left, or-right}
 use Rattle.rules.proofs.Laws.Answers.{refused-as, answers-no-refusal}
-use Rattle.rules.proofs.Rules.Reasons.{Fetching, found, found-then, none, Stepping, in-1, in-2, in-3, in-4, in-6, at-rest, by-phase-6, in-7}
-use Rattle.rules.proofs.Rules.Accepting.{Reserving, reserve-refused, reserve-accepted, reserving, Stepped, step-refused, step-accepted, stepped, Releasing, release-refused, release-accepted, releasing, step-is, Entering, enter-refused, enter-accepted, enters}
+use Rattle.rules.proofs.Rules.Reasons.{Fetching, found, found-then, none, Stepping, in-1, in-2, in-3, in-4, in-6, in-7, at-rest, by-phase-6}
+use Rattle.rules.proofs.Rules.Accepting.{Reserving, reserve-refused, reserve-accepted, reserving, Entering, enter-refused, enter-accepted, enters, Stepped, step-refused, step-accepted, stepped, Releasing, release-refused, release-accepted, releasing, step-is}
 
 -- ---- a refused reserve, enter, step or release is one of the table
 same-number : {t : Tables} {c : Call} {j k : ℕ} → Refuses t c j → refused j ≡ refused k → Refuses t c k

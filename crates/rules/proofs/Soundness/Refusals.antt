@@ -14,15 +14,15 @@ use Rattle.rules.specs.Answers.{Answer, refused, Done}
 use Rattle.rules.specs.Steps.{refetched, entering}
 use Rattle.rules.specs.Calls.{reserved, step}
 use Rattle.rules.specs.Run.{refusalOf, runSteps, run}
-use Rattle.rules.specs.Play.{Call, reserveCall, stepCall, releaseCall, call, enterCall}
+use Rattle.rules.specs.Play.{Call, reserveCall, enterCall, stepCall, releaseCall, call}
 use Rattle.rules.specs.Refusing.{Refuses}
 use Rattle.rules.specs.Reached.{single, Reached, asked}
 use Rattle.rules.specs.declared.Ran.{Ran}
 use Rattle.rules.proofs.Ground.Logic.{branch, clash}
 use Rattle.rules.proofs.Laws.Answers.{refused-as, answer-accepts}
-use Rattle.rules.proofs.Rules.Reasons.{Stepping, in-1, in-2, in-3, in-4, in-6, at-rest, in-7}
+use Rattle.rules.proofs.Rules.Reasons.{Stepping, in-1, in-2, in-3, in-4, in-6, in-7, at-rest}
 use Rattle.rules.proofs.Soundness.SoundReached.{reached-sound}
-use Rattle.rules.proofs.Rules.Accepting.{refusal-tells, Reserving, reserve-refused, reserve-accepted, reserving, Stepped, step-refused, step-accepted, stepped, Releasing, release-refused, release-accepted, releasing, Entering, enter-refused, enter-accepted, enters}
+use Rattle.rules.proofs.Rules.Accepting.{refusal-tells, Reserving, reserve-refused, reserve-accepted, reserving, Entering, enter-refused, enter-accepted, enters, Stepped, step-refused, step-accepted, stepped, Releasing, release-refused, release-accepted, releasing}
 
 -- the refusals of an accepted reserve and an accepted step: none, or 8
 pub data NoneOr8 (a : Answer) : Type 0 where

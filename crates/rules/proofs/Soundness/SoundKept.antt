@@ -11,11 +11,11 @@ use Rattle.rules.specs.Tables.{Tables, beforeNodes, nodeWidth, putLink, 
 use Rattle.rules.specs.Comparison.{Claim, claimOf}
 use Rattle.rules.specs.Shape.{endsWithin, sound}
 use Rattle.rules.specs.Reach.{met, listed, othersReach, free, lowestFree, Reach, there}
-use Rattle.rules.specs.Fetch.{Fetched, writeClaim, takeNode, takenOut, reserveFor}
+use Rattle.rules.specs.Fetch.{Fetched, writeClaim, reserveFor, takeNode, takenOut}
 use Rattle.rules.specs.Answers.{Answer, Done}
 use Rattle.rules.specs.Steps.{linkIn, pass, kindOf, hold, withdraw, leave, refetched, entering}
-use Rattle.rules.specs.Calls.{reserved, reserve, step, release, enter}
-use Rattle.rules.specs.Play.{Call, reserveCall, stepCall, releaseCall, call, enterCall}
+use Rattle.rules.specs.Calls.{reserved, reserve, enter, step, release}
+use Rattle.rules.specs.Play.{Call, reserveCall, enterCall, stepCall, releaseCall, call}
 use Rattle.rules.specs.Title.{AllWithin}
 use Rattle.rules.proofs.Ground.Logic.{branch, or-neither, not-true, clash}
 use Rattle.rules.proofs.Laws.Words.{link-put-same, link-put-other, put-link-length, node-count}
@@ -35,7 +35,7 @@ use Rattle.rules.proofs.Invariant.Unlink.{relink-shape}
 use Rattle.rules.proofs.Keeping.Good.{link-in-words}
 use Rattle.rules.proofs.Rules.RuleEffects.{phase-stored, cur-stored, place-stored, start-stored, hold-stored, withdraw-stored, leave-stored, reserve-stored, enter-stored}
 use Rattle.rules.proofs.Rules.Reasons.{Unlinking, takes-out, goes-past, Starting, as-reader, as-writer, Inserting, links-in, restarts, rereads, Walking, inserts, unlinks, passes, waits, Waking, wakes, stays, reader-holds, reader-unlinks, reader-passes, reader-waits, writer-holds, writer-unlinks, writer-passes, withdraws, Validating, validates-reader, validates-writer, Fetching, found, found-then, none, Stepping, in-1, in-2, in-3, in-4, in-6, in-7 as steps-in-7, at-rest}
-use Rattle.rules.proofs.Rules.Accepting.{Reserving, reserve-refused, reserve-accepted, reserving, Stepped, step-refused, step-accepted, stepped, Releasing, release-refused, release-accepted, releasing, Entering, enter-refused, enter-accepted, enters}
+use Rattle.rules.proofs.Rules.Accepting.{Reserving, reserve-refused, reserve-accepted, reserving, Entering, enter-refused, enter-accepted, enters, Stepped, step-refused, step-accepted, stepped, Releasing, release-refused, release-accepted, releasing}
 use Rattle.rules.proofs.Keeping.Aside.{not-idle, all-zero, node-room, seat-room, linked-in}
 use Rattle.rules.proofs.Frames.CountFrames.{counts-kept}
 use Rattle.rules.proofs.Frames.TitleFrames.{within-kept}
