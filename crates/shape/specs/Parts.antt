@@ -21,7 +21,7 @@ busySound t own prev cur = not (own is 0) && names t own && names t prev && name
 abbrev pub waitingSound : Tables → ℕ → ℕ → ℕ → Bool
 waitingSound t own prev cur = not (cur is 0) && busySound t own prev cur
 
--- in phases 5 and 6
+-- in phases 5, 6 and 7
 abbrev pub restingSound : Tables → ℕ → ℕ → ℕ → Bool
 restingSound t own prev cur = not (own is 0) && prev is 0 && cur is 0 && names t own
 
