@@ -98,8 +98,8 @@ fn the_counts_are_those_over_the_seats_after_every_call_of_generated_scripts() {
 
 /// Sound tables that nobody need have reached, own nodes shared, marked or off the list among them, and one of their seats.
 fn some_tables(random: &mut Random) -> (Tables, u32) {
-    let family = random.pick(&[sound_words, many_holders, many_reserved]);
-    let tables = family(random);
+    let families: [fn(&mut Random) -> Tables; 3] = [sound_words, many_holders, many_reserved];
+    let tables = random.pick(&families)(random);
     let seat_count = (tables.1.len() / SEAT_WORDS) as u32;
     (tables, random.below(seat_count))
 }
