@@ -302,13 +302,14 @@ ReservedFirst =
     × (afterAll H1held (v 1 15 25 2 ∷ e 1 ∷ []) .seats ≡ 5 ∷ 1 ∷ 0 ∷ 0 ∷ 1 ∷ 2 ∷ 0 ∷ 1 ∷ 0 ∷ 0 ∷ 0 ∷ 0 ∷ [])
     × (afterAll H1held (v 1 15 25 2 ∷ s 1 ∷ []) ≡ afterAll H1held (v 1 15 25 2 ∷ e 1 ∷ []))
 
--- "enter in any phase but 7 is 14": idle, walking, validating, holding, waiting, withdrawn; 2 before 14, and only once. And what else is asked of a
--- seat in phase 7: reserve is refused 5, release 7, and a step enters
+-- "enter in any phase but 7 is 14": idle, walking, validating, holding; waiting to enter; waiting as a reader; withdrawn. 2 comes before 14, and a seat
+-- enters only once. And what else is asked of a seat in phase 7: reserve is refused 5, release 7, and a step enters
 abbrev pub EnterRefused : Type 0
 EnterRefused =
     (answers (cleared 4 2) (e 0 ∷ e 2 ∷ v 0 10 20 2 ∷ v 0 10 20 2 ∷ r 0 ∷ e 0 ∷ e 0 ∷ s 0 ∷ e 0 ∷ s 0 ∷ e 0 ∷ r 0 ∷ e 0 ∷ v 0 10 20 2 ∷ s 0 ∷ e 0 ∷ [])
     ≡ refused 14 ∷ refused 2 ∷ node 1 ∷ refused 5 ∷ refused 7 ∷ on ∷ refused 14 ∷ on ∷ refused 14 ∷ held ∷ refused 14 ∷ out ∷ refused 14 ∷ node 2 ∷ on ∷ refused 14 ∷ [])
     × (answers (afterAll H1held (v 1 15 25 2 ∷ e 1 ∷ s 1 ∷ [])) (e 1 ∷ []) ≡ refused 14 ∷ [])
+    × (answers (afterAll H9start (s 3 ∷ s 3 ∷ s 2 ∷ s 2 ∷ s 3 ∷ s 2 ∷ s 2 ∷ [])) (e 2 ∷ s 2 ∷ []) ≡ refused 14 ∷ wait 4 15 20 ∷ [])
     × (answers H9end (e 3 ∷ s 3 ∷ e 3 ∷ e 3 ∷ []) ≡ refused 14 ∷ on ∷ on ∷ refused 14 ∷ [])
     × (afterAll H9end (s 3 ∷ []) .seats ≡ 5 ∷ 1 ∷ 0 ∷ 0 ∷ 5 ∷ 2 ∷ 0 ∷ 0 ∷ 5 ∷ 3 ∷ 0 ∷ 0 ∷ 7 ∷ 4 ∷ 0 ∷ 0 ∷ [])
 
@@ -335,7 +336,7 @@ LinesOfAScript =
 pub reserved-before-entered : ReservedFirst × EnterRefused × AllowedLikeSix × LinesOfAScript
 unfolding rules
 reserved-before-entered =
-    ((refl, refl, refl, refl, refl, refl, refl), (refl, refl, refl, refl), (refl, refl, refl, refl, refl), (refl, refl, refl, refl))
+    ((refl, refl, refl, refl, refl, refl, refl), (refl, refl, refl, refl, refl), (refl, refl, refl, refl, refl), (refl, refl, refl, refl))
 
 -- ---- ours: seat 2 waits at node 1, and nodes 1 and 2 are released. Taken out, node 2 is at no seat's own, prev or cur; but
 -- seat 2 still reaches it through node 1, so it is not free
