@@ -1,7 +1,7 @@
 -- What enter answers and leaves: `on`, and a seat that stands at the head with no word of the nodes changed. Of any tables; and in sound ones a seat
 -- in phase 7 is never refused.
 use Prim.Native.Nat.{ℕ}
-use mathlib.Core.Path.{_≡_, refl, _∙_}
+use mathlib.Core.Path.{_≡_, refl, sym, _∙_}
 use mathlib.Core.Bool.{true}
 use native.Mathlib.Omega.{arith}
 use native.Mathlib.Decide.{decLt}
@@ -18,6 +18,7 @@ use Rattle.rules.proofs.Laws.Answers.{answers-on}
 use Rattle.rules.proofs.Rules.Effects.{Room}
 use Rattle.rules.proofs.Rules.RuleEffects.{enter-stored}
 use Rattle.rules.proofs.Rules.Accepting.{Entering, enter-refused, enter-accepted, enters, step-enters}
+use Rattle.rules.proofs.Rules.RefusedExactly.{on-not-refused}
 use Rattle.rules.proofs.Frames.SeatFrames.{sound-room}
 
 -- ---- the answer
@@ -36,7 +37,7 @@ pub enter-leaves : (t : Tables) (s : ℕ) → enter t s .answer ≡ on → HasEn
 enter-leaves t s = go (enters t s)
   where
     go : {d : Done Answer} → Entering t s d → d .answer ≡ on → HasEntered t (d .after) s
-    go (enter-refused number r) q = let z : _≡_ {A = ℕ} 0 1 = cc in absurd (omega arith)
+    go (enter-refused number r) q = on-not-refused (sym q)
     go (enter-accepted e h p) q = unfold entering in
         let w = enter-stored t s (sound-room t s e h) in
         record {

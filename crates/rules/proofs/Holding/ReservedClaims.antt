@@ -1,5 +1,5 @@
--- What is known of a reserved claim: what reserve leaves, and a withdrawn seat that has fetched; that nobody else is given its node; and, in reached
--- tables, that it is not on the list.
+-- What is known of a reserved claim: what reserve leaves, and a withdrawn seat that has fetched, of any tables; and, in reached ones, that it is not
+-- on the list.
 use Prim.Native.Nat.{ℕ, _+_, _*_, _≤_, _<_}
 use mathlib.Core.Path.{_≡_, refl, sym, _∙_}
 use mathlib.Core.Bool.{true, false}
@@ -30,7 +30,7 @@ use Rattle.rules.proofs.Rules.Effects.{Room}
 use Rattle.rules.proofs.Rules.RuleEffects.{reserve-stored}
 use Rattle.rules.proofs.Rules.Reasons.{Fetching, found, found-then, none, in-1, in-2, in-3, in-4, in-6, in-7, at-rest}
 use Rattle.rules.proofs.Rules.Accepting.{Reserving, reserve-refused, reserve-accepted, reserving, Stepped, step-refused, step-accepted, stepped}
-use Rattle.rules.proofs.Rules.RefusedExactly.{not-refused}
+use Rattle.rules.proofs.Rules.RefusedExactly.{not-refused, on-not-refused}
 use Rattle.rules.proofs.Frames.SeatFrames.{sound-room}
 use Rattle.rules.proofs.Frames.NodeFrames.{taking-out}
 use Rattle.rules.proofs.Keeping.Good.{Good}
@@ -84,14 +84,14 @@ pub refetch-leaves : (t : Tables) (s : ℕ) → phase t s ≡ 6 → step t s .an
 refetch-leaves t s six = go (stepped t s)
   where
     go : {d : Done Answer} → Stepped t s d → d .answer ≡ on → HasReserved (d .after) s (own (d .after) s) (claimOfSeat t s)
-    go (step-refused k x) q = let z : _≡_ {A = ℕ} 0 1 = cc in absurd (omega arith)
+    go (step-refused k x) q = on-not-refused (sym q)
     go (step-accepted e h b (in-1 p w)) q = absurd (omega arith)
     go (step-accepted e h b (in-2 p w)) q = absurd (omega arith)
     go (step-accepted e h b (in-3 p w)) q = absurd (omega arith)
     go (step-accepted e h b (in-4 p w)) q = absurd (omega arith)
     go (step-accepted e h b (in-6 {f = f} p w)) q = unfold refetched in
         branch (λ (d : Done Answer). d .answer ≡ on → HasReserved (d .after) s (own (d .after) s) (claimOfSeat t s)) (f .node is 0)
-        (λ y q. let z : _≡_ {A = ℕ} 0 1 = cc in absurd (omega arith))
+        (λ y q. on-not-refused (sym q))
         (λ y q. let r = fetched-has e h (eqb-false (f .node) 0 y) w in rw (r .owns) r)
         q
     go (step-accepted e h b (in-7 p)) q = absurd (omega arith)

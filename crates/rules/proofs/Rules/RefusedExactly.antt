@@ -12,7 +12,7 @@ use Rattle.rules.specs.Tables.{Tables, nodeCount, seatCount, title, phas
 use Rattle.rules.specs.Comparison.{Claim, claimOf}
 use Rattle.rules.specs.Shape.{lengthsFit, sound, isKind}
 use Rattle.rules.specs.Fetch.{Fetched, fetched, fetch, fetchAgain}
-use Rattle.rules.specs.Answers.{Answer, node, refused, Done, done}
+use Rattle.rules.specs.Answers.{Answer, node, on, refused, Done, done}
 use Rattle.rules.specs.Steps.{refetched, entering}
 use Rattle.rules.specs.Calls.{reserved, clear, reserve, enter, step, release}
 use Rattle.rules.specs.FreeCount.{Counted, freeCount}
@@ -32,6 +32,9 @@ same-number {t} {c} r q = subst (Refuses t c) (ap refusalOf q) r
 
 pub not-refused : {A : Type 0} {n k : ℕ} → node n ≡ refused k → A
 not-refused q = let z : _≡_ {A = ℕ} 0 1 = cc in absurd (omega arith)
+
+pub on-not-refused : {A : Type 0} {k : ℕ} → on ≡ refused k → A
+on-not-refused q = let z : _≡_ {A = ℕ} 0 1 = cc in absurd (omega arith)
 
 module _ (t : Tables) (s k : ℕ) (has : HasSeat t s) where
   reserved-refused : (c : Claim) {f : Fetched} → Proper c → WithinTitle t c → phase t s ≡ 0 → Fetching t s c f → reserved t f .answer ≡ refused k → Refuses t (reserveCall s c) k
