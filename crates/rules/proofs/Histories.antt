@@ -36,7 +36,7 @@ row seat first end kind = record { seat = seat; first = first; end = end; kind =
 
 -- "the histories take 4,294,967,295"
 abbrev cleared : ℕ → ℕ → Tables
-cleared N S = fresh N S 4294967295
+cleared N S = fresh false N S 4294967295
 
 -- the answers of the calls, in order
 abbrev answers : Tables → List Call → List Answer
@@ -176,9 +176,9 @@ known-at-once = (refl, refl, refl, refl, refl)
 -- neighbouring pair and across; one that ends at the title is taken. In the second part seat 0 holds the one node, so that it is free for nobody
 abbrev pub BeyondTitle : Type 0
 BeyondTitle =
-    (answers (fresh 1 2 20) (v 2 10 10 2 ∷ v 0 21 21 2 ∷ v 0 20 10 9 ∷ v 0 10 21 9 ∷ v 0 10 20 9 ∷ v 0 10 21 1 ∷ v 0 10 20 2 ∷ [])
+    (answers (fresh false 1 2 20) (v 2 10 10 2 ∷ v 0 21 21 2 ∷ v 0 20 10 9 ∷ v 0 10 21 9 ∷ v 0 10 20 9 ∷ v 0 10 21 1 ∷ v 0 10 20 2 ∷ [])
     ≡ refused 2 ∷ refused 3 ∷ refused 3 ∷ refused 11 ∷ refused 4 ∷ refused 11 ∷ node 1 ∷ [])
-    × (answers (afterAll (fresh 1 2 20) (v 0 10 20 2 ∷ e 0 ∷ s 0 ∷ s 0 ∷ [])) (v 0 20 20 2 ∷ v 0 0 21 2 ∷ v 0 0 20 9 ∷ v 0 0 20 2 ∷ v 1 0 21 2 ∷ v 1 0 20 2 ∷ [])
+    × (answers (afterAll (fresh false 1 2 20) (v 0 10 20 2 ∷ e 0 ∷ s 0 ∷ s 0 ∷ [])) (v 0 20 20 2 ∷ v 0 0 21 2 ∷ v 0 0 20 9 ∷ v 0 0 20 2 ∷ v 1 0 21 2 ∷ v 1 0 20 2 ∷ [])
     ≡ refused 3 ∷ refused 11 ∷ refused 4 ∷ refused 5 ∷ refused 11 ∷ refused 8 ∷ [])
 
 -- a title of one frame, played; a title of none, and none at all
@@ -192,7 +192,7 @@ TitleOnLineOne =
 
 -- clear: 1 before 3; the title before is forgotten; and it stays after every call
 abbrev noTables : Tables
-noTables = tables [] []
+noTables = tables false [] []
 
 abbrev titles : Tables → List Call → List ℕ
 titles t calls = map (λ (turn : Turn). title (turn .did .after)) (trace t calls)
@@ -201,21 +201,21 @@ abbrev pub ClearedWith : Type 0
 ClearedWith =
     (clear noTables 0 ≡ done 1 noTables)
     × (clear noTables 20 ≡ done 1 noTables)
-    × (clear (fresh 1 2 20) 0 ≡ done 3 (fresh 1 2 20))
-    × (clear (afterAll (fresh 1 2 20) (v 0 10 20 2 ∷ e 0 ∷ s 0 ∷ s 0 ∷ [])) 7 ≡ done 0 (fresh 1 2 7))
-    × (titles (fresh 1 2 20) (v 0 10 21 2 ∷ v 0 10 20 2 ∷ e 0 ∷ s 0 ∷ s 0 ∷ r 0 ∷ []) ≡ 20 ∷ 20 ∷ 20 ∷ 20 ∷ 20 ∷ 20 ∷ [])
+    × (clear (fresh false 1 2 20) 0 ≡ done 3 (fresh false 1 2 20))
+    × (clear (afterAll (fresh false 1 2 20) (v 0 10 20 2 ∷ e 0 ∷ s 0 ∷ s 0 ∷ [])) 7 ≡ done 0 (fresh false 1 2 7))
+    × (titles (fresh false 1 2 20) (v 0 10 21 2 ∷ v 0 10 20 2 ∷ e 0 ∷ s 0 ∷ s 0 ∷ r 0 ∷ []) ≡ 20 ∷ 20 ∷ 20 ∷ 20 ∷ 20 ∷ 20 ∷ [])
 
 -- a released node off the list and free, 10..20, is held to the title like any other; a title of no frames is none
 abbrev withTitle : ℕ → Tables
-withTitle frames = tables (0 ∷ 0 ∷ 0 ∷ frames ∷ 10 ∷ 20 ∷ 2 ∷ 0 ∷ 1 ∷ []) (0 ∷ 0 ∷ 0 ∷ 0 ∷ [])
+withTitle frames = tables false (0 ∷ 0 ∷ 0 ∷ frames ∷ 10 ∷ 20 ∷ 2 ∷ 0 ∷ 1 ∷ []) (0 ∷ 0 ∷ 0 ∷ 0 ∷ [])
 
 abbrev pub DamagedTitle : Type 0
 DamagedTitle =
     (sound (withTitle 20) ≡ true)
     × (sound (withTitle 19) ≡ false)
     × (freeCount (withTitle 20) ≡ counted 1)
-    × (sound (fresh 1 1 1) ≡ true)
-    × (sound (fresh 1 1 0) ≡ false)
+    × (sound (fresh false 1 1 1) ≡ true)
+    × (sound (fresh false 1 1 0) ≡ false)
 
 pub title-has-an-end : BeyondTitle × TitleOnLineOne × ClearedWith × DamagedTitle
 unfolding rules
@@ -266,7 +266,7 @@ WhichFrames =
 -- in sound tables that no calls come to: the one seat is in this phase with claim start..end, at cur; node 1 is 10..20, and both claims are of this kind
 abbrev neverReached : ℕ → ℕ → ℕ → ℕ → ℕ → Tables
 neverReached phase cur start end kind =
-    tables (1 ∷ 0 ∷ 0 ∷ 100 ∷ 10 ∷ 20 ∷ kind ∷ 0 ∷ 0 ∷ start ∷ end ∷ kind ∷ 0 ∷ 0 ∷ []) (phase ∷ 2 ∷ 0 ∷ cur ∷ [])
+    tables false (1 ∷ 0 ∷ 0 ∷ 100 ∷ 10 ∷ 20 ∷ kind ∷ 0 ∷ 0 ∷ start ∷ end ∷ kind ∷ 0 ∷ 0 ∷ []) (phase ∷ 2 ∷ 0 ∷ cur ∷ [])
 
 -- 0 and 0 where the two share no frame, in phase 4 too, and where they only touch; readers are told what they share, and who waits at its own node its
 -- own claim
@@ -315,7 +315,7 @@ EnterRefused =
 
 -- "sound shape allows 7 like 6": with an own node, and prev and cur 0. One node, 10..20, and a seat with these words
 abbrev withSeat : List ℕ → Tables
-withSeat words = tables (0 ∷ 0 ∷ 0 ∷ 100 ∷ 10 ∷ 20 ∷ 2 ∷ 0 ∷ 0 ∷ []) words
+withSeat words = tables false (0 ∷ 0 ∷ 0 ∷ 100 ∷ 10 ∷ 20 ∷ 2 ∷ 0 ∷ 0 ∷ []) words
 
 abbrev pub AllowedLikeSix : Type 0
 AllowedLikeSix =

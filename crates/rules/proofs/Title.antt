@@ -3,7 +3,7 @@
 -- proof is a citation.
 use Prim.Native.Nat.{ℕ, _≤_, _<_}
 use mathlib.Core.Path.{_≡_, _∙_}
-use mathlib.Core.Bool.{true, false}
+use mathlib.Core.Bool.{true, false, Bool}
 use mathlib.Core.List.{List}
 use mathlib.Core.Logic.{_≢_}
 use Rattle.rules.specs.Tables.{Tables, title, fresh}
@@ -41,8 +41,8 @@ never-changes t c = frames.call-stays t c .same-title
 pub requests-never-change : (t : Tables) (requests : List Request) → title (afterRequests t requests) ≡ title t
 requests-never-change = frames.title-kept
 
-pub as-cleared : (N S count : ℕ) (requests : List Request) → title (afterRequests (fresh N S count) requests) ≡ count
-as-cleared N S count requests = requests-never-change (fresh N S count) requests ∙ fresh-title N S count
+pub as-cleared : (sheet : Bool) (N S count : ℕ) (requests : List Request) → title (afterRequests (fresh sheet N S count) requests) ≡ count
+as-cleared sheet N S count requests = requests-never-change (fresh sheet N S count) requests ∙ fresh-title sheet N S count
 
 -- ---- "A claim may end at it and not beyond"
 -- whoever is told a node began a claim that ends within the title

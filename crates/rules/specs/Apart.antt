@@ -51,18 +51,20 @@ pub data Rising (key : ℕ → ℕ) : List ℕ → Type 0 where
   more : {a b : ℕ} {rest : List ℕ} → key a ≤ key b → Rising key (b ∷ rest) → Rising key (a ∷ b ∷ rest)
 
 -- ---- what a call may touch
--- u has every word of every seat but s from t
+-- u has its profile and every word of every seat but s from t
 pub record OtherSeatsKept (s : ℕ) (t u : Tables) : Type 0 where
-  pub word : (r f : ℕ) → r ≢ s → f < seatWidth → seatWord (u .seats) r f ≡ seatWord (t .seats) r f
+  pub same-profile : u .sheet ≡ t .sheet
+  pub word : (r f : ℕ) → r ≢ s → f < seatWidth (t .sheet) → seatWord (u .sheet) (u .seats) r f ≡ seatWord (t .sheet) (t .seats) r f
   pub same-length : length (u .seats) ≡ length (t .seats)
 
--- u has every word of the nodes from t, but for the links of these nodes (0: the head), the marks of these, the claims of these, and the
+-- u has its profile and every word of the nodes from t, but for the links of these nodes (0: the head), the marks of these, the claims of these, and the
 -- words at these places before node 1, the head's apart
 pub record NodesKept (links marks claims places : ℕ → Type 0) (t u : Tables) : Type 0 where
+  pub same-profile : u .sheet ≡ t .sheet
   pub link-of : (a : ℕ) → (links a → ⊥) → link u a ≡ link t a
   pub mark-of : (a : ℕ) → (marks a → ⊥) → mark u a ≡ mark t a
   pub claim-of : (a : ℕ) → (claims a → ⊥) → claimOf u a ≡ claimOf t a
-  pub word-at : (i : ℕ) → i < beforeNodes → i ≢ headAt → (places i → ⊥) → topWord (u .nodes) i ≡ topWord (t .nodes) i
+  pub word-at : (i : ℕ) → i < beforeNodes (t .sheet) → i ≢ headAt → (places i → ⊥) → topWord (u .nodes) i ≡ topWord (t .nodes) i
   pub same-length : length (u .nodes) ≡ length (t .nodes)
 
 abbrev pub NoNode : ℕ → Type 0

@@ -23,7 +23,7 @@ noSeat t s = seatCount t ≤? s
 unfoldable pub clear : Tables → ℕ → Done ℕ
 clear t frames =
     refusing (λ number. number) ((1 when not (lengthsFit t)) ∷ (3 when frames is 0) ∷ []) t
-    (done 0 (fresh (nodeCount t) (seatCount t) frames))
+    (done 0 (fresh (t .sheet) (nodeCount t) (seatCount t) frames))
 
 -- ---- reserve: 02 (vii): "reserve takes a node for a range and kind", "Reserve answers `node n`", "reserve has begin's" refusals, "in begin's order".
 -- "A claim may end at it" (the title's frame count) "and not beyond": "11, end beyond the title, stands after 3 and before 4"

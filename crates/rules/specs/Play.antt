@@ -119,7 +119,7 @@ endText t = listText t ++ rowsText (holders t) ++ coveredText t
 
 -- ---- "A bad script prints `bad L` .. Otherwise tables start fresh."
 unfoldable pub startOf : Script → Tables
-startOf script = fresh (script .n) (script .s) (script .title)
+startOf script = fresh false (script .n) (script .s) (script .title)
 
 unfoldable pub scriptText : Script → List ℕ
 scriptText script = turnsText 1 (trace (startOf script) (callsOf script)) ++ endText (afterAll (startOf script) (callsOf script))

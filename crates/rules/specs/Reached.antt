@@ -1,5 +1,6 @@
 -- Which tables can be reached: "tables cleared once and changed only by these calls".
 use Prim.Native.Nat.{ℕ, _≤_}
+use mathlib.Core.Bool.{Bool}
 use mathlib.Core.List.{List, [], _∷_}
 use Rattle.rules.specs.Tables.{Tables, fresh}
 use Rattle.rules.specs.Run.{run}
@@ -18,7 +19,7 @@ unfoldable pub afterRequests : Tables → List Request → Tables
 afterRequests t [] = t
 afterRequests t (r ∷ rest) = afterRequests (afterRequest t r) rest
 
--- from a clear with any title, any requests in any order, with any numbers; a refused one leaves the tables as found
+-- from a clear, of either profile and with any title, any requests in any order, with any numbers; a refused one leaves the tables as found
 pub data Reached (N S : ℕ) : Tables → Type 0 where
-  cleared : 1 ≤ N → N ≤ 256 → 1 ≤ S → S ≤ 64 → {frames : ℕ} → 1 ≤ frames → Reached N S (fresh N S frames)
+  cleared : 1 ≤ N → N ≤ 256 → 1 ≤ S → S ≤ 64 → (sheet : Bool) {frames : ℕ} → 1 ≤ frames → Reached N S (fresh sheet N S frames)
   asked : {t : Tables} → Reached N S t → (r : Request) → Reached N S (afterRequest t r)

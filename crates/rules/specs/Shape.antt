@@ -7,10 +7,10 @@ use Rattle.rules.specs.Tables.{Tables, nodeCount, seatCount, beforeNodes
 
 -- "lengths fit", where "N is 1 to 256" and "S is 1 to 64"
 unfoldable pub nodesFit : Tables → Bool
-nodesFit t = length (t .nodes) is beforeNodes + nodeWidth * nodeCount t && 1 ≤? nodeCount t && nodeCount t ≤? 256
+nodesFit t = length (t .nodes) is beforeNodes (t .sheet) + nodeWidth * nodeCount t && 1 ≤? nodeCount t && nodeCount t ≤? 256
 
 unfoldable pub seatsFit : Tables → Bool
-seatsFit t = length (t .seats) is seatWidth * seatCount t && 1 ≤? seatCount t && seatCount t ≤? 64
+seatsFit t = length (t .seats) is seatWidth (t .sheet) * seatCount t && 1 ≤? seatCount t && seatCount t ≤? 64
 
 unfoldable pub lengthsFit : Tables → Bool
 lengthsFit t = nodesFit t && seatsFit t
@@ -39,7 +39,7 @@ isPhase t s = phase t s ≤? 7
 
 -- "an idle seat (0) has zeros in all four words, any other has own nonzero"
 unfoldable pub zeroSeat : Tables → ℕ → Bool
-zeroSeat t s = all seatWidth (λ field. seatWord (t .seats) s field is 0)
+zeroSeat t s = all (seatWidth (t .sheet)) (λ field. seatWord (t .sheet) (t .seats) s field is 0)
 
 unfoldable pub idleOrOwning : Tables → ℕ → Bool
 idleOrOwning t s = if phase t s is 0 then zeroSeat t s else not (own t s is 0)

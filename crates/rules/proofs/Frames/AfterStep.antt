@@ -8,9 +8,9 @@ use native.Mathlib.Omega.{arith}
 use Rattle.rules.specs.Notation.{_is_}
 use Rattle.rules.specs.Tables.{Tables, phaseAt, ownAt, curAt, mark, link, next, head, phase, own, prev, cur, setPhase}
 use Rattle.rules.specs.Comparison.{Claim}
-use Rattle.rules.specs.Fetch.{Fetched, writeClaim, takeNode, takenOut}
+use Rattle.rules.specs.Fetch.{Fetched, writeClaim, takeNode, takenOut, reserveFor}
 use Rattle.rules.specs.Answers.{Answer, Done}
-use Rattle.rules.specs.Steps.{linkIn, hold, refetched}
+use Rattle.rules.specs.Steps.{linkIn, hold, refetched, pass, withdraw, entering}
 use Rattle.rules.specs.Calls.{step}
 use Rattle.rules.proofs.Ground.Logic.{branch}
 use Rattle.rules.proofs.Rules.Effects.{Room, Seated}
@@ -18,10 +18,11 @@ use Rattle.rules.proofs.Rules.RuleEffects.{phase-stored, cur-stored, pl
 use Rattle.rules.proofs.Rules.Reasons.{Unlinking, takes-out, goes-past, as-reader, as-writer, links-in, restarts, rereads, Walking, inserts, unlinks, passes, waits, Waking, wakes, stays, reader-holds, reader-unlinks, reader-passes, reader-waits, writer-holds, writer-unlinks, writer-passes, withdraws, Validating, validates-reader, validates-writer, Fetching, found, found-then, none, Stepping, in-1, in-2, in-3, in-4, in-6, in-7, at-rest}
 use Rattle.rules.proofs.Rules.Accepting.{Stepped, step-refused, step-accepted, stepped}
 use Rattle.rules.proofs.Frames.SeatFrames.{sound-room}
-use Rattle.rules.proofs.Laws.NodesAlone.{taken-out-seats}
+use Rattle.rules.proofs.Laws.NodesAlone.{taken-out-profile, taken-out-seats}
 
 -- u has the nodes of t, and seat s its claim and its place
 pub record Stayed (t u : Tables) (s : ℕ) : Type 0 where
+  pub same-profile : u .sheet ≡ t .sheet
   pub same-nodes : u .nodes ≡ t .nodes
   pub same-own : own u s ≡ own t s
   pub same-cur : cur u s ≡ cur t s
@@ -40,7 +41,7 @@ not-waiting {t} {u} {s} b d₂ d₄ h = record { busy = b; unmarked = λ p. absu
     neither (inl e) = d₂ e
     neither (inr e) = d₄ e
 
-moved : {before : List ℕ} {t u : Tables} {s : ℕ} {words : ℕ → ℕ} → Seated before (u .seats) s words
+moved : {before : List ℕ} {t u : Tables} {s : ℕ} {words : ℕ → ℕ} → Seated (u .sheet) before (u .seats) s words
     → words phaseAt ≢ 0 → words phaseAt ≢ 2 → words phaseAt ≢ 4 → words phaseAt ≢ 5 → Left t u s
 moved w b d₂ d₄ d₅ = let e = w .at-s phaseAt (omega arith) in not-waiting (rw e b) (rw e d₂) (rw e d₄) (λ p. absurd (d₅ (sym e ∙ p)))
 
@@ -52,13 +53,13 @@ module _ (t : Tables) (s : ℕ) (r : Room t s) where
       record {
         busy = rw e z;
         unmarked = λ p. rw (w .at-s curAt (omega arith)) m;
-        stayed = λ p. record { same-nodes = refl; same-own = w .at-s ownAt (omega arith); same-cur = w .at-s curAt (omega arith) };
+        stayed = λ p. record { same-profile = refl; same-nodes = refl; same-own = w .at-s ownAt (omega arith); same-cur = w .at-s curAt (omega arith) };
         holding = λ p. absurd (d₅ (sym e ∙ p));
       }
 
   -- in phase 1 or 3 the seat moves on without another phase
   module _ (p : (phase t s ≡ 1) ⊎ (phase t s ≡ 3)) where
-    goes-on : {u : Tables} {words : ℕ → ℕ} → Seated (t .seats) (u .seats) s words → words phaseAt ≡ phase t s → Left t u s
+    goes-on : {u : Tables} {words : ℕ → ℕ} → Seated (u .sheet) (t .seats) (u .seats) s words → words phaseAt ≡ phase t s → Left t u s
     goes-on w e = elim p [ inl q ↦ moved w (omega arith) (omega arith) (omega arith) (omega arith) | inr q ↦ moved w (omega arith) (omega arith) (omega arith) (omega arith) ]
 
     unlinking-leaves : {u : Tables} → Unlinking t s u → Left t u s
@@ -66,7 +67,7 @@ module _ (t : Tables) (s : ℕ) (r : Room t s) where
     unlinking-leaves (goes-past e) = goes-on (cur-stored t s r (next t (cur t s))) refl
 
   walking-leaves : {u : Tables} → phase t s ≡ 1 → Walking t s u → Left t u s
-  unfolding linkIn
+  unfolding linkIn pass
   walking-leaves p (inserts f (links-in j (as-reader k))) = moved (start-stored t s r 3 (own t s) (next (linkIn t s) (own t s))) (omega arith) (omega arith) (omega arith) (omega arith)
   walking-leaves p (inserts f (links-in j (as-writer k))) = moved (start-stored t s r 3 0 (head (linkIn t s))) (omega arith) (omega arith) (omega arith) (omega arith)
   walking-leaves p (inserts f (restarts j m)) = goes-on (inl p) (place-stored t s r 0 (head t)) refl
@@ -78,14 +79,16 @@ module _ (t : Tables) (s : ℕ) (r : Room t s) where
   waking-leaves : {P : ℕ} {u : Tables} → phase t s ≢ 0 → P ≢ 0 → P ≢ 2 → P ≢ 4 → P ≢ 5 → Waking t s P u → Left t u s
   waking-leaves {P} b z d₂ d₄ d₅ (wakes m) = moved (phase-stored t s r P) z d₂ d₄ d₅
   waking-leaves b z d₂ d₄ d₅ (stays m) =
-      record { busy = b; unmarked = λ p. m; stayed = λ p. record { same-nodes = refl; same-own = refl; same-cur = refl }; holding = λ p. inl refl }
+      record { busy = b; unmarked = λ p. m; stayed = λ p. record { same-profile = refl; same-nodes = refl; same-own = refl; same-cur = refl }; holding = λ p. inl refl }
 
   holding-leaves : Left t (hold t s) s
+  unfolding hold
   holding-leaves =
       let e = hold-stored t s r .at-s phaseAt (omega arith) in
       not-waiting (rw e (omega arith)) (rw e (omega arith)) (rw e (omega arith)) (λ p. inr refl)
 
   validating-leaves : {u : Tables} → phase t s ≡ 3 → Validating t s u → Left t u s
+  unfolding pass withdraw
   validating-leaves p (validates-reader k (reader-holds f)) = holding-leaves
   validating-leaves p (validates-reader k (reader-unlinks c m w)) = unlinking-leaves (inr p) w
   validating-leaves p (validates-reader k (reader-passes c m f)) = goes-on (inr p) (pass-stored t s r) refl
@@ -96,12 +99,12 @@ module _ (t : Tables) (s : ℕ) (r : Room t s) where
   validating-leaves p (validates-writer k (withdraws d f)) = moved (withdraw-stored t s r) (omega arith) (omega arith) (omega arith) (omega arith)
 
   taking-leaves : {from : Tables} (a : ℕ) (c : Claim) → Left from (takeNode t s a c) s
-  unfolding takeNode writeClaim
+  unfolding takeNode writeClaim reserveFor
   taking-leaves a c = moved (reserve-stored (writeClaim t a c) s r a) (omega arith) (omega arith) (omega arith) (omega arith)
 
 fetching-leaves : {t : Tables} {s : ℕ} {c : Claim} {f : Fetched} → Room t s → phase t s ≡ 6 → Fetching t s c f → Left t (f .after) s
 fetching-leaves {t} {s} {c} r p (found a e z) = taking-leaves t s r a c
-fetching-leaves {t} {s} {c} r p (found-then a e e′ z) = taking-leaves (takenOut t) s (rw (taken-out-seats t) r) a c
+fetching-leaves {t} {s} {c} r p (found-then a e e′ z) = taking-leaves (takenOut t) s (rw (taken-out-profile t, taken-out-seats t) r) a c
 fetching-leaves r p (none e e′) = not-waiting (omega arith) (omega arith) (omega arith) (λ q. inl refl)
 
 module _ (t : Tables) (s : ℕ) where
@@ -111,6 +114,7 @@ module _ (t : Tables) (s : ℕ) where
       (λ e. not-waiting (omega arith) (omega arith) (omega arith) (λ q. inl refl)) (λ e. w)
 
   pub stepping-leaves : {d : Done Answer} → Room t s → phase t s ≢ 0 → Stepping t s d → Left t (d .after) s
+  unfolding entering
   stepping-leaves r b (in-1 e w) = walking-leaves t s r e w
   stepping-leaves r b (in-2 e w) = waking-leaves t s r b (omega arith) (omega arith) (omega arith) (omega arith) w
   stepping-leaves r b (in-3 e w) = validating-leaves t s r e w

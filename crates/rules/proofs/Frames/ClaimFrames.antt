@@ -23,7 +23,7 @@ use Rattle.rules.proofs.Ground.Deciding.{if-same}
 use Rattle.rules.proofs.Ground.Counting.{lowest-has}
 use Rattle.rules.proofs.Laws.Words.{seat-past, same-node-count}
 use Rattle.rules.proofs.Laws.Shape.{is-sound}
-use Rattle.rules.proofs.Laws.NodesAlone.{taken-out-seats}
+use Rattle.rules.proofs.Laws.NodesAlone.{taken-out-profile, taken-out-seats}
 use Rattle.rules.proofs.Laws.Listed.{met-here}
 use Rattle.rules.proofs.Laws.Free.{others-miss}
 use Rattle.rules.proofs.Rules.Reasons.{by-phase-6, by-no-phase, Fetching, found, found-then, none, fetching as fetching-of}
@@ -72,8 +72,9 @@ module _ (t : Tables) (e : sound t ≡ true) (s r : ℕ) (d : r ≢ s) where
   not-taken (found a p z) k = if-there a z (λ l. free-not-own t s r a p z (is-sound t e .some-nodes) l d)
   not-taken (found-then a p p′ z) k =
       let same = taken-out-seats t in
-      let nodes = same-node-count t (takenOut t) (taking-out t .same-length) in
-      if-there a z (λ l. rw same at (free-not-own (takenOut t) s r a p′ z (rw nodes (is-sound t e .some-nodes)) (rw same l) d))
+      let profile = taken-out-profile t in
+      let nodes = same-node-count t (takenOut t) profile (taking-out t .same-length) in
+      if-there a z (λ l. rw (profile, same) at (free-not-own (takenOut t) s r a p′ z (rw nodes (is-sound t e .some-nodes)) (rw (profile, same) l) d))
   not-taken (none p p′) k = absurd (k refl)
 
   taken-keeps : {c : Claim} {f : Fetched} → Fetching t s c f → f .node ≢ 0 → claimOf (f .after) (own t r) ≡ claimOf t (own t r)

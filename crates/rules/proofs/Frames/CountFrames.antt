@@ -13,7 +13,7 @@ use Rattle.rules.specs.Notation.{if_then_else_, _is_}
 use Rattle.rules.specs.Tables.{Tables, beforeNodes, nodeCount, seatCount, phaseAt, ownAt, kindAt, markAt, readersAt, writersAt, readers, writers, countAt, countWord, phase, own, setMark, clearSeat, fresh}
 use Rattle.rules.specs.Comparison.{Claim}
 use Rattle.rules.specs.Shape.{holdsWith, holdersOfKind, sound}
-use Rattle.rules.specs.Fetch.{Fetched, writeClaim, takeNode, takenOut}
+use Rattle.rules.specs.Fetch.{Fetched, writeClaim, takeNode, takenOut, reserveFor}
 use Rattle.rules.specs.Answers.{Answer, refused, Done, done}
 use Rattle.rules.specs.Steps.{moveTo, kindOf, hold, leave, refetched, entering}
 use Rattle.rules.specs.Calls.{clear, reserved}
@@ -29,7 +29,7 @@ use Rattle.rules.proofs.Ground.Counting.{count-none, count-gap, count-c
 use Rattle.rules.proofs.Laws.Words.{count-low, count-not-head, count-not-title, count-put-same, count-put-other, node-put-top, top-put-node, put-node-length, same-seat-count, fresh-top, fresh-seat-word}
 use Rattle.rules.proofs.Laws.Shape.{IsKind, Counts, is-sound}
 use Rattle.rules.proofs.Laws.Counts.{wrong-damaged, kinds-apart, own-kind, holder-counts}
-use Rattle.rules.proofs.Laws.NodesAlone.{taken-out-seats}
+use Rattle.rules.proofs.Laws.NodesAlone.{taken-out-profile, taken-out-seats}
 use Rattle.rules.proofs.Laws.RunSteps.{run-keeps, reached-has}
 use Rattle.rules.proofs.Rules.Effects.{Room}
 use Rattle.rules.proofs.Rules.RuleEffects.{hold-stored, leave-stored, reserve-stored, enter-stored}
@@ -45,7 +45,7 @@ abbrev WordsStay : Tables → Tables → Type 0
 WordsStay t u = (k : ℕ) → countWord u k ≡ countWord t k
 
 words-stay : {L M C : ℕ → Type 0} {t u : Tables} → NodesKept L M C NoPlace t u → WordsStay t u
-words-stay f k = f .word-at (countAt k) (count-low k) (count-not-head k) (λ z. z)
+words-stay {t = t} f k = f .word-at (countAt k) (count-low (t .sheet) k) (count-not-head k) (λ z. z)
 
 -- ---- what a call does to its seat, as the counts see it; only on sound tables, and for a seat that is there, is anything done
 abbrev Accepting : Tables → ℕ → Type 0
@@ -64,13 +64,13 @@ left-outcome {u = u} {s} a l b d (inr f) =
     if-same (phase u s) 5 (λ p. elim (l .holding p) [ inl e ↦ unchanged e | inr e ↦ comes-to-hold a b d e ]) (λ p. moves-on a d p f)
 
 taken-not-held : (t : Tables) (s a : ℕ) (c : Claim) → Room t s → phase (takeNode t s a c) s ≢ 5
-unfolding takeNode writeClaim
+unfolding takeNode writeClaim reserveFor
 taken-not-held t s a c r = rw (reserve-stored (writeClaim t a c) s r a .at-s phaseAt (omega arith)) (omega arith)
 
 fetch-outcome : {t : Tables} {s : ℕ} {c : Claim} {f : Fetched} → Accepting t s → phase t s ≢ 5 → Fetching t s c f → Outcome t s (f .after)
 fetch-outcome {t} {s} {c} y d (found a e z) = moves-on y d (taken-not-held t s a c (sound-room t s (y .0) (y .1))) (words-stay (fetching (found a e z)))
 fetch-outcome {t} {s} {c} y d (found-then a e e′ z) =
-    moves-on y d (taken-not-held (takenOut t) s a c (rw (taken-out-seats t) (sound-room t s (y .0) (y .1)))) (words-stay (fetching (found-then a e e′ z)))
+    moves-on y d (taken-not-held (takenOut t) s a c (rw (taken-out-profile t, taken-out-seats t) (sound-room t s (y .0) (y .1)))) (words-stay (fetching (found-then a e e′ z)))
 fetch-outcome y d (none e e′) = unchanged refl
 
 module _ (t : Tables) (s : ℕ) where
@@ -78,6 +78,7 @@ module _ (t : Tables) (s : ℕ) where
   leaves a b w = stepping-leaves t s (sound-room t s (a .0) (a .1)) b w
 
   entering-outcome : Accepting t s → phase t s ≡ 7 → Outcome t s (entering t s)
+  unfolding entering
   entering-outcome a e =
       moves-on a (omega arith) (rw (enter-stored t s (sound-room t s (a .0) (a .1)) .at-s phaseAt (omega arith)) (omega arith)) (words-stay (entering-kept t s))
 
@@ -125,17 +126,18 @@ module _ (t : Tables) (s : ℕ) (a : Accepting t s) where
   room : Room t s
   room = sound-room t s (a .0) (a .1)
 
-  long : beforeNodes ≤ length (t .nodes)
+  long : beforeNodes (t .sheet) ≤ length (t .nodes)
   long = let n = is-sound t (a .0) .nodes-length in omega arith
 
   holds-then : phase (hold t s) s ≡ 5
+  unfolding hold
   holds-then = hold-stored t s room .at-s phaseAt (omega arith)
 
   same-kind : kindOf (hold t s) s ≡ kindOf t s
   unfolding hold
   same-kind =
       rw (hold-stored t s room .at-s ownAt (omega arith))
-      (node-put-top (t .nodes) _ (own t s) kindAt _ (count-low (kindOf t s)))
+      (node-put-top (t .sheet) (t .nodes) _ (own t s) kindAt _ (count-low (t .sheet) (kindOf t s)))
 
   hold-counts : countWord (hold t s) (kindOf t s) ≡ countWord t (kindOf t s) + 1
   unfolding hold
@@ -146,19 +148,20 @@ module _ (t : Tables) (s : ℕ) (a : Accepting t s) where
   hold-counts-alone k d = count-put-other (moveTo t s 5 0 0) (kindOf t s) k _ d
 
   idle-then : phase (leave t s) s ≢ 5
+  unfolding leave
   idle-then = rw (leave-stored t s room .at-s phaseAt (omega arith)) (omega arith)
 
   leave-counts : countWord (leave t s) (kindOf t s) ≡ countWord t (kindOf t s) - 1
   unfolding leave
   leave-counts =
       count-put-same (clearSeat (setMark t (own t s) 1) s) (kindOf t s) _
-      (rw (put-node-length (t .nodes) (own t s) markAt 1) long)
+      (rw (put-node-length (t .sheet) (t .nodes) (own t s) markAt 1) long)
 
   leave-counts-alone : (k : ℕ) → countAt k ≢ countAt (kindOf t s) → countWord (leave t s) k ≡ countWord t k
   unfolding leave
   leave-counts-alone k d =
       count-put-other (clearSeat (setMark t (own t s) 1) s) (kindOf t s) k _ d
-      ∙ top-put-node (t .nodes) (countAt k) (own t s) markAt 1 (count-low k)
+      ∙ top-put-node (t .sheet) (t .nodes) (countAt k) (own t s) markAt 1 (count-low (t .sheet) k)
 
 -- ---- so the words move as the call's own seat does
 pub counts-move : (t : Tables) (c : Call) → CountsMove (seatOf c) t (call t c .after)
@@ -207,7 +210,7 @@ module _ (t : Tables) (s k : ℕ) (kd : IsKind k) where
     counted-so : s < seatCount t → holdersOfKind (call t c .after) k + one (holdsWith t k s) ≡ holdersOfKind t k + one (holdsWith (call t c .after) k s)
     unfolding holdersOfKind
     counted-so l =
-        rw (same-seat-count t (call t c .after) (other-seats-kept t c .same-length))
+        rw (same-seat-count t (call t c .after) (other-seats-kept t c .same-profile) (other-seats-kept t c .same-length))
         (count-change (seatCount t) s (holdsWith t k) (holdsWith (call t c .after) k) l others-count)
 
 same-or-accepting : {t u : Tables} {s : ℕ} → Outcome t s u → (u ≡ t) ⊎ Accepting t s
@@ -241,18 +244,18 @@ counts-unless-damaged t c d =
 -- ---- in fresh tables nobody holds
 pub clear-words : (t : Tables) (frames : ℕ) → clear t frames .answer ≡ 0 → (readers (clear t frames .after) ≡ 0) × (writers (clear t frames .after) ≡ 0)
 clear-words t frames e =
-    let word = fresh-top (nodeCount t) (seatCount t) frames in
+    let word = fresh-top (t .sheet) (nodeCount t) (seatCount t) frames in
     rw (clear-accepted t frames e .makes-fresh) (word readersAt (omega arith), word writersAt (omega arith))
 
-fresh-counts : (N S frames : ℕ) → Counts (fresh N S frames)
+fresh-counts : (sheet : Bool) (N S frames : ℕ) → Counts (fresh sheet N S frames)
 unfolding holdersOfKind
-fresh-counts N S frames k kd =
-    let t = fresh N S frames in
-    let nobody : (s : ℕ) → holdsWith t k s ≡ false = λ s. rw (fresh-seat-word N S frames s phaseAt) in
-    fresh-top N S frames (countAt k) (count-not-title k) ∙ sym (count-gap 0 (seatCount t) (holdsWith t k) (omega arith) (λ s h l. nobody s) ∙ count-none (holdsWith t k))
+fresh-counts sheet N S frames k kd =
+    let t = fresh sheet N S frames in
+    let nobody : (s : ℕ) → holdsWith t k s ≡ false = λ s. rw (fresh-seat-word sheet N S frames s phaseAt) in
+    fresh-top sheet N S frames (countAt k) (count-not-title k) ∙ sym (count-gap 0 (seatCount t) (holdsWith t k) (omega arith) (λ s h l. nobody s) ∙ count-none (holdsWith t k))
 
 pub clear-counts : (t : Tables) (frames : ℕ) → clear t frames .answer ≡ 0 → Counts (clear t frames .after)
-clear-counts t frames e = rw (clear-accepted t frames e .makes-fresh) (fresh-counts (nodeCount t) (seatCount t) frames)
+clear-counts t frames e = rw (clear-accepted t frames e .makes-fresh) (fresh-counts (t .sheet) (nodeCount t) (seatCount t) frames)
 
 pub reached-counts : {N S : ℕ} {t : Tables} → Reached N S t → Counts t
-reached-counts {N} {S} r = reached-has Counts counts-kept (λ frames h. fresh-counts N S frames) r
+reached-counts {N} {S} r = reached-has Counts counts-kept (λ sheet frames h. fresh-counts sheet N S frames) r

@@ -23,6 +23,7 @@ use Rattle.rules.proofs.Frames.SeatFrames.{sound-room}
 
 -- ---- the answer
 pub entering-says-on : (t : Tables) (s : ℕ) → Room t s → answerOf (entering t s) s ≡ on
+unfolding entering
 entering-says-on t s r = answers-on (entering t s) s (enter-stored t s r .at-s phaseAt (omega arith))
 
 pub enter-answers : (t : Tables) (s : ℕ) (P : Answer → Type 0) → P on → ((number : ℕ) → P (refused number)) → P (enter t s .answer)

@@ -20,21 +20,22 @@ use Rattle.rules.proofs.Laws.Words.{node-put-field, node-put-node, node
 use Rattle.rules.proofs.Laws.Listed.{met-first}
 use Rattle.rules.proofs.Rules.Effects.{Room}
 use Rattle.rules.proofs.Rules.RuleEffects.{reserve-stored}
-use Rattle.rules.proofs.Laws.NodesAlone.{taken-out-seats}
+use Rattle.rules.proofs.Laws.NodesAlone.{taken-out-profile, taken-out-seats}
 use Rattle.rules.proofs.Frames.SeatFrames.{sound-room}
 use Rattle.rules.proofs.Rules.Reasons.{Unlinking, takes-out, goes-past, as-reader, as-writer, Inserting, links-in, restarts, rereads, Walking, inserts, unlinks, passes, waits, walks, Waking, wakes, stays, wakes-to-walk, wakes-to-validate, reader-holds, reader-unlinks, reader-passes, reader-waits, writer-holds, writer-unlinks, writer-passes, withdraws, Validating, validates-reader, validates-writer, validates, by-phase-1, by-phase-2, by-phase-3, by-phase-4, by-phase-5, by-phase-6, Fetching, found, found-then, none, fetching as fetching-of}
 use Rattle.rules.proofs.Rules.Accepting.{Reserving, reserve-refused, reserve-accepted, reserving, Entering, enter-refused, enter-accepted, enters, step-or-same, Releasing, release-refused, release-accepted, releasing}
 
 -- ---- keeping, in general
 pub kept-same : {L M C P : ℕ → Type 0} (t : Tables) → NodesKept L M C P t t
-kept-same t = record { link-of = λ a d. refl; mark-of = λ a d. refl; claim-of = λ a d. refl; word-at = λ i h n d. refl; same-length = refl }
+kept-same t = record { same-profile = refl; link-of = λ a d. refl; mark-of = λ a d. refl; claim-of = λ a d. refl; word-at = λ i h n d. refl; same-length = refl }
 
 pub kept-then : {L M C P : ℕ → Type 0} {t u v : Tables} → NodesKept L M C P t u → NodesKept L M C P u v → NodesKept L M C P t v
 kept-then f g = record {
+  same-profile = g .same-profile ∙ f .same-profile;
   link-of = λ a d. g .link-of a d ∙ f .link-of a d;
   mark-of = λ a d. g .mark-of a d ∙ f .mark-of a d;
   claim-of = λ a d. g .claim-of a d ∙ f .claim-of a d;
-  word-at = λ i h n d. g .word-at i h n d ∙ f .word-at i h n d;
+  word-at = λ i h n d. g .word-at i (rw (f .same-profile) h) n d ∙ f .word-at i h n d;
   same-length = g .same-length ∙ f .same-length;
 }
 
@@ -42,6 +43,7 @@ kept-then f g = record {
 pub kept-but : {L M C P L′ M′ C′ P′ : ℕ → Type 0} {t u : Tables} → ((a : ℕ) → L a → L′ a) → ((a : ℕ) → M a → M′ a) → ((a : ℕ) → C a → C′ a)
     → ((i : ℕ) → P i → P′ i) → NodesKept L M C P t u → NodesKept L′ M′ C′ P′ t u
 kept-but l m c p f = record {
+  same-profile = f .same-profile;
   link-of = λ a d. f .link-of a (λ x. d (l a x));
   mark-of = λ a d. f .mark-of a (λ x. d (m a x));
   claim-of = λ a d. f .claim-of a (λ x. d (c a x));
@@ -54,7 +56,7 @@ abbrev Just : ℕ → ℕ → Type 0
 Just a b = b ≡ a
 
 same-claim : (t u : Tables) (a : ℕ)
-    → ((f : ℕ) → f < nodeWidth → f ≢ nextAt → f ≢ markAt → nodeWord (u .nodes) a f ≡ nodeWord (t .nodes) a f) → claimOf u a ≡ claimOf t a
+    → ((f : ℕ) → f < nodeWidth → f ≢ nextAt → f ≢ markAt → nodeWord (u .sheet) (u .nodes) a f ≡ nodeWord (t .sheet) (t .nodes) a f) → claimOf u a ≡ claimOf t a
 same-claim t u a e = λ i. record {
   start = e startAt (omega arith) (omega arith) (omega arith) i;
   end = e endAt (omega arith) (omega arith) (omega arith) i;
@@ -63,47 +65,51 @@ same-claim t u a e = λ i. record {
 
 link-kept : (t : Tables) (a v : ℕ) → NodesKept (Just a) NoNode NoNode NoPlace t (setLink t a v)
 link-kept t a v = record {
-  link-of = λ b d. link-put-other (t .nodes) a b v (λ e. d (sym e));
-  mark-of = λ b d. node-put-link (t .nodes) a b markAt v (omega arith) (omega arith);
-  claim-of = λ b d. same-claim t (setLink t a v) b (λ f h x y. node-put-link (t .nodes) a b f v h x);
-  word-at = λ i h n d. top-put-link (t .nodes) i a v h n;
-  same-length = put-link-length (t .nodes) a v;
+  same-profile = refl;
+  link-of = λ b d. link-put-other (t .sheet) (t .nodes) a b v (λ e. d (sym e));
+  mark-of = λ b d. node-put-link (t .sheet) (t .nodes) a b markAt v (omega arith) (omega arith);
+  claim-of = λ b d. same-claim t (setLink t a v) b (λ f h x y. node-put-link (t .sheet) (t .nodes) a b f v h x);
+  word-at = λ i h n d. top-put-link (t .sheet) (t .nodes) i a v h n;
+  same-length = put-link-length (t .sheet) (t .nodes) a v;
 }
 
 mark-kept : (t : Tables) (a v : ℕ) → NodesKept NoNode (Just a) NoNode NoPlace t (setMark t a v)
 mark-kept t a v = record {
-  link-of = λ b d. link-put-field (t .nodes) a b markAt v (omega arith) (omega arith);
-  mark-of = λ b d. node-put-node (t .nodes) a b markAt markAt v (omega arith) (omega arith) (λ e. d (sym e));
-  claim-of = λ b d. same-claim t (setMark t a v) b (λ f h x y. node-put-field (t .nodes) a b markAt f v (omega arith) h (λ e. y (sym e)));
-  word-at = λ i h n d. top-put-node (t .nodes) i a markAt v h;
-  same-length = put-node-length (t .nodes) a markAt v;
+  same-profile = refl;
+  link-of = λ b d. link-put-field (t .sheet) (t .nodes) a b markAt v (omega arith) (omega arith);
+  mark-of = λ b d. node-put-node (t .sheet) (t .nodes) a b markAt markAt v (omega arith) (omega arith) (λ e. d (sym e));
+  claim-of = λ b d. same-claim t (setMark t a v) b (λ f h x y. node-put-field (t .sheet) (t .nodes) a b markAt f v (omega arith) h (λ e. y (sym e)));
+  word-at = λ i h n d. top-put-node (t .sheet) (t .nodes) i a markAt v h;
+  same-length = put-node-length (t .sheet) (t .nodes) a markAt v;
 }
 
 -- a word of a claim
 word-kept : (t : Tables) (f a v : ℕ) → f < nodeWidth → f ≢ nextAt → f ≢ markAt → NodesKept NoNode NoNode (Just a) NoPlace t (setNode f t a v)
 word-kept t f a v h x y = record {
-  link-of = λ b d. link-put-field (t .nodes) a b f v h x;
-  mark-of = λ b d. node-put-field (t .nodes) a b f markAt v h (omega arith) y;
-  claim-of = λ b d. same-claim t (setNode f t a v) b (λ g k x y. node-put-node (t .nodes) a b f g v h k (λ e. d (sym e)));
-  word-at = λ i l n d. top-put-node (t .nodes) i a f v l;
-  same-length = put-node-length (t .nodes) a f v;
+  same-profile = refl;
+  link-of = λ b d. link-put-field (t .sheet) (t .nodes) a b f v h x;
+  mark-of = λ b d. node-put-field (t .sheet) (t .nodes) a b f markAt v h (omega arith) y;
+  claim-of = λ b d. same-claim t (setNode f t a v) b (λ g k x y. node-put-node (t .sheet) (t .nodes) a b f g v h k (λ e. d (sym e)));
+  word-at = λ i l n d. top-put-node (t .sheet) (t .nodes) i a f v l;
+  same-length = put-node-length (t .sheet) (t .nodes) a f v;
 }
 
 -- a count
 count-kept : (t : Tables) (k v : ℕ) → NodesKept NoNode NoNode NoNode (Just (countAt k)) t (setCount t k v)
 count-kept t k v = record {
-  link-of = λ b d. link-put-top (t .nodes) (countAt k) b v (count-low k) (count-not-head k);
-  mark-of = λ b d. node-put-top (t .nodes) (countAt k) b markAt v (count-low k);
-  claim-of = λ b d. same-claim t (setCount t k v) b (λ f h x y. node-put-top (t .nodes) (countAt k) b f v (count-low k));
+  same-profile = refl;
+  link-of = λ b d. link-put-top (t .sheet) (t .nodes) (countAt k) b v (count-low (t .sheet) k) (count-not-head k);
+  mark-of = λ b d. node-put-top (t .sheet) (t .nodes) (countAt k) b markAt v (count-low (t .sheet) k);
+  claim-of = λ b d. same-claim t (setCount t k v) b (λ f h x y. node-put-top (t .sheet) (t .nodes) (countAt k) b f v (count-low (t .sheet) k));
   word-at = λ i h n d. top-put-other (t .nodes) (countAt k) i v (λ e. d (sym e));
   same-length = put-top-length (t .nodes) (countAt k) v;
 }
 
 -- ---- what the seats do changes no node
-seats-aside : {L M C P : ℕ → Type 0} {t u : Tables} {seats : List ℕ} → NodesKept L M C P t u → NodesKept L M C P t (tables (u .nodes) seats)
-seats-aside f = record { link-of = f .link-of; mark-of = f .mark-of; claim-of = f .claim-of; word-at = f .word-at; same-length = f .same-length }
+seats-aside : {L M C P : ℕ → Type 0} {t u : Tables} {seats : List ℕ} → NodesKept L M C P t u → NodesKept L M C P t (tables (u .sheet) (u .nodes) seats)
+seats-aside f = record { same-profile = f .same-profile; link-of = f .link-of; mark-of = f .mark-of; claim-of = f .claim-of; word-at = f .word-at; same-length = f .same-length }
 
-pub only-seats : {L M C P : ℕ → Type 0} {t : Tables} {seats : List ℕ} → NodesKept L M C P t (tables (t .nodes) seats)
+pub only-seats : {L M C P : ℕ → Type 0} {t : Tables} {seats : List ℕ} → NodesKept L M C P t (tables (t .sheet) (t .nodes) seats)
 only-seats {t = t} = seats-aside (kept-same t)
 
 -- ---- phase 1: the links of own and prev
@@ -266,12 +272,12 @@ fetching {t} (none e e′) = kept-same t
 
 -- the node taken is the seat's own afterwards
 taken-own : (t : Tables) (s a : ℕ) (c : Claim) → Room t s → own (takeNode t s a c) s ≡ a
-unfolding takeNode writeClaim
+unfolding takeNode writeClaim reserveFor
 taken-own t s a c r = reserve-stored (writeClaim t a c) s r a .at-s ownAt (omega arith)
 
 fetched-own : {t : Tables} {s : ℕ} {c : Claim} {f : Fetched} → Room t s → Fetching t s c f → f .node ≢ 0 → own (f .after) s ≡ f .node
 fetched-own {t} {s} {c} r (found a e z) d = taken-own t s a c r
-fetched-own {t} {s} {c} r (found-then a e e′ z) d = taken-own (takenOut t) s a c (rw (taken-out-seats t) r)
+fetched-own {t} {s} {c} r (found-then a e e′ z) d = taken-own (takenOut t) s a c (rw (taken-out-profile t, taken-out-seats t) r)
 fetched-own r (none e e′) d = absurd (d refl)
 
 fetched-kept : {t : Tables} {s : ℕ} {c : Claim} {f : Fetched} → Room t s → Fetching t s c f → f .node ≢ 0 → FetchKept s t (f .after)

@@ -10,9 +10,9 @@ use Rattle.rules.specs.Notation.{_is_}
 use Rattle.rules.specs.Tables.{Tables, tables, seatCount, seatWord, link, next, head, own, prev, cur}
 use Rattle.rules.specs.Comparison.{Claim}
 use Rattle.rules.specs.Shape.{sound}
-use Rattle.rules.specs.Fetch.{Fetched, writeClaim, takeNode, takenOut}
+use Rattle.rules.specs.Fetch.{Fetched, writeClaim, takeNode, takenOut, reserveFor}
 use Rattle.rules.specs.Answers.{Answer, Done}
-use Rattle.rules.specs.Steps.{refetched, linkIn}
+use Rattle.rules.specs.Steps.{refetched, linkIn, entering, hold, leave, pass, withdraw}
 use Rattle.rules.specs.Calls.{reserved}
 use Rattle.rules.specs.Play.{Call, reserveCall, enterCall, stepCall, releaseCall, call, seatOf}
 use Rattle.rules.specs.Apart.{OtherSeatsKept}
@@ -23,16 +23,16 @@ use Rattle.rules.proofs.Rules.Effects.{Room, Seated}
 use Rattle.rules.proofs.Rules.RuleEffects.{phase-stored, cur-stored, place-stored, pass-stored, start-stored, hold-stored, withdraw-stored, leave-stored, reserve-stored, enter-stored}
 use Rattle.rules.proofs.Rules.Reasons.{Unlinking, takes-out, goes-past, Starting, as-reader, as-writer, Inserting, links-in, restarts, rereads, Walking, inserts, unlinks, passes, waits, Waking, wakes, stays, ReaderValidating, reader-holds, reader-unlinks, reader-passes, reader-waits, WriterValidating, writer-holds, writer-unlinks, writer-passes, withdraws, Validating, validates-reader, validates-writer, Fetching, found, found-then, none, Stepping, in-1, in-2, in-3, in-4, in-6, in-7, at-rest}
 use Rattle.rules.proofs.Rules.Accepting.{Reserving, reserve-refused, reserve-accepted, reserving, Entering, enter-refused, enter-accepted, enters, Stepped, step-refused, step-accepted, stepped, Releasing, release-refused, release-accepted, releasing}
-use Rattle.rules.proofs.Laws.NodesAlone.{taken-out-seats}
+use Rattle.rules.proofs.Laws.NodesAlone.{taken-out-profile, taken-out-seats}
 
 pub sound-room : (t : Tables) (s : ℕ) → sound t ≡ true → s < seatCount t → Room t s
-sound-room t s e h = let l = is-sound t e .seats-length in let b = seat-within s (seatCount t) h in omega arith
+sound-room t s e h = let l = is-sound t e .seats-length in let b = seat-within (t .sheet) s (seatCount t) h in omega arith
 
 same : (s : ℕ) (t : Tables) → OtherSeatsKept s t t
-same s t = record { word = λ r f d h. refl; same-length = refl }
+same s t = record { same-profile = refl; word = λ r f d h. refl; same-length = refl }
 
-others : {t : Tables} {nodes seats : List ℕ} {s : ℕ} {words : ℕ → ℕ} → Seated (t .seats) seats s words → OtherSeatsKept s t (tables nodes seats)
-others w = record { word = w .others; same-length = w .long }
+others : {t : Tables} {nodes seats : List ℕ} {s : ℕ} {words : ℕ → ℕ} → Seated (t .sheet) (t .seats) seats s words → OtherSeatsKept s t (tables (t .sheet) nodes seats)
+others w = record { same-profile = refl; word = w .others; same-length = w .long }
 
 module _ (t : Tables) (s : ℕ) (r : Room t s) where
   unlinking : {u : Tables} → Unlinking t s u → OtherSeatsKept s t u
@@ -50,6 +50,7 @@ module _ (t : Tables) (s : ℕ) (r : Room t s) where
   inserting (rereads j m) = others (cur-stored t s r (link t (prev t s)))
 
   walking : {u : Tables} → Walking t s u → OtherSeatsKept s t u
+  unfolding pass
   walking (inserts f w) = inserting w
   walking (unlinks c m w) = unlinking w
   walking (passes c m f) = others (pass-stored t s r)
@@ -60,12 +61,14 @@ module _ (t : Tables) (s : ℕ) (r : Room t s) where
   waking (stays m) = same s t
 
   reader-validating : {u : Tables} → ReaderValidating t s u → OtherSeatsKept s t u
+  unfolding hold pass
   reader-validating (reader-holds f) = others (hold-stored t s r)
   reader-validating (reader-unlinks c m w) = unlinking w
   reader-validating (reader-passes c m f) = others (pass-stored t s r)
   reader-validating (reader-waits c m f h) = others (phase-stored t s r 4)
 
   writer-validating : {u : Tables} → WriterValidating t s u → OtherSeatsKept s t u
+  unfolding hold pass withdraw
   writer-validating (writer-holds f) = others (hold-stored t s r)
   writer-validating (writer-unlinks d c m w) = unlinking w
   writer-validating (writer-passes d c m f) = others (pass-stored t s r)
@@ -76,14 +79,15 @@ module _ (t : Tables) (s : ℕ) (r : Room t s) where
   validating (validates-writer k w) = writer-validating w
 
   taking : (a : ℕ) (c : Claim) → OtherSeatsKept s t (takeNode t s a c)
-  unfolding takeNode writeClaim
+  unfolding takeNode writeClaim reserveFor
   taking a c = others (reserve-stored (writeClaim t a c) s r a)
 
 taking-then : (t : Tables) (s : ℕ) → Room t s → (a : ℕ) (c : Claim) → OtherSeatsKept s t (takeNode (takenOut t) s a c)
 taking-then t s r a c =
     let e = taken-out-seats t in
-    let w = taking (takenOut t) s (rw e r) a c in
-    record { word = λ r f d h. w .word r f d h ∙ ap (λ l. seatWord l r f) e; same-length = w .same-length ∙ ap length e }
+    let k = taken-out-profile t in
+    let w = taking (takenOut t) s (rw (k, e) r) a c in
+    record { same-profile = w .same-profile ∙ k; word = λ r f d h. w .word r f d (rw k h) ∙ rw (k, e); same-length = w .same-length ∙ ap length e }
 
 fetching : (t : Tables) (s : ℕ) → Room t s → {c : Claim} {f : Fetched} → Fetching t s c f → OtherSeatsKept s t (f .after)
 fetching t s r {c} (found a e z) = taking t s r a c
@@ -100,6 +104,7 @@ module _ (t : Tables) (s : ℕ) where
   reserved-keeps f w = branch (λ (d : Done Answer). OtherSeatsKept s t (d .after)) (f .node is 0) (λ e. same s t) (λ e. w)
 
   stepping : {d : Done Answer} → Room t s → Stepping t s d → OtherSeatsKept s t (d .after)
+  unfolding entering
   stepping r (in-1 e w) = walking t s r w
   stepping r (in-2 e w) = waking t s r w
   stepping r (in-3 e w) = validating t s r w
@@ -117,10 +122,12 @@ module _ (t : Tables) (s : ℕ) where
   reserve-others (reserve-accepted {f = f} e h p i z w) = reserved-keeps f (fetching t s (sound-room t s e h) w)
 
   enter-others : {d : Done Answer} → Entering t s d → OtherSeatsKept s t (d .after)
+  unfolding entering
   enter-others (enter-refused k r) = same s t
   enter-others (enter-accepted e h p) = others (enter-stored t s (sound-room t s e h))
 
   release-others : {d : Done Answer} → Releasing t s d → OtherSeatsKept s t (d .after)
+  unfolding leave
   release-others (release-refused k r) = same s t
   release-others (release-accepted e h p) = others (leave-stored t s (sound-room t s e h))
 

@@ -2,7 +2,7 @@
 -- step that fetches again writes the claim that its seat has. Of any tables, reached or not.
 use Prim.Native.Nat.{ℕ, _≤_}
 use mathlib.Core.Path.{_≡_, refl, sym, ap, _∙_}
-use mathlib.Core.Bool.{false}
+use mathlib.Core.Bool.{false, Bool}
 use mathlib.Core.List.{List}
 use native.Mathlib.Omega.{arith}
 use Rattle.rules.specs.Notation.{_is_}
@@ -55,16 +55,16 @@ not-own-count t s e = count-not-title (kindOf t s) (sym e)
 written-at-most : (t : Tables) (a b most : ℕ) (c : Claim) → c .end ≤ most → end t b ≤ most → end (writeClaim t a c) b ≤ most
 unfolding writeClaim
 written-at-most t a b most c i j =
-    let l₁ = putNode (t .nodes) a startAt (c .start) in
-    let l₂ = putNode l₁ a endAt (c .end) in
-    let l₃ = putNode l₂ a kindAt (c .kind) in
+    let l₁ = putNode (t .sheet) (t .nodes) a startAt (c .start) in
+    let l₂ = putNode (t .sheet) l₁ a endAt (c .end) in
+    let l₃ = putNode (t .sheet) l₂ a kindAt (c .kind) in
     rw (
-      node-put-field (putLink l₃ a 0) a b markAt endAt 0 (omega arith) (omega arith) (omega arith),
-      node-put-link l₃ a b endAt 0 (omega arith) (omega arith),
-      node-put-field l₂ a b kindAt endAt (c .kind) (omega arith) (omega arith) (omega arith),
+      node-put-field (t .sheet) (putLink (t .sheet) l₃ a 0) a b markAt endAt 0 (omega arith) (omega arith) (omega arith),
+      node-put-link (t .sheet) l₃ a b endAt 0 (omega arith) (omega arith),
+      node-put-field (t .sheet) l₂ a b kindAt endAt (c .kind) (omega arith) (omega arith) (omega arith),
     )
-    (node-put-at-most l₁ a b endAt (c .end) most (omega arith) i
-    (rw (node-put-field (t .nodes) a b startAt endAt (c .start) (omega arith) (omega arith) (omega arith)) j))
+    (node-put-at-most (t .sheet) l₁ a b endAt (c .end) most (omega arith) i
+    (rw (node-put-field (t .sheet) (t .nodes) a b startAt endAt (c .start) (omega arith) (omega arith) (omega arith)) j))
 
 taken-within : (t : Tables) (s a : ℕ) (c : Claim) → WithinTitle t c → AllWithin t → AllWithin (takeNode t s a c)
 unfolding takeNode reserveFor
@@ -154,16 +154,16 @@ pub beyond-refused : (t : Tables) → (AllWithin t → ⊥) → (c : Call) → c
 beyond-refused t w c = table-refused t c 1 (damaged (beyond-damaged t w))
 
 -- ---- fresh tables: every end is 0
-fresh-within : (N S frames : ℕ) → 1 ≤ frames → AllWithin (fresh N S frames)
-fresh-within N S frames h =
-    record { some = rw (fresh-title N S frames) h; within = λ a. rw (fresh-node-word N S frames a endAt) (omega arith) }
+fresh-within : (sheet : Bool) (N S frames : ℕ) → 1 ≤ frames → AllWithin (fresh sheet N S frames)
+fresh-within sheet N S frames h =
+    record { some = rw (fresh-title sheet N S frames) h; within = λ a. rw (fresh-node-word sheet N S frames a endAt) (omega arith) }
 
 pub clear-title : (t : Tables) (frames : ℕ) → clear t frames .answer ≡ 0 → title (clear t frames .after) ≡ frames
-clear-title t frames e = rw (clear-accepted t frames e .makes-fresh) (fresh-title (nodeCount t) (seatCount t) frames)
+clear-title t frames e = rw (clear-accepted t frames e .makes-fresh) (fresh-title (t .sheet) (nodeCount t) (seatCount t) frames)
 
 pub clear-within : (t : Tables) (frames : ℕ) → clear t frames .answer ≡ 0 → AllWithin (clear t frames .after)
 clear-within t frames e =
-    rw (clear-accepted t frames e .makes-fresh) (fresh-within (nodeCount t) (seatCount t) frames (let d = clear-accepted t frames e .some-frames in omega arith))
+    rw (clear-accepted t frames e .makes-fresh) (fresh-within (t .sheet) (nodeCount t) (seatCount t) frames (let d = clear-accepted t frames e .some-frames in omega arith))
 
 pub reached-within : {N S : ℕ} {t : Tables} → Reached N S t → AllWithin t
-reached-within {N} {S} r = reached-has AllWithin within-kept (fresh-within N S) r
+reached-within {N} {S} r = reached-has AllWithin within-kept (λ sheet. fresh-within sheet N S) r

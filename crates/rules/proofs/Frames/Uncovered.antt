@@ -16,10 +16,12 @@ use Rattle.rules.proofs.Rules.Accepting.{Releasing, release-refused, re
 use Rattle.rules.proofs.Rules.RuleEffects.{leave-stored}
 use Rattle.rules.proofs.Frames.SeatFrames.{sound-room, other-seats-kept}
 use Rattle.rules.proofs.Frames.NodeFrames.{release-kept}
+use Rattle.rules.specs.Steps.{leave}
 
 module _ (t : Tables) (s : ℕ) where
   -- a seat that holds after its release was refused it
   refused-then : {d : Done Answer} → Releasing t s d → Holds (d .after) s → d .after ≡ t
+  unfolding leave
   refused-then (release-refused number why) holds = refl
   refused-then (release-accepted e h p) holds = absurd (let z = leave-stored t s (sound-room t s e h) .at-s phaseAt (omega arith) in omega arith)
 
@@ -30,7 +32,7 @@ module _ (t : Tables) (s : ℕ) where
       let kept = other-seats-kept t (releaseCall s) in
       let same-own : own u r ≡ own t r = kept .word r ownAt d (omega arith) in
       let same-phase : phase u r ≡ phase t r = kept .word r phaseAt d (omega arith) in
-      let same-count : seatCount u ≡ seatCount t = same-seat-count t u (kept .same-length) in
+      let same-count : seatCount u ≡ seatCount t = same-seat-count t u (kept .same-profile) (kept .same-length) in
       let same-claim : claimOf u (own t r) ≡ claimOf t (own t r) = release-kept t s .claim-of (own t r) (λ z. z) in
       let seat = h .0 in
       (omega arith, sym same-phase ∙ h .1, subst (λ (c : Claim). Covers c f) same-claim (subst (λ (a : ℕ). Covers (claimOf u a) f) same-own (h .2)))

@@ -2,6 +2,7 @@
 -- of them share a frame where all of them write.
 use Prim.Native.Nat.{ℕ, zero, suc, _≤_, _<_}
 use mathlib.Core.Path.{_≡_}
+use mathlib.Core.Bool.{Bool}
 use mathlib.Core.List.{List}
 use mathlib.Core.Logic.{_≢_}
 use native.Mathlib.Nat.{div-le-of-le-mul, mul-div-cancel}
@@ -14,14 +15,14 @@ use Rattle.rules.specs.Title.{AllWithin, perCent}
 use Rattle.rules.proofs.Keeping.CallKeeps.{good}
 use Rattle.rules.proofs.Holding.Exclusion.{both-read}
 
-word-fits : (words : List ℕ) → In32Bits words → (a f : ℕ) → nodeWord words a f ≤ 4294967295
+word-fits : (sheet : Bool) (words : List ℕ) → In32Bits words → (a f : ℕ) → nodeWord sheet words a f ≤ 4294967295
 unfolding nodeWord
-word-fits words fit zero f = omega arith
-word-fits words fit (suc a) f = fit _
+word-fits sheet words fit zero f = omega arith
+word-fits sheet words fit (suc a) f = fit _
 
 pub ends-in-32-bits : (t : Tables) → In32Bits (t .nodes) → (s frame : ℕ) → HolderCovers t s frame → frame < 4294967295
 ends-in-32-bits t words s frame h =
-    let e = word-fits (t .nodes) words (own t s) endAt in
+    let e = word-fits (t .sheet) (t .nodes) words (own t s) endAt in
     let c = h .2 .1 in
     omega arith
 

@@ -8,7 +8,7 @@ use borrow.Author.Tests.{ne-eqb, eqb-false}
 use Rattle.rules.specs.Tables.{Tables, tables, phaseAt, ownAt, mark, next, phase, own, cur}
 use Rattle.rules.specs.Comparison.{Claim, claimOf}
 use Rattle.rules.specs.Answers.{Answer, back, Done, answered}
-use Rattle.rules.specs.Steps.{withdraw}
+use Rattle.rules.specs.Steps.{withdraw, hold, pass}
 use Rattle.rules.specs.Calls.{step, release}
 use Rattle.rules.specs.Play.{Call, reserveCall, enterCall, stepCall, releaseCall, call, seatOf, afterAll}
 use Rattle.rules.specs.Reached.{Request, afterRequests}
@@ -36,8 +36,8 @@ data Retained (s : ℕ) (t : Tables) (d : Done Answer) : Type 0 where
   still-linked : Linked (phase (d .after) s) → own (d .after) s ≡ own t s → Retained s t d
   told-back : d .answer ≡ back → Retained s t d
 
-stored-linked : {t : Tables} {nodes seats : List ℕ} {s : ℕ} {words : ℕ → ℕ} → Seated (t .seats) seats s words → Linked (words phaseAt)
-    → words ownAt ≡ own t s → Retained s t (answered (tables nodes seats) s)
+stored-linked : {t : Tables} {nodes seats : List ℕ} {s : ℕ} {words : ℕ → ℕ} → Seated (t .sheet) (t .seats) seats s words → Linked (words phaseAt)
+    → words ownAt ≡ own t s → Retained s t (answered (tables (t .sheet) nodes seats) s)
 stored-linked w l e = still-linked (rw (w .at-s phaseAt (omega arith)) l) (w .at-s ownAt (omega arith) ∙ e)
 
 module _ {N S : ℕ} {t : Tables} (g : Good N S t) (s : ℕ) (s-in : s < S) (l : Linked (phase t s)) where
@@ -49,6 +49,7 @@ module _ {N S : ℕ} {t : Tables} (g : Good N S t) (s : ℕ) (s-in : s < S) (l :
   unlinking (goes-past e) = stored-linked (cur-stored t s r (next t (cur t s))) l refl
 
   retained-3 : {u : Tables} → Validating t s u → Retained s t (answered u s)
+  unfolding hold pass withdraw
   retained-3 (validates-reader k (reader-holds f)) = stored-linked (hold-stored t s r) (holding refl) refl
   retained-3 (validates-reader k (reader-unlinks c m w)) = unlinking w
   retained-3 (validates-reader k (reader-passes c m f)) = stored-linked (pass-stored t s r) l refl

@@ -23,7 +23,7 @@ use Rattle.rules.proofs.Ground.Deciding.{if-same}
 use Rattle.rules.proofs.Ground.Counting.{lowest-has}
 use Rattle.rules.proofs.Laws.Words.{link-node, same-node-count}
 use Rattle.rules.proofs.Laws.Shape.{is-sound}
-use Rattle.rules.proofs.Laws.NodesAlone.{taken-out-seats}
+use Rattle.rules.proofs.Laws.NodesAlone.{taken-out-profile, taken-out-seats}
 use Rattle.rules.proofs.Invariant.View.{reserved as in-reserve}
 use Rattle.rules.proofs.Invariant.Phases.{linked-busy, not-both}
 use Rattle.rules.proofs.Rules.Effects.{Room}
@@ -38,10 +38,10 @@ use Rattle.rules.proofs.Keeping.Hops.{on-list}
 use Rattle.rules.proofs.Keeping.FetchKeeps.{claim-written}
 
 -- ---- the node that is taken
-taken-has : (t : Tables) (s a : ℕ) (c : Claim) → Room t s → a ≢ 0 → beforeNodes + nodeWidth * a ≤ length (t .nodes) → HasReserved (takeNode t s a c) s a c
-unfolding takeNode reserveFor
+taken-has : (t : Tables) (s a : ℕ) (c : Claim) → Room t s → a ≢ 0 → beforeNodes (t .sheet) + nodeWidth * a ≤ length (t .nodes) → HasReserved (takeNode t s a c) s a c
+unfolding takeNode reserveFor writeClaim
 taken-has t s a c r z long =
-    let w = reserve-stored (writeClaim t a c) s (unfold writeClaim in r) a in
+    let w = reserve-stored (writeClaim t a c) s r a in
     let n = claim-written t a c z long in
     record {
       in-phase-7 = w .at-s phaseAt (omega arith);
@@ -50,11 +50,11 @@ taken-has t s a c r z long =
       no-cur = w .at-s curAt (omega arith);
       is-claim = rw (n .at-a startAt (omega arith), n .at-a endAt (omega arith), n .at-a kindAt (omega arith));
       unmarked = n .at-a markAt (omega arith);
-      no-next = link-node (writeClaim t a c .nodes) a z ∙ n .at-a nextAt (omega arith);
+      no-next = link-node (t .sheet) (writeClaim t a c .nodes) a z ∙ n .at-a nextAt (omega arith);
     }
 
 -- the lowest free node is one of the table's, with all of its words there
-lowest-there : (t : Tables) (s a : ℕ) → lowestFree t s ≡ a → a ≢ 0 → length (t .nodes) ≡ beforeNodes + nodeWidth * nodeCount t → beforeNodes + nodeWidth * a ≤ length (t .nodes)
+lowest-there : (t : Tables) (s a : ℕ) → lowestFree t s ≡ a → a ≢ 0 → length (t .nodes) ≡ beforeNodes (t .sheet) + nodeWidth * nodeCount t → beforeNodes (t .sheet) + nodeWidth * a ≤ length (t .nodes)
 unfolding lowestFree
 lowest-there t s a e z l = let w = lowest-has (nodeCount t) (free t s) a e z in let h = w .1 in omega arith
 
@@ -63,9 +63,10 @@ fetched-has {t} {s} {c} e h d (found a q z) =
     taken-has t s a c (sound-room t s e h) z (lowest-there t s a q z (is-sound t e .nodes-length))
 fetched-has {t} {s} {c} e h d (found-then a q q′ z) =
     let same = taking-out t .same-length in
-    let count = same-node-count t (takenOut t) same in
-    taken-has (takenOut t) s a c (rw (taken-out-seats t) (sound-room t s e h)) z
-    (lowest-there (takenOut t) s a q′ z (rw (same, count) (is-sound t e .nodes-length)))
+    let profile = taken-out-profile t in
+    let count = same-node-count t (takenOut t) profile same in
+    taken-has (takenOut t) s a c (rw (profile, taken-out-seats t) (sound-room t s e h)) z
+    (lowest-there (takenOut t) s a q′ z (rw (same, count, profile) (is-sound t e .nodes-length)))
 fetched-has e h d (none q q′) = absurd (d refl)
 
 -- ---- reserve, and a withdrawn seat that fetches

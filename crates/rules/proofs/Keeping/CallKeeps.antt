@@ -1,6 +1,7 @@
 -- Every call leaves good tables good, so every table that is reached is good.
 use Prim.Native.Nat.{ℕ, _<_}
 use mathlib.Core.Path.{_≡_}
+use mathlib.Core.Bool.{Bool}
 use mathlib.Core.Logic.{inl, inr}
 use native.Mathlib.Omega.{arith}
 use Rattle.rules.specs.Notation.{_is_}
@@ -77,17 +78,17 @@ call-keeps {t = t} g (stepCall s) = step-keeps g s
 call-keeps {t = t} g (releaseCall s) = releasing-keeps g s (releasing t s)
 
 -- ---- fresh tables: every word is 0 but the title, which the invariant does not look at
-module _ (N S frames : ℕ) where
+module _ (sheet : Bool) (N S frames : ℕ) where
   abbrev t₀ : Tables
-  t₀ = fresh N S frames
+  t₀ = fresh sheet N S frames
 
   idle : (s : ℕ) → phase t₀ s ≡ 0
-  idle s = fresh-seat-word N S frames s phaseAt
+  idle s = fresh-seat-word sheet N S frames s phaseAt
 
   nothing-seen : {a : ℕ} → Seen (nodesOf t₀ .link) (seatsOf t₀) a → ⊥
-  nothing-seen (from-head r) = not-from-0 r (fresh-link N S frames 0)
-  nothing-seen (from-prev j r) = not-from-0 r (fresh-seat-word N S frames j prevAt)
-  nothing-seen (from-cur j r) = not-from-0 r (fresh-seat-word N S frames j curAt)
+  nothing-seen (from-head r) = not-from-0 r (fresh-link sheet N S frames 0)
+  nothing-seen (from-prev j r) = not-from-0 r (fresh-seat-word sheet N S frames j prevAt)
+  nothing-seen (from-cur j r) = not-from-0 r (fresh-seat-word sheet N S frames j curAt)
 
   no-outside : {A : Type 0} (s : ℕ) → Outside (phase t₀ s) → A
   no-outside s o = absurd (outside-busy o (idle s))
@@ -98,22 +99,22 @@ module _ (N S frames : ℕ) where
   fresh-invariant : Invariant N (nodesOf t₀) (seatsOf t₀)
   fresh-invariant = record {
     nodes = record {
-      head-unmarked = fresh-node-word N S frames 0 markAt;
+      head-unmarked = fresh-node-word sheet N S frames 0 markAt;
       blank-or-proper = λ a h. inl (record {
-        start-0 = fresh-node-word N S frames a startAt;
-        end-0 = fresh-node-word N S frames a endAt;
-        kind-0 = fresh-node-word N S frames a kindAt;
-        mark-0 = fresh-node-word N S frames a markAt;
-        link-0 = fresh-link N S frames a;
+        start-0 = fresh-node-word sheet N S frames a startAt;
+        end-0 = fresh-node-word sheet N S frames a endAt;
+        kind-0 = fresh-node-word sheet N S frames a kindAt;
+        mark-0 = fresh-node-word sheet N S frames a markAt;
+        link-0 = fresh-link sheet N S frames a;
       });
-      marks = λ a. rw (fresh-node-word N S frames a markAt) (omega arith);
-      links = λ a. nothing (fresh-link N S frames a);
+      marks = λ a. rw (fresh-node-word sheet N S frames a markAt) (omega arith);
+      links = λ a. nothing (fresh-link sheet N S frames a);
     };
-    seats = λ s. rw (fresh-seat-word N S frames s ownAt, fresh-seat-word N S frames s prevAt, fresh-seat-word N S frames s curAt) (idle-seat (idle s));
+    seats = λ s. rw (fresh-seat-word sheet N S frames s ownAt, fresh-seat-word sheet N S frames s prevAt, fresh-seat-word sheet N S frames s curAt) (idle-seat (idle s));
     distinct = λ i j d x. absurd (x (idle i));
     outside = λ s o. no-outside s o;
     linked = λ s l. no-linked s l;
-    owner = λ r e. absurd (not-from-0 r (fresh-link N S frames 0));
+    owner = λ r e. absurd (not-from-0 r (fresh-link sheet N S frames 0));
     seen-listed = λ z e. absurd (nothing-seen z);
     ordered = λ z h. absurd (nothing-seen z);
     ends = λ z. absurd (nothing-seen z);
@@ -124,8 +125,8 @@ module _ (N S frames : ℕ) where
   }
 
   fresh-good : Good N S t₀
-  fresh-good = record { aside = record { nodes-long = fresh-nodes-length N S frames; seats-long = fresh-seats-length N S frames; seat = λ s. record { idle = λ z f h. fresh-seat-word N S frames s f } }; inv = fresh-invariant }
+  fresh-good = record { aside = record { nodes-long = fresh-nodes-length sheet N S frames; seats-long = fresh-seats-length sheet N S frames; seat = λ s. record { idle = λ z f h. fresh-seat-word sheet N S frames s f } }; inv = fresh-invariant }
 
 -- ---- every table that is reached
 pub good : {N S : ℕ} {t : Tables} → Reached N S t → Good N S t
-good {N} {S} r = reached-has (Good N S) (λ t c g. call-keeps g c) (λ frames h. fresh-good N S frames) r
+good {N} {S} r = reached-has (Good N S) (λ t c g. call-keeps g c) (λ sheet frames h. fresh-good sheet N S frames) r

@@ -1,7 +1,7 @@
 -- Good tables: the invariant, and what is known beside the view. Each rule of a step that fetches nothing leaves good tables good, and
 -- so does release.
 use Prim.Native.Nat.{ℕ, _≤_, _<_}
-use mathlib.Core.Path.{_≡_, sym, subst, _∙_}
+use mathlib.Core.Path.{_≡_, sym, subst, _∙_, refl}
 use mathlib.Core.List.{List}
 use mathlib.Core.Logic.{_≢_, _⊎_, inl, inr}
 use native.Mathlib.Omega.{arith}
@@ -31,12 +31,12 @@ pub counts-on : {N S : ℕ} {t : Tables} → Good N S t → (k v : ℕ) → Good
 counts-on {N} {t = t} g k v = record { aside = count-put (g .aside) k v; inv = subst (λ n. Invariant N n (seatsOf t)) (same-nodes t k v) (g .inv) }
 
 -- ---- a seat moves
-pub moves : {N S : ℕ} {t : Tables} {s : ℕ} {words : ℕ → ℕ} {seats : List ℕ} → Good N S t → Seated (t .seats) seats s words → SeatAside words
-    → (Reseated (seatsOf t) (seatsOf (tables (t .nodes) seats)) s (words phaseAt) (words ownAt) (words prevAt) (words curAt)
-    → Invariant N (nodesOf t) (seatsOf (tables (t .nodes) seats)))
-    → Good N S (tables (t .nodes) seats)
+pub moves : {N S : ℕ} {t : Tables} {s : ℕ} {words : ℕ → ℕ} {seats : List ℕ} → Good N S t → Seated (t .sheet) (t .seats) seats s words → SeatAside (t .sheet) words
+    → (Reseated (seatsOf t) (seatsOf (tables (t .sheet) (t .nodes) seats)) s (words phaseAt) (words ownAt) (words prevAt) (words curAt)
+    → Invariant N (nodesOf t) (seatsOf (tables (t .sheet) (t .nodes) seats)))
+    → Good N S (tables (t .sheet) (t .nodes) seats)
 moves {t = t} {seats = seats} g w k f =
-    record { aside = seat-put (g .aside) w k; inv = f (reseated t (tables (t .nodes) seats) w) }
+    record { aside = seat-put (g .aside) w k; inv = f (reseated t (tables (t .sheet) (t .nodes) seats) refl w) }
 
 -- ---- a link that led to a marked node passes over it
 pub passes-over : {N S : ℕ} {t : Tables} → Good N S t → (p out : ℕ) → p ≤ N → Known (link t) (seatsOf t) p
@@ -44,18 +44,18 @@ pub passes-over : {N S : ℕ} {t : Tables} → Good N S t → (p out : ℕ) → 
 passes-over {N} {t = t} g p out p-in known out-pos gone joins =
     let l = t .nodes in
     let v = next t out in
-    let old : (a : ℕ) → a ≢ p → link (setLink t p v) a ≡ link t a = λ a d. link-put-other l p a v (λ e. d (sym e)) in
+    let old : (a : ℕ) → a ≢ p → link (setLink t p v) a ≡ link t a = λ a d. link-put-other (t .sheet) l p a v (λ e. d (sym e)) in
     record {
       aside = link-put (g .aside) p v;
-      inv = subst (λ n. Invariant N n (seatsOf t)) (only-links t (setLink t p v) (λ a f h d. node-put-link l p a f v h d))
-          (unlink-keeps (g .inv) (link (setLink t p v)) p out known (omega arith) gone joins (link-put-same l p v (node-room (g .aside) p p-in)) old);
+      inv = subst (λ n. Invariant N n (seatsOf t)) (only-links t (setLink t p v) (λ a f h d. node-put-link (t .sheet) l p a f v h d))
+          (unlink-keeps (g .inv) (link (setLink t p v)) p out known (omega arith) gone joins (link-put-same (t .sheet) l p v (node-room (g .aside) p p-in)) old);
     }
 
 -- linking in changes links alone
-pub link-in-words : (t : Tables) (s a f : ℕ) → f < nodeWidth → f ≢ nextAt → nodeWord (linkIn t s .nodes) a f ≡ nodeWord (t .nodes) a f
+pub link-in-words : (t : Tables) (s a f : ℕ) → f < nodeWidth → f ≢ nextAt → nodeWord (linkIn t s .sheet) (linkIn t s .nodes) a f ≡ nodeWord (t .sheet) (t .nodes) a f
 unfolding linkIn
 link-in-words t s a f h d =
-    node-put-link (putLink (t .nodes) (own t s) (cur t s)) (prev t s) a f (own t s) h d ∙ node-put-link (t .nodes) (own t s) a f (cur t s) h d
+    node-put-link (t .sheet) (putLink (t .sheet) (t .nodes) (own t s) (cur t s)) (prev t s) a f (own t s) h d ∙ node-put-link (t .sheet) (t .nodes) (own t s) a f (cur t s) h d
 
 module _ {N S : ℕ} {t : Tables} (g : Good N S t) (s : ℕ) where
   abbrev o : ℕ
@@ -82,17 +82,17 @@ module _ {N S : ℕ} {t : Tables} (g : Good N S t) (s : ℕ) where
 
     pub new-prev : link (linkIn t s) p ≡ o
     unfolding linkIn
-    new-prev = link-put-same (putLink (t .nodes) o c) p o (let l = put-link-length (t .nodes) o c in let h = node-room (g .aside) p prev-in in omega arith)
+    new-prev = link-put-same (t .sheet) (putLink (t .sheet) (t .nodes) o c) p o (let l = put-link-length (t .sheet) (t .nodes) o c in let h = node-room (g .aside) p prev-in in omega arith)
 
     pub new-own : link (linkIn t s) o ≡ c
     unfolding linkIn
-    new-own = link-put-other (putLink (t .nodes) o c) p o o (λ e. own-not-prev (sym e)) ∙ link-put-same (t .nodes) o c (node-room (g .aside) o own-in)
+    new-own = link-put-other (t .sheet) (putLink (t .sheet) (t .nodes) o c) p o o (λ e. own-not-prev (sym e)) ∙ link-put-same (t .sheet) (t .nodes) o c (node-room (g .aside) o own-in)
 
     pub old-links : (a : ℕ) → a ≢ o → a ≢ p → link (linkIn t s) a ≡ link t a
     unfolding linkIn
-    old-links a d d′ = link-put-other (putLink (t .nodes) o c) p a o (λ e. d′ (sym e)) ∙ link-put-other (t .nodes) o a c (λ e. d (sym e))
+    old-links a d d′ = link-put-other (t .sheet) (putLink (t .sheet) (t .nodes) o c) p a o (λ e. d′ (sym e)) ∙ link-put-other (t .sheet) (t .nodes) o a c (λ e. d (sym e))
 
-    linked-aside : {seats : List ℕ} {words : ℕ → ℕ} → Seated (t .seats) seats s words → SeatAside words → Aside N S (tables (linkIn t s .nodes) seats)
+    linked-aside : {seats : List ℕ} {words : ℕ → ℕ} → Seated (t .sheet) (t .seats) seats s words → SeatAside (t .sheet) words → Aside N S (tables (t .sheet) (linkIn t s .nodes) seats)
     unfolding linkIn
     linked-aside w k = seat-put (linked-in (g .aside) s) w k
 
@@ -104,28 +104,29 @@ module _ {N S : ℕ} {t : Tables} (g : Good N S t) (s : ℕ) where
           | inr q ↦ precedes-ordered (own-proper (g .inv) s (outside-busy (walking walks))) q
         ])
 
-    pub links-in-good : {seats : List ℕ} {words : ℕ → ℕ} → Seated (t .seats) seats s words → words ownAt ≡ o
-        → Starts (nodesOf t) (link (linkIn t s)) o p (words phaseAt) (words prevAt) (words curAt) → Good N S (tables (linkIn t s .nodes) seats)
+    pub links-in-good : {seats : List ℕ} {words : ℕ → ℕ} → Seated (t .sheet) (t .seats) seats s words → words ownAt ≡ o
+        → Starts (nodesOf t) (link (linkIn t s)) o p (words phaseAt) (words prevAt) (words curAt) → Good N S (tables (t .sheet) (linkIn t s .nodes) seats)
+    unfolding linkIn
     links-in-good {seats} {words} w e st = record {
       aside = linked-aside w (not-idle (elim st [ reader p k q c ↦ omega arith | writer p k q c ↦ omega arith ]));
-      inv = subst (λ n. Invariant N n (seatsOf (tables (linkIn t s .nodes) seats))) (only-links t (linkIn t s) (link-in-words t s))
+      inv = subst (λ n. Invariant N n (seatsOf (tables (t .sheet) (linkIn t s .nodes) seats))) (only-links t (linkIn t s) (link-in-words t s))
           (insert-keeps (g .inv) (link (linkIn t s)) s (words phaseAt) (words prevAt) (words curAt) walks (join .unmarked)
-          (new-own ∙ sym (join .to-cur)) new-prev old-links (rw e at (reseated t (tables (linkIn t s .nodes) seats) w)) st in-front);
+          (new-own ∙ sym (join .to-cur)) new-prev old-links (rw e at (reseated t (tables (t .sheet) (linkIn t s .nodes) seats) refl w)) st in-front);
     }
 
   -- ---- own is marked and the seat leaves
-  pub leaves-good : {seats : List ℕ} {words : ℕ → ℕ} → Linked (phase t s) → Seated (t .seats) seats s words → SeatAside words
-      → words prevAt ≡ 0 → words curAt ≡ 0 → Leaves o (words phaseAt) (words ownAt) → Good N S (tables (setMark t o 1 .nodes) seats)
+  pub leaves-good : {seats : List ℕ} {words : ℕ → ℕ} → Linked (phase t s) → Seated (t .sheet) (t .seats) seats s words → SeatAside (t .sheet) words
+      → words prevAt ≡ 0 → words curAt ≡ 0 → Leaves o (words phaseAt) (words ownAt) → Good N S (tables (t .sheet) (setMark t o 1 .nodes) seats)
   leaves-good {seats} {words} l w k ep ec lv =
       let h : o ≢ 0 = let x = own-pos (g .inv) s (linked-busy l) in omega arith in
       let ns = t .nodes in
-      let u = tables (setMark t o 1 .nodes) seats in
-      let r : Reseated (seatsOf t) (seatsOf u) s (words phaseAt) (words ownAt) 0 0 = rw (ep, ec) at (reseated t u w) in
+      let u = tables (t .sheet) (setMark t o 1 .nodes) seats in
+      let r : Reseated (seatsOf t) (seatsOf u) s (words phaseAt) (words ownAt) 0 0 = rw (ep, ec) at (reseated t u refl w) in
       record {
         aside = seat-put (word-put (g .aside) markAt o 1) w k;
         inv = subst (λ n. Invariant N n (seatsOf u))
-            (only-marks t (setMark t o 1) (λ a f b d. node-put-field ns o a markAt f 1 (omega arith) b (λ e. d (sym e)))
-            (λ a. link-put-field ns o a markAt 1 (omega arith) (omega arith)))
-            (leave-keeps (g .inv) (mark (setMark t o 1)) s (words phaseAt) (words ownAt) l lv r (node-put-same ns o markAt 1 (omega arith) h (node-room (g .aside) o own-in))
-            (λ a d. node-put-node ns o a markAt markAt 1 (omega arith) (omega arith) (λ e. d (sym e))));
+            (only-marks t (setMark t o 1) (λ a f b d. node-put-field (t .sheet) ns o a markAt f 1 (omega arith) b (λ e. d (sym e)))
+            (λ a. link-put-field (t .sheet) ns o a markAt 1 (omega arith) (omega arith)))
+            (leave-keeps (g .inv) (mark (setMark t o 1)) s (words phaseAt) (words ownAt) l lv r (node-put-same (t .sheet) ns o markAt 1 (omega arith) h (node-room (g .aside) o own-in))
+            (λ a d. node-put-node (t .sheet) ns o a markAt markAt 1 (omega arith) (omega arith) (λ e. d (sym e))));
       }

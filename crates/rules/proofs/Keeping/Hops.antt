@@ -37,7 +37,7 @@ module _ {N S : ℕ} {t : Tables} (g : Good N S t) where
   is-listed {x} r = reached-met (head t) x known-head r
 
   -- a seat past the last one is nowhere
-  past : (r f : ℕ) → S ≤ r → seatWord (t .seats) r f ≡ 0
+  past : (r f : ℕ) → S ≤ r → seatWord (t .sheet) (t .seats) r f ≡ 0
   past r f h = let e = seat-count t S (g .aside .seats-long) in seat-past t r f (rw e (g .aside .seats-long)) (rw e h)
 
   -- so a seat with a claim is one of the S

@@ -60,9 +60,9 @@ module _ {N S : ℕ} {t : Tables} (g : Good N S t) (s : ℕ) (s-in : s < S) wher
       let g′ = passes-over g p (cur t s) (prev-in g s) (known-prev s) c m (j .to-cur) in
       let same : link (setLink t p v) (cur t s) ≡ v =
       if-same (cur t s) p
-      (λ e. ap (link (setLink t p v)) e ∙ link-put-same (t .nodes) p v (node-room (g .aside) p (prev-in g s)))
-      (λ d. link-put-other (t .nodes) p (cur t s) v (λ e. d (sym e))) in
-      rw same at (skip-good g′ s s-in ph c (node-put-link (t .nodes) p (cur t s) markAt v (omega arith) (omega arith) ∙ m))
+      (λ e. ap (link (setLink t p v)) e ∙ link-put-same (t .sheet) (t .nodes) p v (node-room (g .aside) p (prev-in g s)))
+      (λ d. link-put-other (t .sheet) (t .nodes) p (cur t s) v (λ e. d (sym e))) in
+      rw same at (skip-good g′ s s-in ph c (node-put-link (t .sheet) (t .nodes) p (cur t s) markAt v (omega arith) (omega arith) ∙ m))
 
   start-good : {u : Tables} → phase t s ≡ 1 → Joined t s → (cur t s ≡ 0) ⊎ Precedes (claimOf t (own t s)) (claimOf t (cur t s))
       → Starting (linkIn t s) s u → Good N S u

@@ -48,8 +48,8 @@ module _ {N S : ℕ} {t : Tables} (g : Good N S t) (p : ℕ) where
 
 through-again : (ks : List ℕ) (t : Tables) (p v : ℕ) → linkThrough (setLink t p v) p ks ≡ linkThrough t p ks
 unfolding linkThrough
-through-again [] t p v = ap (λ l. tables l (t .seats)) (put-link-twice (t .nodes) p v 0)
-through-again (a ∷ ks) t p v = ap (λ l. linkThrough (tables l (t .seats)) a ks) (put-link-twice (t .nodes) p v a)
+through-again [] t p v = ap (λ l. tables (t .sheet) l (t .seats)) (put-link-twice (t .sheet) (t .nodes) p v 0)
+through-again (a ∷ ks) t p v = ap (λ l. linkThrough (tables (t .sheet) l (t .seats)) a ks) (put-link-twice (t .sheet) (t .nodes) p v a)
 
 -- a marked node is passed over, and the rest is done from the same prev
 through-marked : (h : ℕ) (t : Tables) (p v : ℕ) → (Reach (link t) p v → ⊥)
@@ -58,7 +58,7 @@ through-marked h t p v away = rw (kept-away t p v h v away) (through-again (kept
 
 -- What holds of the tables and of prev is kept, if passing over a marked node keeps it and going on to any other does.
 module _ (Holds : Tables → ℕ → Type 0)
-    (has-room : (t : Tables) (p : ℕ) → Holds t p → beforeNodes + nodeWidth * p ≤ length (t .nodes))
+    (has-room : (t : Tables) (p : ℕ) → Holds t p → beforeNodes (t .sheet) + nodeWidth * p ≤ length (t .nodes))
     (no-way-back : (t : Tables) (p : ℕ) → Holds t p → Reach (link t) p (link t p) → ⊥)
     (passed-over : (t : Tables) (p c : ℕ) → Holds t p → link t p ≡ c → c ≢ 0 → mark t c ≡ 1 → Holds (setLink t p (next t c)) p)
     (gone-on : (t : Tables) (p c : ℕ) → Holds t p → link t p ≡ c → c ≢ 0 → mark t c ≢ 1 → Holds t c) where
@@ -75,8 +75,8 @@ module _ (Holds : Tables → ℕ → Type 0)
       let v = next t c in
       let rest = ends-tail ends d in
       branch (λ ks. (q : ℕ) × Holds (linkThrough t p ks) q) (marked t c)
-      (λ m. let new = link-put-same (t .nodes) p v (has-room t p g) in
-      let left = unlink-keeps-ends (link t) (link (setLink t p v)) p c pos e new (λ a x. link-put-other (t .nodes) p a v (λ q. x (sym q))) (rest .1) in
+      (λ m. let new = link-put-same (t .sheet) (t .nodes) p v (has-room t p g) in
+      let left = unlink-keeps-ends (link t) (link (setLink t p v)) p c pos e new (λ a x. link-put-other (t .sheet) (t .nodes) p a v (λ q. x (sym q))) (rest .1) in
       rw (through-marked h t p v (λ r. no-way-back t p g (rw e (there pos r)))) at
       (through-keeps h (setLink t p v) p v (passed-over t p c g e d (eqb-true (mark t c) 1 m)) new (left .0) (left .1) (omega arith)))
       (λ m. rw (through-right t p c (keptFrom h t v) e)

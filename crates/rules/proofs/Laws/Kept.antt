@@ -81,7 +81,7 @@ kept-off (suc h) t x a f =
 
 module _ (t : Tables) (p v : ℕ) where
   pub mark-stays : (a : ℕ) → mark (setLink t p v) a ≡ mark t a
-  mark-stays a = node-put-link (t .nodes) p a markAt v (omega arith) (omega arith)
+  mark-stays a = node-put-link (t .sheet) (t .nodes) p a markAt v (omega arith) (omega arith)
 
   pub kept-away : (h a : ℕ) → (Reach (link t) p a → ⊥) → keptFrom h (setLink t p v) a ≡ keptFrom h t a
   unfolding keptFrom
@@ -91,7 +91,7 @@ module _ (t : Tables) (p v : ℕ) where
       (λ z. rw z)
       (λ z. let pos : 0 < a = let y = eqb-false a 0 z in omega arith in
       let d : p ≢ a = λ e. f (rw (← e) (here (rw (← e) at pos))) in
-      rw (z, link-put-other (t .nodes) p a v d, mark-stays a, kept-away h (next t a) (λ r. f (there pos r))))
+      rw (z, link-put-other (t .sheet) (t .nodes) p a v d, mark-stays a, kept-away h (next t a) (λ r. f (there pos r))))
 
 -- ---- the walk that takes the marked nodes out. It stands at cur, with prev behind it, and hops enough to the end; prev's link is cur, or a marked node
 -- that was passed over
@@ -155,7 +155,7 @@ module _ {t : Tables} {q c : ℕ} where
 
     -- the same once prev's link is stored
     pub stored-same : (a v : ℕ) → a ≢ q → link (setLink t q v) a ≡ link t a
-    stored-same a v d = link-put-other (t .nodes) q a v (λ e. d (sym e))
+    stored-same a v d = link-put-other (t .sheet) (t .nodes) q a v (λ e. d (sym e))
 
     pub stored-next : (v : ℕ) → next (setLink t q v) c ≡ next t c
     stored-next v = stored-same c v (λ e. prev-not-cur (sym e))

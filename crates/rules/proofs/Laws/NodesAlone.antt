@@ -1,4 +1,4 @@
--- What reads the node table alone reads the same beside any seats, and what stores there leaves every seat.
+-- What reads the node table alone reads the same beside any seats, and what stores there leaves every seat, and the profile.
 use Prim.Native.Nat.{ℕ, zero, suc, _-_}
 use mathlib.Core.Path.{_≡_, refl, ap}
 use mathlib.Core.Bool.{Bool, _||_}
@@ -8,36 +8,36 @@ use Rattle.rules.specs.Tables.{Tables, tables, setLink, linkWord, putLin
 use Rattle.rules.specs.Shape.{zeroNode, claimNode, names, nodeSound, endsBy, endsWithin, nodesSound}
 use Rattle.rules.specs.Fetch.{keptFrom, kept, linkThrough, takenOut}
 
-pub ends-alone : (h : ℕ) (nodes seats : List ℕ) (a : ℕ) → endsWithin h (tables nodes []) a ≡ endsWithin h (tables nodes seats) a
+pub ends-alone : (sheet : Bool) (h : ℕ) (nodes seats : List ℕ) (a : ℕ) → endsWithin h (tables sheet nodes []) a ≡ endsWithin h (tables sheet nodes seats) a
 unfolding endsWithin
-ends-alone zero nodes seats a = refl
-ends-alone (suc h) nodes seats a = ap (λ (b : Bool). a is 0 || b) (ends-alone h nodes seats (linkWord nodes a))
+ends-alone sheet zero nodes seats a = refl
+ends-alone sheet (suc h) nodes seats a = ap (λ (b : Bool). a is 0 || b) (ends-alone sheet h nodes seats (linkWord sheet nodes a))
 
-pub nodes-alone : (nodes seats : List ℕ) → nodesSound (tables nodes []) ≡ nodesSound (tables nodes seats)
+pub nodes-alone : (sheet : Bool) (nodes seats : List ℕ) → nodesSound (tables sheet nodes []) ≡ nodesSound (tables sheet nodes seats)
 unfolding nodesSound nodeSound zeroNode claimNode names
-nodes-alone nodes seats = refl
+nodes-alone sheet nodes seats = refl
 
-pub ends-by-alone : (nodes seats : List ℕ) (frames : ℕ) → endsBy (tables nodes []) frames ≡ endsBy (tables nodes seats) frames
+pub ends-by-alone : (sheet : Bool) (nodes seats : List ℕ) (frames : ℕ) → endsBy (tables sheet nodes []) frames ≡ endsBy (tables sheet nodes seats) frames
 unfolding endsBy
-ends-by-alone nodes seats frames = refl
+ends-by-alone sheet nodes seats frames = refl
 
-kept-from-alone : (h : ℕ) (nodes seats : List ℕ) (a : ℕ) → keptFrom h (tables nodes []) a ≡ keptFrom h (tables nodes seats) a
+kept-from-alone : (sheet : Bool) (h : ℕ) (nodes seats : List ℕ) (a : ℕ) → keptFrom h (tables sheet nodes []) a ≡ keptFrom h (tables sheet nodes seats) a
 unfolding keptFrom
-kept-from-alone zero nodes seats a = refl
-kept-from-alone (suc h) nodes seats a = rw (kept-from-alone h nodes seats (linkWord nodes a))
+kept-from-alone sheet zero nodes seats a = refl
+kept-from-alone sheet (suc h) nodes seats a = rw (kept-from-alone sheet h nodes seats (linkWord sheet nodes a))
 
-pub kept-alone : (nodes seats : List ℕ) → kept (tables nodes []) ≡ kept (tables nodes seats)
+pub kept-alone : (sheet : Bool) (nodes seats : List ℕ) → kept (tables sheet nodes []) ≡ kept (tables sheet nodes seats)
 unfolding kept
-kept-alone nodes seats = kept-from-alone (nodeCountOf nodes) nodes seats (linkWord nodes 0)
+kept-alone sheet nodes seats = kept-from-alone sheet (nodeCountOf sheet nodes) nodes seats (linkWord sheet nodes 0)
 
-through-alone : (ks nodes seats : List ℕ) (p : ℕ) → tables (linkThrough (tables nodes []) p ks .nodes) seats ≡ linkThrough (tables nodes seats) p ks
+through-alone : (sheet : Bool) (ks nodes seats : List ℕ) (p : ℕ) → tables sheet (linkThrough (tables sheet nodes []) p ks .nodes) seats ≡ linkThrough (tables sheet nodes seats) p ks
 unfolding linkThrough
-through-alone [] nodes seats p = refl
-through-alone (a ∷ ks) nodes seats p = through-alone ks (putLink nodes p a) seats a
+through-alone sheet [] nodes seats p = refl
+through-alone sheet (a ∷ ks) nodes seats p = through-alone sheet ks (putLink sheet nodes p a) seats a
 
-pub taken-out-alone : (nodes seats : List ℕ) → tables (takenOut (tables nodes []) .nodes) seats ≡ takenOut (tables nodes seats)
+pub taken-out-alone : (sheet : Bool) (nodes seats : List ℕ) → tables sheet (takenOut (tables sheet nodes []) .nodes) seats ≡ takenOut (tables sheet nodes seats)
 unfolding takenOut
-taken-out-alone nodes seats = rw (kept-alone nodes seats) (through-alone (kept (tables nodes seats)) nodes seats 0)
+taken-out-alone sheet nodes seats = rw (kept-alone sheet nodes seats) (through-alone sheet (kept (tables sheet nodes seats)) nodes seats 0)
 
 -- ---- and changes none
 through-seats : (ks : List ℕ) (t : Tables) (p : ℕ) → linkThrough t p ks .seats ≡ t .seats
@@ -48,3 +48,12 @@ through-seats (a ∷ ks) t p = through-seats ks (setLink t p a) a
 pub taken-out-seats : (t : Tables) → takenOut t .seats ≡ t .seats
 unfolding takenOut
 taken-out-seats t = through-seats (kept t) t 0
+
+through-profile : (ks : List ℕ) (t : Tables) (p : ℕ) → linkThrough t p ks .sheet ≡ t .sheet
+unfolding linkThrough
+through-profile [] t p = refl
+through-profile (a ∷ ks) t p = through-profile ks (setLink t p a) a
+
+pub taken-out-profile : (t : Tables) → takenOut t .sheet ≡ t .sheet
+unfolding takenOut
+taken-out-profile t = through-profile (kept t) t 0

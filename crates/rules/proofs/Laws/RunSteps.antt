@@ -2,7 +2,7 @@
 -- 01 says. Requests are the single calls that they come to, and what every call keeps every reached table has.
 use Prim.Native.Nat.{ℕ, zero, suc, _≤_}
 use mathlib.Core.Path.{_≡_, refl, sym, ap, _∙_}
-use mathlib.Core.Bool.{true}
+use mathlib.Core.Bool.{Bool, true}
 use mathlib.Core.List.{List, [], _∷_, _++_}
 use native.Mathlib.Omega.{arith}
 use native.Mathlib.Numerals.{add-one}
@@ -88,8 +88,8 @@ module _ (P : Tables → Type 0) (kept : (t : Tables) (c : Call) → P t → P (
   requests-keep (single c ∷ rest) t p = requests-keep rest (call t c .after) (kept t c p)
   requests-keep (running schedule budget ∷ rest) t p = requests-keep rest (run t schedule budget .after) (run-keeps t schedule budget p)
 
-  pub reached-has : {N S : ℕ} {t : Tables} → ((frames : ℕ) → 1 ≤ frames → P (fresh N S frames)) → Reached N S t → P t
-  reached-has p (cleared a b c d {frames} e) = p frames e
+  pub reached-has : {N S : ℕ} {t : Tables} → ((sheet : Bool) (frames : ℕ) → 1 ≤ frames → P (fresh sheet N S frames)) → Reached N S t → P t
+  reached-has p (cleared a b c d sheet {frames} e) = p sheet frames e
   reached-has p (asked {t} r (single c)) = kept t c (reached-has p r)
   reached-has p (asked {t} r (running schedule budget)) = run-keeps t schedule budget (reached-has p r)
 

@@ -114,7 +114,7 @@ pub data Resting (P : ℕ) : Type 0 where
 
 pub record SeatSound (t : Tables) (s : ℕ) : Type 0 where
   pub phase-small : phase t s ≤ 7
-  pub idle : phase t s ≡ 0 → (f : ℕ) → f < seatWidth → seatWord (t .seats) s f ≡ 0
+  pub idle : phase t s ≡ 0 → (f : ℕ) → f < seatWidth (t .sheet) → seatWord (t .sheet) (t .seats) s f ≡ 0
   pub owning : phase t s ≢ 0 → own t s ≢ 0
   pub resting : Resting (phase t s) → (prev t s ≡ 0) × (cur t s ≡ 0)
   pub waiting : (phase t s ≡ 2) ⊎ (phase t s ≡ 4) → cur t s ≢ 0
@@ -149,10 +149,10 @@ rests-is p b f =
 
 -- idle with zeros, or busy with an own node
 module _ (t : Tables) (s : ℕ) where
-  zeros-of : idleOrOwning t s ≡ true → phase t s ≡ 0 → (f : ℕ) → f < seatWidth → seatWord (t .seats) s f ≡ 0
+  zeros-of : idleOrOwning t s ≡ true → phase t s ≡ 0 → (f : ℕ) → f < seatWidth (t .sheet) → seatWord (t .sheet) (t .seats) s f ≡ 0
   unfolding idleOrOwning zeroSeat
   zeros-of e z f h =
-      eqb-true (seatWord (t .seats) s f) 0 (all-at seatWidth f (λ f. seatWord (t .seats) s f is 0) (rw (eq-eqb (phase t s) 0 z) at e) h)
+      eqb-true (seatWord (t .sheet) (t .seats) s f) 0 (all-at (seatWidth (t .sheet)) f (λ f. seatWord (t .sheet) (t .seats) s f is 0) (rw (eq-eqb (phase t s) 0 z) at e) h)
 
   owning-of : idleOrOwning t s ≡ true → phase t s ≢ 0 → own t s ≢ 0
   unfolding idleOrOwning
@@ -162,7 +162,7 @@ module _ (t : Tables) (s : ℕ) where
   unfolding idleOrOwning zeroSeat
   idle-or-owning w =
       branch (λ b. b ≡ true) (phase t s is 0)
-      (λ p. all-of seatWidth (λ f. seatWord (t .seats) s f is 0) (λ f h. eq-eqb (seatWord (t .seats) s f) 0 (w .idle (eqb-true (phase t s) 0 p) f h)))
+      (λ p. all-of (seatWidth (t .sheet)) (λ f. seatWord (t .sheet) (t .seats) s f is 0) (λ f h. eq-eqb (seatWord (t .sheet) (t .seats) s f) 0 (w .idle (eqb-true (phase t s) 0 p) f h)))
       (λ p. of-not (own t s is 0) (ne-eqb (own t s) 0 (w .owning (eqb-false (phase t s) 0 p))))
 
   pub seat-sound : seatSound t s ≡ true → SeatSound t s
@@ -196,30 +196,30 @@ module _ (t : Tables) (s : ℕ) where
 
 -- ---- the lengths
 pub record Fit (t : Tables) : Type 0 where
-  pub nodes-length : length (t .nodes) ≡ beforeNodes + nodeWidth * nodeCount t
+  pub nodes-length : length (t .nodes) ≡ beforeNodes (t .sheet) + nodeWidth * nodeCount t
   pub some-nodes : 1 ≤ nodeCount t
   pub few-nodes : nodeCount t ≤ 256
-  pub seats-length : length (t .seats) ≡ seatWidth * seatCount t
+  pub seats-length : length (t .seats) ≡ seatWidth (t .sheet) * seatCount t
   pub some-seats : 1 ≤ seatCount t
   pub few-seats : seatCount t ≤ 64
 
-pub nodes-fit : (t : Tables) → nodesFit t ≡ true → (length (t .nodes) ≡ beforeNodes + nodeWidth * nodeCount t) × (1 ≤ nodeCount t) × (nodeCount t ≤ 256)
+pub nodes-fit : (t : Tables) → nodesFit t ≡ true → (length (t .nodes) ≡ beforeNodes (t .sheet) + nodeWidth * nodeCount t) × (1 ≤ nodeCount t) × (nodeCount t ≤ 256)
 unfolding nodesFit
 nodes-fit t e =
-    let f = all3 (length (t .nodes) is beforeNodes + nodeWidth * nodeCount t) (1 ≤? nodeCount t) (nodeCount t ≤? 256) e in
-    (eqb-true (length (t .nodes)) (beforeNodes + nodeWidth * nodeCount t) (f .0), leb-true 1 (nodeCount t) (f .1), leb-true (nodeCount t) 256 (f .2))
+    let f = all3 (length (t .nodes) is beforeNodes (t .sheet) + nodeWidth * nodeCount t) (1 ≤? nodeCount t) (nodeCount t ≤? 256) e in
+    (eqb-true (length (t .nodes)) (beforeNodes (t .sheet) + nodeWidth * nodeCount t) (f .0), leb-true 1 (nodeCount t) (f .1), leb-true (nodeCount t) 256 (f .2))
 
 pub lengths-fit : (t : Tables) → lengthsFit t ≡ true → Fit t
 unfolding lengthsFit seatsFit
 lengths-fit t e =
     let y = both (nodesFit t) (seatsFit t) e in
     let f = nodes-fit t (y .0) in
-    let g = all3 (length (t .seats) is seatWidth * seatCount t) (1 ≤? seatCount t) (seatCount t ≤? 64) (y .1) in
+    let g = all3 (length (t .seats) is seatWidth (t .sheet) * seatCount t) (1 ≤? seatCount t) (seatCount t ≤? 64) (y .1) in
     record {
       nodes-length = f .0;
       some-nodes = f .1;
       few-nodes = f .2;
-      seats-length = eqb-true (length (t .seats)) (seatWidth * seatCount t) (g .0);
+      seats-length = eqb-true (length (t .seats)) (seatWidth (t .sheet) * seatCount t) (g .0);
       some-seats = leb-true 1 (seatCount t) (g .1);
       few-seats = leb-true (seatCount t) 64 (g .2);
     }
@@ -240,7 +240,7 @@ counts-fit-is t c =
     (eq-eqb (readers t) (holdersOfKind t 1) (c 1 (inl refl))) (eq-eqb (writers t) (holdersOfKind t 2) (c 2 (inr refl)))
 
 -- ---- the title: a node past the last one, and node 0, read as ending at 0
-title-fits : (t : Tables) → length (t .nodes) ≡ beforeNodes + nodeWidth * nodeCount t → titleFits t ≡ true → AllWithin t
+title-fits : (t : Tables) → length (t .nodes) ≡ beforeNodes (t .sheet) + nodeWidth * nodeCount t → titleFits t ≡ true → AllWithin t
 unfolding titleFits endsBy
 title-fits t long e = record { some = leb-true 1 (title t) (w .0); within = within }
   where
@@ -248,7 +248,7 @@ title-fits t long e = record { some = leb-true 1 (title t) (w .0); within = with
     w = both (1 ≤? title t) (endsBy t (title t)) e
 
     within : (a : ℕ) → end t a ≤ title t
-    within zero = rw (node-zero (t .nodes) endAt) (omega arith)
+    within zero = rw (node-zero (t .sheet) (t .nodes) endAt) (omega arith)
     within (suc m) =
         ⊎-elim
         (λ p. rw (add-one m) at (leb-true (end t (m + 1)) (title t) (all-at (nodeCount t) m (λ m. end t (m + 1) ≤? title t) (w .1) (ltb-true m (nodeCount t) p))))
@@ -263,10 +263,10 @@ title-fits-is t w =
 
 -- ---- the whole
 pub record Sound (t : Tables) : Type 0 where
-  pub nodes-length : length (t .nodes) ≡ beforeNodes + nodeWidth * nodeCount t
+  pub nodes-length : length (t .nodes) ≡ beforeNodes (t .sheet) + nodeWidth * nodeCount t
   pub some-nodes : 1 ≤ nodeCount t
   pub few-nodes : nodeCount t ≤ 256
-  pub seats-length : length (t .seats) ≡ seatWidth * seatCount t
+  pub seats-length : length (t .seats) ≡ seatWidth (t .sheet) * seatCount t
   pub some-seats : 1 ≤ seatCount t
   pub few-seats : seatCount t ≤ 64
   pub all-within : AllWithin t
@@ -277,7 +277,7 @@ pub record Sound (t : Tables) : Type 0 where
   pub ends : endsWithin (nodeCount t) t (head t) ≡ true
 
 -- a seat past the last one reads as idle
-past-seat : (t : Tables) (s : ℕ) → length (t .seats) ≡ seatWidth * seatCount t → seatCount t ≤ s → SeatSound t s
+past-seat : (t : Tables) (s : ℕ) → length (t .seats) ≡ seatWidth (t .sheet) * seatCount t → seatCount t ≤ s → SeatSound t s
 past-seat t s e h =
     let p : phase t s ≡ 0 = seat-past t s phaseAt e h in
     let o : own t s ≡ 0 = seat-past t s ownAt e h in
@@ -312,7 +312,7 @@ module _ (t : Tables) where
   unfolding nodeSound
   node-names a e = named t (next t a) (and-right (zeroNode t a || claimNode t a) (names t (next t a)) e)
 
-  links-name : length (t .nodes) ≡ beforeNodes + nodeWidth * nodeCount t → nodesSound t ≡ true → Names t (head t) → (a : ℕ) → Names t (link t a)
+  links-name : length (t .nodes) ≡ beforeNodes (t .sheet) + nodeWidth * nodeCount t → nodesSound t ≡ true → Names t (head t) → (a : ℕ) → Names t (link t a)
   links-name e ns h zero = h
   links-name e ns h (suc m) =
       ⊎-elim
@@ -320,7 +320,7 @@ module _ (t : Tables) where
       (λ p. inl (link-past t (suc m) e (leb-false (suc m) (nodeCount t) p)))
       (either (suc m ≤? nodeCount t))
 
-  seats-all : length (t .seats) ≡ seatWidth * seatCount t → seatsSound t ≡ true → (s : ℕ) → SeatSound t s
+  seats-all : length (t .seats) ≡ seatWidth (t .sheet) * seatCount t → seatsSound t ≡ true → (s : ℕ) → SeatSound t s
   unfolding seatsSound
   seats-all e ss s =
       ⊎-elim
@@ -368,13 +368,13 @@ module _ (t : Tables) where
   unfolding lengthsFit nodesFit seatsFit
   lengths-fit-is w =
       and-both (nodesFit t) (seatsFit t)
-      (and-both (length (t .nodes) is beforeNodes + nodeWidth * nodeCount t && 1 ≤? nodeCount t) (nodeCount t ≤? 256)
-      (and-both (length (t .nodes) is beforeNodes + nodeWidth * nodeCount t) (1 ≤? nodeCount t)
-      (eq-eqb (length (t .nodes)) (beforeNodes + nodeWidth * nodeCount t) (w .nodes-length)) (le-leb 1 (nodeCount t) (w .some-nodes)))
+      (and-both (length (t .nodes) is beforeNodes (t .sheet) + nodeWidth * nodeCount t && 1 ≤? nodeCount t) (nodeCount t ≤? 256)
+      (and-both (length (t .nodes) is beforeNodes (t .sheet) + nodeWidth * nodeCount t) (1 ≤? nodeCount t)
+      (eq-eqb (length (t .nodes)) (beforeNodes (t .sheet) + nodeWidth * nodeCount t) (w .nodes-length)) (le-leb 1 (nodeCount t) (w .some-nodes)))
       (le-leb (nodeCount t) 256 (w .few-nodes)))
-      (and-both (length (t .seats) is seatWidth * seatCount t && 1 ≤? seatCount t) (seatCount t ≤? 64)
-      (and-both (length (t .seats) is seatWidth * seatCount t) (1 ≤? seatCount t)
-      (eq-eqb (length (t .seats)) (seatWidth * seatCount t) (w .seats-length)) (le-leb 1 (seatCount t) (w .some-seats)))
+      (and-both (length (t .seats) is seatWidth (t .sheet) * seatCount t && 1 ≤? seatCount t) (seatCount t ≤? 64)
+      (and-both (length (t .seats) is seatWidth (t .sheet) * seatCount t) (1 ≤? seatCount t)
+      (eq-eqb (length (t .seats)) (seatWidth (t .sheet) * seatCount t) (w .seats-length)) (le-leb 1 (seatCount t) (w .some-seats)))
       (le-leb (seatCount t) 64 (w .few-seats)))
 
   pub sound-is : Sound t → sound t ≡ true
@@ -382,5 +382,5 @@ module _ (t : Tables) where
   sound-is w = rw (lengths-fit-is w, title-fits-is t (w .all-within), nodes-sound-is w, name-of t (head t) (w .link-names 0), seats-sound-is w, counts-fit-is t (w .counts), w .ends)
 
 -- S of sound tables, as the code counts it
-pub seats-few : (n t : List ℕ) (c : ℕ) → c ≡ seatCountOf t → sound (tables n t) ≡ true → c ≤ 64
-seats-few n t c e s = rw e (is-sound (tables n t) s .few-seats)
+pub seats-few : (sheet : Bool) (n t : List ℕ) (c : ℕ) → c ≡ seatCountOf sheet t → sound (tables sheet n t) ≡ true → c ≤ 64
+seats-few sheet n t c e s = rw e (is-sound (tables sheet n t) s .few-seats)

@@ -19,6 +19,7 @@ use Rattle.rules.proofs.Laws.Words.{put-link-length, same-node-count, l
 use Rattle.rules.proofs.Laws.Shape.{Sound}
 use Rattle.rules.proofs.Laws.Kept.{kept-end, kept-in, kept-out, kept-ways, At, at-end, at-skip, at-on, at-head}
 use Rattle.rules.proofs.Laws.Stores.{along-ended, along-end, along-same, along-other, all-else, at-most-one, come-to, once-where-other}
+use Rattle.rules.proofs.Laws.NodesAlone.{taken-out-profile}
 
 -- ---- one of them apart
 record Without (a : ℕ) (ys : List Store) : Type 0 where
@@ -159,14 +160,14 @@ module _ (t : Tables) (e : ListEnds t) where
 all-length : (xs : List Store) (t : Tables) → length (storeAll t xs .nodes) ≡ length (t .nodes)
 unfolding storeAll
 all-length [] t = refl
-all-length (x ∷ xs) t = all-length xs (setLink t (x .whose) (x .value)) ∙ put-link-length (t .nodes) (x .whose) (x .value)
+all-length (x ∷ xs) t = all-length xs (setLink t (x .whose) (x .value)) ∙ put-link-length (t .sheet) (t .nodes) (x .whose) (x .value)
 
 -- of the links of the head and of the nodes; what stands past the last node reads 0 before and afterwards
 pub as-many-as-differ : (t : Tables) → Sound t → length (stores t) ≡ count (suc (nodeCount t)) (differs t)
 as-many-as-differ t w =
     let u = takenOut t in
     let long : length (u .nodes) ≡ length (t .nodes) = ap (λ v. length (v .nodes)) (sym (come-to t (w .ends))) ∙ all-length (stores t) t in
-    let n = same-node-count t u long in
+    let n = same-node-count t u (taken-out-profile t) long in
     as-many (stores t) (suc (nodeCount t)) (differs t) (once-if-it-differs t (w .ends))
-    (λ a l. let new = link-past u a (rw n (long ∙ w .nodes-length)) (rw n l) in
+    (λ a l. let new = link-past u a (rw (n, taken-out-profile t) (long ∙ w .nodes-length)) (rw n l) in
     ap not (eq-eqb (link u a) (link t a) (new ∙ sym (link-past t a (w .nodes-length) l))))

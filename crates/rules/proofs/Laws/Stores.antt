@@ -66,8 +66,8 @@ module _ (a : ℕ) where
 
   pub along-off : (t : Tables) (q v : ℕ) (ks : List ℕ) → a ≢ q → Off a ks → storesAlong (setLink t a v) q ks ≡ storesAlong t q ks
   unfolding storesAlong
-  along-off t q v [] d off-none = rw (link-put-other (t .nodes) a q v d)
-  along-off t q v (c ∷ ks) d (off-more k o) = rw (link-put-other (t .nodes) a q v d, along-off t c v ks k o)
+  along-off t q v [] d off-none = rw (link-put-other (t .sheet) (t .nodes) a q v d)
+  along-off t q v (c ∷ ks) d (off-more k o) = rw (link-put-other (t .sheet) (t .nodes) a q v d, along-off t c v ks k o)
 
 -- ---- along the walk: what holds at the end, where prev's link is right already, and where it is stored, holds of the list and its stores
 record Other (t : Tables) (q c : ℕ) (ks : List ℕ) : Type 0 where
@@ -133,7 +133,7 @@ all-else (x ∷ xs) t a e =
     if-same (x .whose) a
     (λ q. absurd (let k = eq-eqb (x .whose) a q in let one = rw k at e in omega arith))
     (λ d. let e′ : timesTo a xs + 0 ≡ 0 = rw (ne-eqb (x .whose) a d) at e in
-    all-else xs (setLink t (x .whose) (x .value)) a (omega arith) ∙ link-put-other (t .nodes) (x .whose) a (x .value) d)
+    all-else xs (setLink t (x .whose) (x .value)) a (omega arith) ∙ link-put-other (t .sheet) (t .nodes) (x .whose) a (x .value) d)
 
 abbrev OnceIfOther : ℕ → Tables → ℕ → List ℕ → Type 0
 OnceIfOther a t q ks = timesTo a (storesAlong t q ks) ≡ (if link (storeAll t (storesAlong t q ks)) a is link t a then 0 else 1)
@@ -146,9 +146,9 @@ one-more a t q v xs d s n r =
     if-same q a
     (λ e. let one : timesTo q (store q v ∷ xs) ≡ 1 = let k = times-one q v xs in omega arith in
     let new : link (storeAll t (store q v ∷ xs)) q ≡ v =
-    ap (λ u. link u q) (all-more t (store q v) xs) ∙ all-else xs (setLink t q v) q n ∙ link-put-there (t .nodes) q v s in
+    ap (λ u. link u q) (all-more t (store q v) xs) ∙ all-else xs (setLink t q v) q n ∙ link-put-there (t .sheet) (t .nodes) q v s in
     rw (← e, new, ne-eqb v (link t q) (λ y. d (sym y))) one)
-    (λ k. rw (all-more t (store q v) xs, times-other a v xs q k) (rw (link-put-other (t .nodes) q a v k) at r))
+    (λ k. rw (all-more t (store q v) xs, times-other a v xs q k) (rw (link-put-other (t .sheet) (t .nodes) q a v k) at r))
 
 once-if-other : (a : ℕ) (h : ℕ) (t : Tables) (q c : ℕ) → At t h q c → OnceIfOther a t q (keptFrom h t c)
 once-if-other a =
@@ -184,7 +184,7 @@ no-first e = let z : _≡_ {A = ℕ} 0 1 = cc in omega arith
 -- it is prev's, at the end of the list or before a node that stays
 made-last : {t : Tables} (h q c left : ℕ) → link t q ≢ 0 → Made t h q c left [] (store q 0) []
 made-last {t} h q c left d =
-    let new = link-put-there (t .nodes) q 0 d in
+    let new = link-put-there (t .sheet) (t .nodes) q 0 d in
     record {
       to-prev-or-ahead = inl refl;
       stands = d;
@@ -198,7 +198,7 @@ made-here : {t : Tables} {h q c : ℕ} (w : At t (suc h) q c) (z : c ≢ 0) → 
 made-here {t} {h} {q} {c} w z m d =
     let u = setLink t q c in
     let ks = keptFrom h t (next t c) in
-    let new = link-put-there (t .nodes) q c (at-there w d) in
+    let new = link-put-there (t .sheet) (t .nodes) q c (at-there w d) in
     record {
       to-prev-or-ahead = inl refl;
       stands = at-there w d;
@@ -217,7 +217,7 @@ made-later {t} {h} {q} {c} {x} w z m e r =
     let u = made t x in
     let ks = keptFrom h t (next t c) in
     let ahead : Reach (link t) (x .whose) c = elim (r .to-prev-or-ahead) [ inl y ↦ rw y (here (cur-pos w z)) | inr y ↦ there (cur-pos w z) y ] in
-    let new : link u q ≡ c = link-put-other (t .nodes) (x .whose) q (x .value) (λ y. w .behind (rw y at ahead)) ∙ e in
+    let new : link u q ≡ c = link-put-other (t .sheet) (t .nodes) (x .whose) q (x .value) (λ y. w .behind (rw y at ahead)) ∙ e in
     record {
       to-prev-or-ahead = inr ahead;
       stands = r .stands;
@@ -281,7 +281,7 @@ module _ (t : Tables) (e : ListEnds t) where
 
   module _ {x : Store} {rest : List Store} (p : stores t ≡ x ∷ rest) where
     same-count : nodeCount (made t x) ≡ nodeCount t
-    same-count = same-node-count t (made t x) (put-link-length (t .nodes) (x .whose) (x .value))
+    same-count = same-node-count t (made t x) refl (put-link-length (t .sheet) (t .nodes) (x .whose) (x .value))
 
     first : Made t (nodeCount t) 0 (head t) (here-at .left) (kept t) x rest
     unfolding stores kept
@@ -304,7 +304,7 @@ module _ (t : Tables) (e : ListEnds t) where
     pub first-stays : link (takenOut t) (x .whose) ≡ x .value
     first-stays =
         ap (λ u. link u (x .whose)) (sym come-to ∙ ap (storeAll t) p ∙ all-more t x rest)
-        ∙ all-else rest (made t x) (x .whose) only-one ∙ link-put-there (t .nodes) (x .whose) (x .value) (first .stands)
+        ∙ all-else rest (made t x) (x .whose) only-one ∙ link-put-there (t .sheet) (t .nodes) (x .whose) (x .value) (first .stands)
 
 -- the tables after the first go on to the same end
 pub same-end : (t : Tables) → ListEnds t → {x : Store} {rest : List Store} → stores t ≡ x ∷ rest → takenOut (made t x) ≡ takenOut t

@@ -161,7 +161,7 @@ clear-refused t frames k (title-of-none e z) = rw (e, eq-eqb frames 0 z)
 pub record ClearAccepted (t : Tables) (frames : ℕ) (u : Tables) : Type 0 where
   pub lengths : lengthsFit t ≡ true
   pub some-frames : frames ≢ 0
-  pub makes-fresh : u ≡ fresh (nodeCount t) (seatCount t) frames
+  pub makes-fresh : u ≡ fresh (t .sheet) (nodeCount t) (seatCount t) frames
 
 abbrev IfAccepted : Tables → ℕ → Done ℕ → Type 0
 IfAccepted t frames d = d .answer ≡ 0 → ClearAccepted t frames (d .after)
@@ -170,7 +170,7 @@ pub clear-accepted : (t : Tables) (frames : ℕ) → IfAccepted t frames (clear 
 unfolding clear
 clear-accepted t frames =
     branch (IfAccepted t frames) (not (lengthsFit t)) (λ e q. absurd (omega arith)) (λ e.
-    branch (IfAccepted t frames) (frames is 0) {y = done 0 (fresh (nodeCount t) (seatCount t) frames)} (λ f q. absurd (omega arith)) (λ f q.
+    branch (IfAccepted t frames) (frames is 0) {y = done 0 (fresh (t .sheet) (nodeCount t) (seatCount t) frames)} (λ f q. absurd (omega arith)) (λ f q.
     record { lengths = not-false (lengthsFit t) e; some-frames = eqb-false frames 0 f; makes-fresh = refl }))
 
 pub count-by-table : (t : Tables) (k : ℕ) → freeCount t ≡ Counted.refused k → DamageRefuses t k

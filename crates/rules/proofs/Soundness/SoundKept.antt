@@ -63,8 +63,8 @@ module _ {N S : ℕ} (t : Tables) (p c : ℕ) (w : OnWay N S t p) (e : link t p 
   passed-over =
       let v = next t c in
       let u = setLink t p v in
-      let new : link u p ≡ v = link-put-same (t .nodes) p v (node-room (w .shaped .aside) p (w .in-table)) in
-      let old : (a : ℕ) → a ≢ p → link u a ≡ link t a = λ a x. link-put-other (t .nodes) p a v (λ q. x (sym q)) in
+      let new : link u p ≡ v = link-put-same (t .sheet) (t .nodes) p v (node-room (w .shaped .aside) p (w .in-table)) in
+      let old : (a : ℕ) → a ≢ p → link u a ≡ link t a = λ a x. link-put-other (t .sheet) (t .nodes) p a v (λ q. x (sym q)) in
       let left = unlink-keeps-ends (link t) (link u) p c pos e new old (rest .1) in
       record {
         shaped = link-passes-over (w .shaped) p c (w .in-table) d e;
@@ -192,7 +192,7 @@ module _ {N S : ℕ} {t : Tables} (g : Shaped N S t) (s : ℕ) (s-in : s < S) (b
       let v = next t (cur t s) in
       let l = named-in (shape g s s-in busy .prev-named) in
       let h = link-passes-over g (prev t s) (cur t s) l d (j .to-cur) in
-      cur-shaped h s s-in busy p v (rw (link-put-same (t .nodes) (prev t s) v (node-room (g .aside) (prev t s) l)) at (h .view .nodes .links (prev t s)))
+      cur-shaped h s s-in busy p v (rw (link-put-same (t .sheet) (t .nodes) (prev t s) v (node-room (g .aside) (prev t s) l)) at (h .view .nodes .links (prev t s)))
   unlinking-shaped p d (goes-past e) = cur-shaped g s s-in busy p (next t (cur t s)) (g .view .nodes .links (cur t s))
 
   -- each link is as it was, or a claim's to a claim
@@ -203,14 +203,14 @@ module _ {N S : ℕ} {t : Tables} (g : Shaped N S t) (s : ℕ) (s-in : s < S) (b
       let o = own t s in
       let p = prev t s in
       let c = cur t s in
-      let own-linked = putLink (t .nodes) o c in
-      let long : beforeNodes + nodeWidth * p ≤ length own-linked = rw (put-link-length (t .nodes) o c) (node-room (g .aside) p (named-in (h .prev-named))) in
+      let own-linked = putLink (t .sheet) (t .nodes) o c in
+      let long : beforeNodes (t .sheet) + nodeWidth * p ≤ length own-linked = rw (put-link-length (t .sheet) (t .nodes) o c) (node-room (g .aside) p (named-in (h .prev-named))) in
       if-same a p
-      (λ e. inr (rw e (h .prev-named), rw (e, link-put-same own-linked p o long) (h .own-named)))
-      (λ d. let kept = link-put-other own-linked p a o (λ e. d (sym e)) in
+      (λ e. inr (rw e (h .prev-named), rw (e, link-put-same (t .sheet) own-linked p o long) (h .own-named)))
+      (λ d. let kept = link-put-other (t .sheet) own-linked p a o (λ e. d (sym e)) in
       if-same a o
-      (λ e. inr (rw e (h .own-named), rw (kept, e, link-put-same (t .nodes) o c (node-room (g .aside) o (named-in (h .own-named)))) (h .cur-named)))
-      (λ f. inl (kept ∙ link-put-other (t .nodes) o a c (λ e. f (sym e)))))
+      (λ e. inr (rw e (h .own-named), rw (kept, e, link-put-same (t .sheet) (t .nodes) o c (node-room (g .aside) o (named-in (h .own-named)))) (h .cur-named)))
+      (λ f. inl (kept ∙ link-put-other (t .sheet) (t .nodes) o a c (λ e. f (sym e)))))
 
   linked-shaped : Ending (link (linkIn t s)) (head (linkIn t s)) → Shaped N S (linkIn t s)
   unfolding linkIn

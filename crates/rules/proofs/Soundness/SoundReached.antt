@@ -30,7 +30,7 @@ pub record Bounds (N S : ℕ) : Type 0 where
   pub few-seats : S ≤ 64
 
 pub bounds : {N S : ℕ} {t : Tables} → Reached N S t → Bounds N S
-bounds (cleared a b c d e) = record { some-nodes = a; few-nodes = b; some-seats = c; few-seats = d }
+bounds (cleared a b c d sheet e) = record { some-nodes = a; few-nodes = b; some-seats = c; few-seats = d }
 bounds (asked r request) = bounds r
 
 module _ {N S : ℕ} {t : Tables} (g : Shaped N S t) where

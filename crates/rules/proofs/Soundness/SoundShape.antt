@@ -1,7 +1,7 @@
 -- Sound shape in the theory's words: what the invariant says of the nodes and of each seat alone, and that the list ends. The changes
 -- that keep it: a seat moves; a node is passed over, marked, or written anew. Tables that pass the test `sound` have it.
 use Prim.Native.Nat.{ℕ, _≤_, _<_}
-use mathlib.Core.Path.{_≡_, sym, ap, _∙_, subst}
+use mathlib.Core.Path.{_≡_, sym, ap, _∙_, subst, refl}
 use mathlib.Core.Bool.{true}
 use mathlib.Core.List.{List}
 use mathlib.Core.Logic.{_≢_, _⊎_, inl, inr}
@@ -86,11 +86,11 @@ pub record Shaped (N S : ℕ) (t : Tables) : Type 0 where
   pub view : SoundView N (nodesOf t) (seatsOf t)
 
 module _ {N S : ℕ} {t : Tables} (g : Shaped N S t) where
-  pub seat-moves : {s : ℕ} {words : ℕ → ℕ} {seats : List ℕ} → Seated (t .seats) seats s words → SeatAside words
-      → SeatShape N (claimOf t) (words phaseAt) (words ownAt) (words prevAt) (words curAt) → Shaped N S (tables (t .nodes) seats)
+  pub seat-moves : {s : ℕ} {words : ℕ → ℕ} {seats : List ℕ} → Seated (t .sheet) (t .seats) seats s words → SeatAside (t .sheet) words
+      → SeatShape N (claimOf t) (words phaseAt) (words ownAt) (words prevAt) (words curAt) → Shaped N S (tables (t .sheet) (t .nodes) seats)
   seat-moves {seats = seats} w k h = record {
     aside = aside.seat-put (g .aside) w k;
-    view = reseat-keeps-shape (g .view) (reseated t (tables (t .nodes) seats) w) h;
+    view = reseat-keeps-shape (g .view) (reseated t (tables (t .sheet) (t .nodes) seats) refl w) h;
   }
 
   pub link-passes-over : (p out : ℕ) → p ≤ N → out ≢ 0 → link t p ≡ out → Shaped N S (setLink t p (next t out))
@@ -99,9 +99,9 @@ module _ {N S : ℕ} {t : Tables} (g : Shaped N S t) where
       let v = next t out in
       record {
         aside = aside.link-put (g .aside) p v;
-        view = subst (λ n. SoundView N n (seatsOf t)) (only-links t (setLink t p v) (λ a f h d. node-put-link l p a f v h d))
-            (pass-over-keeps-shape (g .view) (link (setLink t p v)) p out p-in (omega arith) joins (link-put-same l p v (node-room (g .aside) p p-in))
-            (λ a d. link-put-other l p a v (λ e. d (sym e))));
+        view = subst (λ n. SoundView N n (seatsOf t)) (only-links t (setLink t p v) (λ a f h d. node-put-link (t .sheet) l p a f v h d))
+            (pass-over-keeps-shape (g .view) (link (setLink t p v)) p out p-in (omega arith) joins (link-put-same (t .sheet) l p v (node-room (g .aside) p p-in))
+            (λ a d. link-put-other (t .sheet) l p a v (λ e. d (sym e))));
       }
 
   pub claim-marked : (o : ℕ) → o ≢ 0 → o ≤ N → Proper (claimOf t o) → Shaped N S (setMark t o 1)
@@ -110,10 +110,10 @@ module _ {N S : ℕ} {t : Tables} (g : Shaped N S t) where
       record {
         aside = aside.word-put (g .aside) markAt o 1;
         view = subst (λ n. SoundView N n (seatsOf t))
-            (only-marks t (setMark t o 1) (λ a f b d. node-put-field l o a markAt f 1 (omega arith) b (λ e. d (sym e)))
-            (λ a. link-put-field l o a markAt 1 (omega arith) (omega arith)))
-            (mark-keeps-shape (g .view) (mark (setMark t o 1)) o (omega arith) c (node-put-same l o markAt 1 (omega arith) d (node-room (g .aside) o o-in))
-            (λ a d. node-put-node l o a markAt markAt 1 (omega arith) (omega arith) (λ e. d (sym e))));
+            (only-marks t (setMark t o 1) (λ a f b d. node-put-field (t .sheet) l o a markAt f 1 (omega arith) b (λ e. d (sym e)))
+            (λ a. link-put-field (t .sheet) l o a markAt 1 (omega arith) (omega arith)))
+            (mark-keeps-shape (g .view) (mark (setMark t o 1)) o (omega arith) c (node-put-same (t .sheet) l o markAt 1 (omega arith) d (node-room (g .aside) o o-in))
+            (λ a d. node-put-node (t .sheet) l o a markAt markAt 1 (omega arith) (omega arith) (λ e. d (sym e))));
       }
 
   pub claim-put : (a : ℕ) (c : Claim) → a ≢ 0 → a ≤ N → Proper c → (OnList (link t) a → ⊥) → Shaped N S (writeClaim t a c)
@@ -168,7 +168,7 @@ module _ {t : Tables} (w : Sound t) where
   small-mark : (a : ℕ) → mark t a ≤ 1
   small-mark a =
       if-same a 0
-      (λ e. rw (e, node-zero (t .nodes) markAt) (omega arith))
+      (λ e. rw (e, node-zero (t .sheet) (t .nodes) markAt) (omega arith))
       (λ z. elim (blank-or-claim a z) [ inl b ↦ (let k = b .mark-0 in omega arith) | inr c ↦ c .mark-small ])
 
   pub sound-shaped : Shaped (nodeCount t) (seatCount t) t
@@ -176,7 +176,7 @@ module _ {t : Tables} (w : Sound t) where
     aside = record { nodes-long = w .nodes-length; seats-long = w .seats-length; seat = λ s. record { idle = w .seat s .idle } };
     view = record {
       nodes = record {
-        head-unmarked = node-zero (t .nodes) markAt;
+        head-unmarked = node-zero (t .sheet) (t .nodes) markAt;
         blank-or-proper = λ a z. elim (blank-or-claim a (omega arith)) [ inl b ↦ inl b | inr c ↦ inr (proper-claim c) ];
         marks = small-mark;
         links = λ a. named (w .link-names a);

@@ -66,7 +66,7 @@ pub record Unlinked (t u : Tables) (s : ℕ) : Type 0 where
   pub same-own : own u s ≡ own t s
   pub same-prev : prev u s ≡ prev t s
   pub on-to-next : cur u s ≡ next t (cur t s)
-  pub same-word : (a f : ℕ) → f < nodeWidth → f ≢ nextAt → nodeWord (u .nodes) a f ≡ nodeWord (t .nodes) a f
+  pub same-word : (a f : ℕ) → f < nodeWidth → f ≢ nextAt → nodeWord (u .sheet) (u .nodes) a f ≡ nodeWord (t .sheet) (t .nodes) a f
   pub ends : {a k : ℕ} → Ends (link t) a k → (j : ℕ) × Ends (link u) a j × (j ≤ k)
   pub keeps : {a b : ℕ} → b ≢ cur t s → Reach (link t) b a → Reach (link u) b a
   pub adds-none : {a b : ℕ} → Reach (link u) b a → Reach (link t) b a
@@ -83,14 +83,14 @@ unlinked {t = t} s s-in g c (takes-out j) =
     let v = next t (cur t s) in
     let pos : 0 < cur t s = omega arith in
     let w = cur-stored t s (seat-room (good g .aside) s s-in) v in
-    let new : link (setLink t p v) p ≡ v = link-put-same (t .nodes) p v (node-room (good g .aside) p (prev-in (good g) s)) in
-    let old : (a : ℕ) → a ≢ p → link (setLink t p v) a ≡ link t a = λ a d. link-put-other (t .nodes) p a v (λ e. d (sym e)) in
+    let new : link (setLink t p v) p ≡ v = link-put-same (t .sheet) (t .nodes) p v (node-room (good g .aside) p (prev-in (good g) s)) in
+    let old : (a : ℕ) → a ≢ p → link (setLink t p v) a ≡ link t a = λ a d. link-put-other (t .sheet) (t .nodes) p a v (λ e. d (sym e)) in
     record {
       same-phase = w .at-s phaseAt (omega arith);
       same-own = w .at-s ownAt (omega arith);
       same-prev = w .at-s prevAt (omega arith);
       on-to-next = w .at-s curAt (omega arith);
-      same-word = λ a f h d. node-put-link (t .nodes) p a f v h d;
+      same-word = λ a f h d. node-put-link (t .sheet) (t .nodes) p a f v h d;
       ends = λ e. unlink-keeps-ends (link t) (link (setLink t p v)) p (cur t s) pos (j .to-cur) new old e;
       keeps = λ d r. unlink-keeps-reach (link t) (link (setLink t p v)) p (cur t s) pos (j .to-cur) new old d r;
       adds-none = λ r. unlink-adds-none (link t) (link (setLink t p v)) p (cur t s) pos (j .to-cur) new old r;

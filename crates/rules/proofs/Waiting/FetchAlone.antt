@@ -9,14 +9,14 @@ use borrow.Author.Tests.{ne-eqb}
 use Rattle.rules.specs.Tables.{Tables, phaseAt, prevAt, curAt, phase, own}
 use Rattle.rules.specs.Comparison.{Claim, claimOf}
 use Rattle.rules.specs.Reach.{lowestFree}
-use Rattle.rules.specs.Fetch.{Fetched, takenOut, writeClaim, takeNode, fetch}
+use Rattle.rules.specs.Fetch.{Fetched, takenOut, writeClaim, takeNode, fetch, reserveFor}
 use Rattle.rules.specs.Steps.{refetched, entering}
 use Rattle.rules.specs.Calls.{step}
 use Rattle.rules.specs.Reached.{Reached}
 use Rattle.rules.proofs.Rules.Effects.{Room}
 use Rattle.rules.proofs.Rules.RuleEffects.{enter-stored, reserve-stored}
 use Rattle.rules.proofs.Rules.Reasons.{Fetching, found, found-then, none, fetching, by-phase-6, by-phase-7}
-use Rattle.rules.proofs.Laws.NodesAlone.{taken-out-seats}
+use Rattle.rules.proofs.Laws.NodesAlone.{taken-out-profile, taken-out-seats}
 use Rattle.rules.proofs.Keeping.Aside.{seat-room}
 use Rattle.rules.proofs.Keeping.CallKeeps.{good}
 use Rattle.rules.proofs.Waiting.Alone.{AtRest, rests-refused, step-reached, accepted}
@@ -25,12 +25,12 @@ use Rattle.rules.proofs.Laws.Shape.{in-7}
 
 -- a seat that has just taken a node has it reserved
 taken-reserved : (t : Tables) (s a : ℕ) (c : Claim) → Room t s → phase (takeNode t s a c) s ≡ 7
-unfolding takeNode writeClaim
+unfolding takeNode writeClaim reserveFor
 taken-reserved t s a c r = reserve-stored (writeClaim t a c) s r a .at-s phaseAt (omega arith)
 
 fetched-reserved : {t : Tables} {s : ℕ} {c : Claim} {f : Fetched} → Room t s → f .node ≢ 0 → Fetching t s c f → phase (f .after) s ≡ 7
 fetched-reserved {t} {s} {c} r d (found a e z) = taken-reserved t s a c r
-fetched-reserved {t} {s} {c} r d (found-then a e e′ z) = taken-reserved (takenOut t) s a c (rw (taken-out-seats t) r)
+fetched-reserved {t} {s} {c} r d (found-then a e e′ z) = taken-reserved (takenOut t) s a c (rw (taken-out-profile t, taken-out-seats t) r)
 fetched-reserved r d (none e e′) = absurd (d refl)
 
 refetched-found : (t : Tables) (s : ℕ) (f : Fetched) → f .node ≢ 0 → refetched t s f .after ≡ f .after

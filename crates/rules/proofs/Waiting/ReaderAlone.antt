@@ -4,7 +4,7 @@ use mathlib.Core.Path.{_≡_, refl, ap, _∙_}
 use mathlib.Core.Logic.{inr}
 use native.Mathlib.Omega.{arith}
 use Rattle.rules.specs.Tables.{Tables, kindAt, phaseAt, ownAt, curAt, kind, link, phase, own, cur}
-use Rattle.rules.specs.Steps.{pass}
+use Rattle.rules.specs.Steps.{pass, hold}
 use Rattle.rules.specs.Reached.{Reached}
 use Rattle.rules.proofs.Ground.Following.{Ends, ends-tail}
 use Rattle.rules.proofs.Rules.RuleEffects.{pass-stored, hold-stored}
@@ -23,7 +23,7 @@ module _ {N S : ℕ} (s : ℕ) (s-in : s < S) where
   one-step : (m k : ℕ) (t : Tables) → ReaderAt N S s t → Ends (link t) (cur t s) k
       → ((u : Tables) → ReaderAt N S s u → (j : ℕ) → Ends (link u) (cur u s) j → j < k → Within (alone s) (AtRest s) m u)
       → {u : Tables} → Validating t s u → Reached N S u → Within (alone s) (AtRest s) m u
-  unfolding pass
+  unfolding pass hold
   one-step m k t r e on (validates-reader x (reader-holds f)) g =
       now (rests-holding (hold-stored t s (seat-room (good (r .reached) .aside) s s-in) .at-s phaseAt (omega arith)))
   one-step m k t r e on (validates-reader x (reader-unlinks c mk w)) g =

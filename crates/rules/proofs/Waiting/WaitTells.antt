@@ -76,7 +76,7 @@ module _ (n first end : ℕ) (t : Tables) (s : ℕ) (answers : step t s .answer 
   at-node-before = sym (stayed .same-cur) ∙ at-node
 
   pub told-whole-before : WholeShared (claimOf t n) (claimOfSeat t s) first end
-  told-whole-before = let w = stayed in rw (w .same-nodes, w .same-own) at told-whole
+  told-whole-before = let w = stayed in rw (w .same-own, w .same-profile, w .same-nodes) at told-whole
 
 -- ---- a walker that finds an unmarked claim where the comparison gives 0
 module _ (t : Tables) (s : ℕ) (is-sound : sound t ≡ true) (is-seat : s < seatCount t) (p : phase t s ≡ 1) where

@@ -45,6 +45,7 @@ module _ {N S : ℕ} (s : ℕ) (s-in : s < S) (known : Bool) where
   clear-way : {t : Tables} → WalkAt N S s known t → (cur t s ≡ 0) ⊎ Precedes (claimOf t (own t s)) (claimOf t (cur t s))
       → Reached N S (moveTo (linkIn t s) s 3 0 (head (linkIn t s))) → known ≡ true → kind t (own t s) ≢ 1
       → ClearWay s (moveTo (linkIn t s) s 3 0 (head (linkIn t s)))
+  unfolding linkIn
   clear-way {t} r front g k ko =
       let u = moveTo (linkIn t s) s 3 0 (head (linkIn t s)) in
       let w = start-stored t s (seat-room (good (r .reached) .aside) s s-in) 3 0 (head (linkIn t s)) in

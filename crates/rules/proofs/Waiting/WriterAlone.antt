@@ -6,7 +6,7 @@ use mathlib.Core.Bool.{Bool, true, false}
 use mathlib.Core.Logic.{_≢_, inl, inr}
 use native.Mathlib.Omega.{arith}
 use Rattle.rules.specs.Tables.{Tables, startAt, endAt, kindAt, markAt, phaseAt, ownAt, curAt, start, end, kind, mark, link, phase, own, cur}
-use Rattle.rules.specs.Steps.{pass}
+use Rattle.rules.specs.Steps.{pass, hold, withdraw}
 use Rattle.rules.proofs.Ground.Logic.{not-of}
 use Rattle.rules.proofs.Ground.Following.{reach-source, not-from-0, beyond, Ends, ends-tail}
 use Rattle.rules.specs.Reach.{Reach, here, there}
@@ -38,7 +38,7 @@ module _ {N S : ℕ} (s : ℕ) (s-in : s < S) (known : Bool) where
   one-step : (m k : ℕ) (t : Tables) → WriterAt N S s known t → Ends (link t) (cur t s) k
       → ((u : Tables) → WriterAt N S s known u → (j : ℕ) → Ends (link u) (cur u s) j → j < k → Within (alone s) (WriterEnds N S s known) m u)
       → {u : Tables} → Validating t s u → Reached N S u → Within (alone s) (WriterEnds N S s known) m u
-  unfolding pass
+  unfolding pass hold withdraw
   one-step m k t r e on (validates-reader x w) g = absurd (r .writes x)
   one-step m k t r e on (validates-writer x (writer-holds f)) g =
       now (at-rest (rests-holding (hold-stored t s (seat-room (good (r .reached) .aside) s s-in) .at-s phaseAt (omega arith))))
