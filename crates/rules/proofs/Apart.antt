@@ -105,8 +105,10 @@ enter-touches = enter-keeps-nodes
 pub release-touches : (t : Tables) (s : ℕ) → NodesKept NoNode (λ a. a ≡ own t s) NoNode (λ i. i ≡ countAt (kindOf t s)) t (release t s .after)
 release-touches = release-kept
 
--- a step, by its phase: the links of own and prev, where the claim is linked in or a marked node is unlinked
-pub walking-touches : (t : Tables) (s : ℕ) → phase t s ≡ 1 → NodesKept (λ a. (a ≡ own t s) ⊎ (a ≡ prev t s)) NoNode NoNode NoPlace t (step t s .after)
+-- a step, by its phase: the links of own and prev, where the claim is linked in or a marked node is unlinked; on a sheet the count of its kind, where it
+-- comes to hold
+pub walking-touches : (t : Tables) (s : ℕ) → phase t s ≡ 1
+    → NodesKept (λ a. (a ≡ own t s) ⊎ (a ≡ prev t s)) NoNode NoNode (λ i. (t .sheet ≡ true) × (i ≡ countAt (kindOf t s))) t (step t s .after)
 walking-touches = step-1-kept
 
 pub waiting-touches : (t : Tables) (s : ℕ) → phase t s ≡ 2 → NodesKept NoNode NoNode NoNode NoPlace t (step t s .after)

@@ -32,11 +32,13 @@ imported-covers-no-other frames l c q = back.lock-as-claim frames l c (laws.impo
 pub imported-kind : (frames : ℕ) (l : Lock) (c : Claim) → importLock frames l ≡ taken c → l .type ≡ pos (c .kind)
 imported-kind frames l c q = laws.imports frames l c q .type
 
--- "Import gives begin's numbers": 32 bits hold them, and on a table of that title reserve, which has them since (vii), does not refuse them as a claim, by 3, 11 or 4
+-- "Import gives begin's numbers": 32 bits hold them, and on a table of that title reserve, which has them since (vii), does not refuse them as a claim, by 3, 11 or 4,
+-- but for a reader's on a sheet, by 4
 pub imported-fits : (frames : ℕ) (l : Lock) (c : Claim) → importLock frames l ≡ taken c → (c .start < c .end) × (c .end ≤ 4294967295)
 imported-fits frames l c q = let i = laws.imports frames l c q in (i .some, i .small)
 
-pub reserve-takes-it : (t : Tables) (s k : ℕ) (l : Lock) (c : Claim) → importLock (title t) l ≡ taken c → Refuses t (reserveCall s c) k → (k ≢ 3) × (k ≢ 11) × (k ≢ 4)
+pub reserve-takes-it : (t : Tables) (s k : ℕ) (l : Lock) (c : Claim) → importLock (title t) l ≡ taken c → Refuses t (reserveCall s c) k
+    → (k ≢ 3) × (k ≢ 11) × (k ≡ 4 → (t .sheet ≡ true) × (c .kind ≡ 1))
 reserve-takes-it = back.reserve-takes
 
 -- ---- "export gives back positive lengths, and 0 exactly where the claim ends at the title's end"

@@ -289,6 +289,10 @@ which-frames-clash = ((refl, refl), (refl, refl, refl, refl, refl, refl, refl))
 abbrev H1held : Tables
 H1held = afterAll (cleared 4 3) (v 0 10 20 2 ∷ e 0 ∷ s 0 ∷ s 0 ∷ [])
 
+-- the nodes once seat 1 has reserved too, whether it has entered or not
+abbrev H1nodes : List ℕ
+H1nodes = 1 ∷ 0 ∷ 1 ∷ 4294967295 ∷ 10 ∷ 20 ∷ 2 ∷ 0 ∷ 0 ∷ 15 ∷ 25 ∷ 2 ∷ 0 ∷ 0 ∷ 0 ∷ 0 ∷ 0 ∷ 0 ∷ 0 ∷ 0 ∷ 0 ∷ 0 ∷ 0 ∷ 0 ∷ []
+
 abbrev connected : Tables
 connected = afterAll (cleared 4 3) (v 0 10 20 2 ∷ v 1 15 25 2 ∷ [])
 
@@ -300,7 +304,9 @@ ReservedFirst =
     × (freeCount connected ≡ counted 2)
     × (afterAll H1held (v 1 15 25 2 ∷ []) .seats ≡ 5 ∷ 1 ∷ 0 ∷ 0 ∷ 7 ∷ 2 ∷ 0 ∷ 0 ∷ 0 ∷ 0 ∷ 0 ∷ 0 ∷ [])
     × (afterAll H1held (v 1 15 25 2 ∷ e 1 ∷ []) .seats ≡ 5 ∷ 1 ∷ 0 ∷ 0 ∷ 1 ∷ 2 ∷ 0 ∷ 1 ∷ 0 ∷ 0 ∷ 0 ∷ 0 ∷ [])
-    × (afterAll H1held (v 1 15 25 2 ∷ s 1 ∷ []) ≡ afterAll H1held (v 1 15 25 2 ∷ e 1 ∷ []))
+    × (afterAll H1held (v 1 15 25 2 ∷ s 1 ∷ []) .seats ≡ 5 ∷ 1 ∷ 0 ∷ 0 ∷ 1 ∷ 2 ∷ 0 ∷ 1 ∷ 0 ∷ 0 ∷ 0 ∷ 0 ∷ [])
+    × (afterAll H1held (v 1 15 25 2 ∷ e 1 ∷ []) .nodes ≡ H1nodes)
+    × (afterAll H1held (v 1 15 25 2 ∷ s 1 ∷ []) .nodes ≡ H1nodes)
 
 -- "enter in any phase but 7 is 14": idle, walking, validating, holding; waiting to enter; waiting as a reader; withdrawn. 2 comes before 14, and a seat
 -- enters only once. And what else is asked of a seat in phase 7: reserve is refused 5, release 7, and a step enters
@@ -336,7 +342,7 @@ LinesOfAScript =
 pub reserved-before-entered : ReservedFirst × EnterRefused × AllowedLikeSix × LinesOfAScript
 unfolding rules
 reserved-before-entered =
-    ((refl, refl, refl, refl, refl, refl, refl), (refl, refl, refl, refl, refl), (refl, refl, refl, refl, refl), (refl, refl, refl, refl))
+    ((refl, refl, refl, refl, refl, refl, refl, refl, refl), (refl, refl, refl, refl, refl), (refl, refl, refl, refl, refl), (refl, refl, refl, refl))
 
 -- ---- ours: seat 2 waits at node 1, and nodes 1 and 2 are released. Taken out, node 2 is at no seat's own, prev or cur; but
 -- seat 2 still reaches it through node 1, so it is not free

@@ -5,7 +5,7 @@ use mathlib.Core.List.{List, [], _∷_}
 use Rattle.rules.specs.Notation.{if_then_else_, _is_, _≤?_, _<?_}
 use Rattle.rules.specs.Tables.{Tables, nodeCount, seatCount, title, phase, fresh}
 use Rattle.rules.specs.Comparison.{Claim}
-use Rattle.rules.specs.Shape.{lengthsFit, sound, isKind}
+use Rattle.rules.specs.Shape.{lengthsFit, sound, mayClaim}
 use Rattle.rules.specs.Fetch.{Fetched, fetch}
 use Rattle.rules.specs.Answers.{Answer, node, out, refused, Done, done, Refusal, _when_, refusing, answered}
 use Rattle.rules.specs.Steps.{entering, leave, stepByPhase}
@@ -26,7 +26,8 @@ clear t frames =
     (done 0 (fresh (t .sheet) (nodeCount t) (seatCount t) frames))
 
 -- ---- reserve: 02 (vii): "reserve takes a node for a range and kind", "Reserve answers `node n`", "reserve has begin's" refusals, "in begin's order".
--- "A claim may end at it" (the title's frame count) "and not beyond": "11, end beyond the title, stands after 3 and before 4"
+-- "A claim may end at it" (the title's frame count) "and not beyond": "11, end beyond the title, stands after 3 and before 4". Of a sheet, 02 (viii):
+-- "kind 1 is 4"
 unfoldable pub reserved : Tables → Fetched → Done Answer
 reserved t f =
     if f .node is 0 then done (refused 8) t
@@ -39,7 +40,7 @@ reserve t s c =
     ∷ (2 when noSeat t s)
     ∷ (3 when c .end ≤? c .start)
     ∷ (11 when title t <? c .end)
-    ∷ (4 when not (isKind (c .kind)))
+    ∷ (4 when not (mayClaim (t .sheet) (c .kind)))
     ∷ (5 when not (phase t s is 0))
     ∷ [])
     t

@@ -29,6 +29,10 @@ pub record Proper (c : Claim) : Type 0 where
   pub some : c .start < c .end
   pub reads-or-writes : (c .kind ≡ 1) ⊎ (c .kind ≡ 2)
 
+-- on a sheet, a claim that does not read: 02 (viii), "kind 2 only"
+abbrev pub WritesOnSheet : Tables → Claim → Type 0
+WritesOnSheet t c = t .sheet ≡ true → c .kind ≢ 1
+
 -- fetch finds no free node for seat s, nor with the marked nodes taken out
 pub record NoNodeFree (t : Tables) (s : ℕ) : Type 0 where
   pub at-first : lowestFree t s ≡ 0
@@ -48,10 +52,11 @@ pub data Refuses (t : Tables) : Call → ℕ → Type 0 where
   no-frames : {s : ℕ} {c : Claim} → HasSeat t s → c .end ≤ c .start → Refuses t (reserveCall s c) 3
   -- "11, end beyond the title, stands after 3 and before 4"
   beyond-title : {s : ℕ} {c : Claim} → HasSeat t s → c .start < c .end → title t < c .end → Refuses t (reserveCall s c) 11
-  -- "4: begin: kind not 1 or 2"
+  -- "4: begin: kind not 1 or 2"; of a sheet, "kind 1 is 4"
   no-kind : {s : ℕ} {c : Claim} → HasSeat t s → c .start < c .end → WithinTitle t c → c .kind ≢ 1 → c .kind ≢ 2 → Refuses t (reserveCall s c) 4
+  reads-on-sheet : {s : ℕ} {c : Claim} → HasSeat t s → c .start < c .end → WithinTitle t c → t .sheet ≡ true → c .kind ≡ 1 → Refuses t (reserveCall s c) 4
   -- "5: begin: seat not idle"
-  not-idle : {s : ℕ} {c : Claim} → HasSeat t s → Proper c → WithinTitle t c → phase t s ≢ 0 → Refuses t (reserveCall s c) 5
+  not-idle : {s : ℕ} {c : Claim} → HasSeat t s → Proper c → WritesOnSheet t c → WithinTitle t c → phase t s ≢ 0 → Refuses t (reserveCall s c) 5
   -- "6: step: seat idle"
   idle : {s : ℕ} → HasSeat t s → phase t s ≡ 0 → Refuses t (stepCall s) 6
   -- "7: release: phase not 5"
@@ -59,7 +64,7 @@ pub data Refuses (t : Tables) : Call → ℕ → Type 0 where
   -- "enter in any phase but 7 is 14, after 7"
   not-reserved : {s : ℕ} → HasSeat t s → phase t s ≢ 7 → Refuses t (enterCall s) 14
   -- "8: begin, or step in phase 6: fetch found none"
-  none-to-reserve : {s : ℕ} {c : Claim} → HasSeat t s → Proper c → WithinTitle t c → phase t s ≡ 0 → NoNodeFree t s → Refuses t (reserveCall s c) 8
+  none-to-reserve : {s : ℕ} {c : Claim} → HasSeat t s → Proper c → WritesOnSheet t c → WithinTitle t c → phase t s ≡ 0 → NoNodeFree t s → Refuses t (reserveCall s c) 8
   none-again : {s : ℕ} → HasSeat t s → phase t s ≡ 6 → NoNodeFree t s → Refuses t (stepCall s) 8
 
 -- ---- clear, given the title's frame count: "1: .. for clear: only lengths wrong", then "clear with count 0 is refused 3"

@@ -1,6 +1,6 @@
 -- Sound shape, clause by clause. "Any other table is damaged."
 use Prim.Native.Nat.{ℕ, zero, suc, _+_, _*_}
-use mathlib.Core.Bool.{Bool, not, _&&_, _||_}
+use mathlib.Core.Bool.{Bool, true, false, not, _&&_, _||_}
 use lib.ListN.{length}
 use Rattle.rules.specs.Notation.{if_then_else_, _is_, _≤?_, _<?_, all, count}
 use Rattle.rules.specs.Tables.{Tables, nodeCount, seatCount, beforeNodes, nodeWidth, seatWidth, seatWord, readers, writers, title, start, end, kind, mark, next, head, phase, own, prev, cur}
@@ -19,23 +19,32 @@ lengthsFit t = nodesFit t && seatsFit t
 unfoldable pub isKind : ℕ → Bool
 isKind k = k is 1 || k is 2
 
+-- the kinds that a claim may have; of a sheet, 02 (viii): "kind 2 only"
+unfoldable pub mayClaim : Bool → ℕ → Bool
+mayClaim true k = k is 2
+mayClaim false k = isKind k
+
 -- "each node is all zeros (kind 0), or has kind 1 or 2, start < end, next at most N, mark 0 or 1"
 unfoldable pub zeroNode : Tables → ℕ → Bool
 zeroNode t a = start t a is 0 && end t a is 0 && kind t a is 0 && next t a is 0 && mark t a is 0
 
 unfoldable pub claimNode : Tables → ℕ → Bool
-claimNode t a = isKind (kind t a) && start t a <? end t a && next t a ≤? nodeCount t && mark t a ≤? 1
+claimNode t a = mayClaim (t .sheet) (kind t a) && start t a <? end t a && next t a ≤? nodeCount t && mark t a ≤? 1
 
 -- "each nonzero head, next, own, prev and cur names a node of kind 1 or 2"
 unfoldable pub names : Tables → ℕ → Bool
-names t a = a is 0 || a ≤? nodeCount t && isKind (kind t a)
+names t a = a is 0 || a ≤? nodeCount t && mayClaim (t .sheet) (kind t a)
 
 unfoldable pub nodeSound : Tables → ℕ → Bool
 nodeSound t a = (zeroNode t a || claimNode t a) && names t (next t a)
 
--- "phase is 0 to 6", and 02 (vii): "sound shape allows 7 like 6"
+-- "phase is 0 to 6", and 02 (vii): "sound shape allows 7 like 6"; of a sheet, 02 (viii): "phases 0, 1, 2, 5 and 7"
+unfoldable pub mayBeIn : Bool → ℕ → Bool
+mayBeIn true p = p is 0 || p is 1 || p is 2 || p is 5 || p is 7
+mayBeIn false p = p ≤? 7
+
 unfoldable pub isPhase : Tables → ℕ → Bool
-isPhase t s = phase t s ≤? 7
+isPhase t s = mayBeIn (t .sheet) (phase t s)
 
 -- "an idle seat (0) has zeros in all four words, any other has own nonzero"
 unfoldable pub zeroSeat : Tables → ℕ → Bool

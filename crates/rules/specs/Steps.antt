@@ -36,6 +36,20 @@ startValidating t s =
     if reads (claimOf t (own t s)) then moveTo t s 3 (own t s) (next t (own t s))
     else moveTo t s 3 0 (head t)
 
+-- the kind of a seat's claim, by which it counts
+abbrev pub kindOf : Tables → ℕ → ℕ
+kindOf t s = kind t (own t s)
+
+-- "Hold: phase 5, prev and cur 0", and the claim counts from now on
+unfoldable pub hold : Tables → ℕ → Tables
+hold t s = setCount (moveTo t s 5 0 0) (kindOf t s) (countWord t (kindOf t s) + 1)
+
+-- what an insert does once own is linked in: validation starts; on a sheet, 02 (viii): "a claim holds as soon as it is linked"
+unfoldable pub onceLinked : Tables → ℕ → Tables
+onceLinked t s =
+    if t .sheet then hold t s
+    else startValidating t s
+
 -- "Otherwise no node changes: with prev marked, prev becomes 0 and cur head; else cur becomes the link of prev."
 unfoldable pub lookAgain : Tables → ℕ → Tables
 lookAgain t s =
@@ -45,16 +59,8 @@ lookAgain t s =
 -- "Insert: if prev is 0 or unmarked and its link is cur, .."
 unfoldable pub insert : Tables → ℕ → Tables
 insert t s =
-    if joined t s then startValidating (linkIn t s) s
+    if joined t s then onceLinked (linkIn t s) s
     else lookAgain t s
-
--- the kind of a seat's claim, by which it counts
-abbrev pub kindOf : Tables → ℕ → ℕ
-kindOf t s = kind t (own t s)
-
--- "Hold: phase 5, prev and cur 0", and the claim counts from now on
-unfoldable pub hold : Tables → ℕ → Tables
-hold t s = setCount (moveTo t s 5 0 0) (kindOf t s) (countWord t (kindOf t s) + 1)
 
 -- "Withdraw: own is marked, phase 6, prev and cur 0, own kept."
 unfoldable pub withdraw : Tables → ℕ → Tables

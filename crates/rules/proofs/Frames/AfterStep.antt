@@ -15,7 +15,7 @@ use Rattle.rules.specs.Calls.{step}
 use Rattle.rules.proofs.Ground.Logic.{branch}
 use Rattle.rules.proofs.Rules.Effects.{Room, Seated}
 use Rattle.rules.proofs.Rules.RuleEffects.{phase-stored, cur-stored, place-stored, pass-stored, start-stored, hold-stored, withdraw-stored, enter-stored, reserve-stored}
-use Rattle.rules.proofs.Rules.Reasons.{Unlinking, takes-out, goes-past, as-reader, as-writer, links-in, restarts, rereads, Walking, inserts, unlinks, passes, waits, Waking, wakes, stays, reader-holds, reader-unlinks, reader-passes, reader-waits, writer-holds, writer-unlinks, writer-passes, withdraws, Validating, validates-reader, validates-writer, Fetching, found, found-then, none, Stepping, in-1, in-2, in-3, in-4, in-6, in-7, at-rest}
+use Rattle.rules.proofs.Rules.Reasons.{Unlinking, takes-out, goes-past, as-reader, as-writer, on-sheet, links-in, restarts, rereads, Walking, inserts, unlinks, passes, waits, Waking, wakes, stays, reader-holds, reader-unlinks, reader-passes, reader-waits, writer-holds, writer-unlinks, writer-passes, withdraws, Validating, validates-reader, validates-writer, Fetching, found, found-then, none, Stepping, in-1, in-2, in-3, in-4, in-6, in-7, at-rest}
 use Rattle.rules.proofs.Rules.Accepting.{Stepped, step-refused, step-accepted, stepped}
 use Rattle.rules.proofs.Frames.SeatFrames.{sound-room}
 use Rattle.rules.proofs.Laws.NodesAlone.{taken-out-profile, taken-out-seats}
@@ -27,14 +27,19 @@ pub record Stayed (t u : Tables) (s : ℕ) : Type 0 where
   pub same-own : own u s ≡ own t s
   pub same-cur : cur u s ≡ cur t s
 
+-- u is t with seat s holding: as it was found, or with own linked in first
+pub data ComesToHold (t : Tables) (s : ℕ) (u : Tables) : Type 0 where
+  as-found : u ≡ hold t s → ComesToHold t s u
+  once-linked : u ≡ hold (linkIn t s) s → ComesToHold t s u
+
 -- from t to u by a step of seat s
 pub record Left (t u : Tables) (s : ℕ) : Type 0 where
   pub busy : phase u s ≢ 0
   pub unmarked : (phase u s ≡ 2) ⊎ (phase u s ≡ 4) → mark u (cur u s) ≢ 1
   pub stayed : (phase u s ≡ 2) ⊎ (phase u s ≡ 4) → Stayed t u s
-  pub holding : phase u s ≡ 5 → (u ≡ t) ⊎ (u ≡ hold t s)
+  pub holding : phase u s ≡ 5 → (u ≡ t) ⊎ ComesToHold t s u
 
-not-waiting : {t u : Tables} {s : ℕ} → phase u s ≢ 0 → phase u s ≢ 2 → phase u s ≢ 4 → (phase u s ≡ 5 → (u ≡ t) ⊎ (u ≡ hold t s)) → Left t u s
+not-waiting : {t u : Tables} {s : ℕ} → phase u s ≢ 0 → phase u s ≢ 2 → phase u s ≢ 4 → (phase u s ≡ 5 → (u ≡ t) ⊎ ComesToHold t s u) → Left t u s
 not-waiting {t} {u} {s} b d₂ d₄ h = record { busy = b; unmarked = λ p. absurd (neither p); stayed = λ p. absurd (neither p); holding = h }
   where
     neither : (phase u s ≡ 2) ⊎ (phase u s ≡ 4) → ⊥
@@ -66,10 +71,17 @@ module _ (t : Tables) (s : ℕ) (r : Room t s) where
     unlinking-leaves (takes-out j) = goes-on (cur-stored t s r (next t (cur t s))) refl
     unlinking-leaves (goes-past e) = goes-on (cur-stored t s r (next t (cur t s))) refl
 
+  linked-leaves : Left t (hold (linkIn t s) s) s
+  unfolding linkIn hold
+  linked-leaves =
+      let e = start-stored t s r 5 0 0 .at-s phaseAt (omega arith) in
+      not-waiting (rw e (omega arith)) (rw e (omega arith)) (rw e (omega arith)) (λ p. inr (once-linked refl))
+
   walking-leaves : {u : Tables} → phase t s ≡ 1 → Walking t s u → Left t u s
   unfolding linkIn pass
-  walking-leaves p (inserts f (links-in j (as-reader k))) = moved (start-stored t s r 3 (own t s) (next (linkIn t s) (own t s))) (omega arith) (omega arith) (omega arith) (omega arith)
-  walking-leaves p (inserts f (links-in j (as-writer k))) = moved (start-stored t s r 3 0 (head (linkIn t s))) (omega arith) (omega arith) (omega arith) (omega arith)
+  walking-leaves p (inserts f (links-in j (as-reader n k))) = moved (start-stored t s r 3 (own t s) (next (linkIn t s) (own t s))) (omega arith) (omega arith) (omega arith) (omega arith)
+  walking-leaves p (inserts f (links-in j (as-writer n k))) = moved (start-stored t s r 3 0 (head (linkIn t s))) (omega arith) (omega arith) (omega arith) (omega arith)
+  walking-leaves p (inserts f (links-in j (on-sheet q))) = linked-leaves
   walking-leaves p (inserts f (restarts j m)) = goes-on (inl p) (place-stored t s r 0 (head t)) refl
   walking-leaves p (inserts f (rereads j m)) = goes-on (inl p) (cur-stored t s r (link t (prev t s))) refl
   walking-leaves p (unlinks c m w) = unlinking-leaves (inl p) w
@@ -85,7 +97,7 @@ module _ (t : Tables) (s : ℕ) (r : Room t s) where
   unfolding hold
   holding-leaves =
       let e = hold-stored t s r .at-s phaseAt (omega arith) in
-      not-waiting (rw e (omega arith)) (rw e (omega arith)) (rw e (omega arith)) (λ p. inr refl)
+      not-waiting (rw e (omega arith)) (rw e (omega arith)) (rw e (omega arith)) (λ p. inr (as-found refl))
 
   validating-leaves : {u : Tables} → phase t s ≡ 3 → Validating t s u → Left t u s
   unfolding pass withdraw

@@ -85,7 +85,7 @@ taken-not-own t s n c q r d = go (reserving t s c) q
   where
     go : {x : Done Answer} → Reserving t s c x → x .answer ≡ node n → own t r ≢ n
     go (reserve-refused k w) q = not-refused (sym q)
-    go (reserve-accepted {f = f} e h p i z w) q = unfold reserved in
+    go (reserve-accepted {f = f} e h p k i z w) q = unfold reserved in
         branch (λ (x : Done Answer). x .answer ≡ node n → own t r ≢ n) (f .node is 0)
         (λ y q. not-refused (sym q))
         (λ y q. let m : f .node ≡ n = cc in rw m at (not-taken t e s r d w (eqb-false (f .node) 0 y)))
@@ -99,7 +99,7 @@ module _ (t : Tables) (s r : ℕ) (d : r ≢ s) where
   reserved-keeps : (c : Claim) {x : Done Answer} → Reserving t s c x → Keeps x
   unfolding reserved
   reserved-keeps c (reserve-refused k q) = refl
-  reserved-keeps c (reserve-accepted {f = f} e h p i z w) = branch Keeps (f .node is 0) (λ q. refl) (λ q. taken-keeps t e s r d w (eqb-false (f .node) 0 q))
+  reserved-keeps c (reserve-accepted {f = f} e h p k i z w) = branch Keeps (f .node is 0) (λ q. refl) (λ q. taken-keeps t e s r d w (eqb-false (f .node) 0 q))
 
   refetched-keeps : sound t ≡ true → {c : Claim} {f : Fetched} → Fetching t s c f → Keeps (refetched t s f)
   unfolding refetched

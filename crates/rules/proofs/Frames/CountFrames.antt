@@ -15,7 +15,7 @@ use Rattle.rules.specs.Comparison.{Claim}
 use Rattle.rules.specs.Shape.{holdsWith, holdersOfKind, sound}
 use Rattle.rules.specs.Fetch.{Fetched, writeClaim, takeNode, takenOut, reserveFor}
 use Rattle.rules.specs.Answers.{Answer, refused, Done, done}
-use Rattle.rules.specs.Steps.{moveTo, kindOf, hold, leave, refetched, entering}
+use Rattle.rules.specs.Steps.{moveTo, kindOf, hold, leave, refetched, entering, linkIn}
 use Rattle.rules.specs.Calls.{clear, reserved}
 use Rattle.rules.specs.Play.{Call, reserveCall, enterCall, stepCall, releaseCall, call, seatOf}
 use Rattle.rules.specs.Run.{run}
@@ -37,9 +37,9 @@ use Rattle.rules.proofs.Rules.Reasons.{Fetching, found, found-then, non
 use Rattle.rules.proofs.Rules.Accepting.{Reserving, reserve-refused, reserve-accepted, reserving, Entering, enter-refused, enter-accepted, enters, Stepped, step-refused, step-accepted, stepped, Releasing, release-refused, release-accepted, releasing}
 use Rattle.rules.proofs.Rules.RefusedExactly.{table-refused, clear-accepted}
 use Rattle.rules.proofs.Frames.SeatFrames.{sound-room, other-seats-kept}
-use Rattle.rules.proofs.Frames.NodeFrames.{walking, waking, unless-held, fetching, entering-kept}
+use Rattle.rules.proofs.Frames.NodeFrames.{walking-unless-held, linking-in, linked-kind, waking, unless-held, fetching, entering-kept}
 use Rattle.rules.proofs.Frames.ClaimFrames.{others-claims-kept}
-use Rattle.rules.proofs.Frames.AfterStep.{Left, stepping-leaves}
+use Rattle.rules.proofs.Frames.AfterStep.{ComesToHold, as-found, once-linked, Left, stepping-leaves}
 
 abbrev WordsStay : Tables → Tables → Type 0
 WordsStay t u = (k : ℕ) → countWord u k ≡ countWord t k
@@ -54,10 +54,10 @@ Accepting t s = (sound t ≡ true) × (s < seatCount t)
 data Outcome (t : Tables) (s : ℕ) (u : Tables) : Type 0 where
   unchanged : u ≡ t → Outcome t s u
   moves-on : Accepting t s → phase t s ≢ 5 → phase u s ≢ 5 → WordsStay t u → Outcome t s u
-  comes-to-hold : Accepting t s → phase t s ≢ 0 → phase t s ≢ 5 → u ≡ hold t s → Outcome t s u
+  comes-to-hold : Accepting t s → phase t s ≢ 0 → phase t s ≢ 5 → ComesToHold t s u → Outcome t s u
   gives-up : Accepting t s → phase t s ≡ 5 → u ≡ leave t s → Outcome t s u
 
-left-outcome : {t u : Tables} {s : ℕ} → Accepting t s → Left t u s → phase t s ≢ 0 → phase t s ≢ 5 → (u ≡ hold t s) ⊎ WordsStay t u
+left-outcome : {t u : Tables} {s : ℕ} → Accepting t s → Left t u s → phase t s ≢ 0 → phase t s ≢ 5 → ComesToHold t s u ⊎ WordsStay t u
     → Outcome t s u
 left-outcome a l b d (inl e) = comes-to-hold a b d e
 left-outcome {u = u} {s} a l b d (inr f) =
@@ -84,10 +84,12 @@ module _ (t : Tables) (s : ℕ) where
 
   stepping-outcome : {d : Done Answer} → Accepting t s → phase t s ≢ 0 → Stepping t s d → Outcome t s (d .after)
   unfolding refetched
-  stepping-outcome a b (in-1 e w) = left-outcome a (leaves a b (in-1 e w)) b (omega arith) (inr (words-stay (walking t s w)))
+  stepping-outcome a b (in-1 e w) =
+      left-outcome a (leaves a b (in-1 e w)) b (omega arith)
+      (elim (walking-unless-held t s w) [ inl q ↦ inl (once-linked (q .1)) | inr f ↦ inr (words-stay f) ])
   stepping-outcome a b (in-2 e w) = left-outcome a (leaves a b (in-2 e w)) b (omega arith) (inr (words-stay (waking t s w)))
   stepping-outcome a b (in-3 e w) =
-      left-outcome a (leaves a b (in-3 e w)) b (omega arith) (elim (unless-held t s w) [ inl q ↦ inl q | inr f ↦ inr (words-stay f) ])
+      left-outcome a (leaves a b (in-3 e w)) b (omega arith) (elim (unless-held t s w) [ inl q ↦ inl (as-found q) | inr f ↦ inr (words-stay f) ])
   stepping-outcome a b (in-4 e w) = left-outcome a (leaves a b (in-4 e w)) b (omega arith) (inr (words-stay (waking t s w)))
   stepping-outcome a b (in-6 {f = f} e w) =
       branch (λ (d : Done Answer). Outcome t s (d .after)) (f .node is 0)
@@ -102,7 +104,7 @@ module _ (t : Tables) (s : ℕ) where
   reserved-outcome : {c : Claim} {d : Done Answer} → Reserving t s c d → Outcome t s (d .after)
   unfolding reserved
   reserved-outcome (reserve-refused k x) = unchanged refl
-  reserved-outcome (reserve-accepted {f = f} e h p i z w) =
+  reserved-outcome (reserve-accepted {f = f} e h p k i z w) =
       branch (λ (d : Done Answer). Outcome t s (d .after)) (f .node is 0)
       (λ q. unchanged refl) (λ q. fetch-outcome (e, h) (omega arith) w)
 
@@ -122,13 +124,7 @@ call-outcome t (stepCall s) = stepped-outcome t s (stepped t s)
 call-outcome t (releaseCall s) = released-outcome t s (releasing t s)
 
 -- ---- the rules that count, word by word
-module _ (t : Tables) (s : ℕ) (a : Accepting t s) where
-  room : Room t s
-  room = sound-room t s (a .0) (a .1)
-
-  long : beforeNodes (t .sheet) ≤ length (t .nodes)
-  long = let n = is-sound t (a .0) .nodes-length in omega arith
-
+module _ (t : Tables) (s : ℕ) (room : Room t s) (long : beforeNodes (t .sheet) ≤ length (t .nodes)) where
   holds-then : phase (hold t s) s ≡ 5
   unfolding hold
   holds-then = hold-stored t s room .at-s phaseAt (omega arith)
@@ -146,6 +142,37 @@ module _ (t : Tables) (s : ℕ) (a : Accepting t s) where
   hold-counts-alone : (k : ℕ) → countAt k ≢ countAt (kindOf t s) → countWord (hold t s) k ≡ countWord t k
   unfolding hold
   hold-counts-alone k d = count-put-other (moveTo t s 5 0 0) (kindOf t s) k _ d
+
+-- what comes to hold counts by its kind in t, whether it is linked in first or not
+record CountsOneMore (t : Tables) (s : ℕ) (u : Tables) : Type 0 where
+  holds : phase u s ≡ 5
+  kind-kept : kindOf u s ≡ kindOf t s
+  counted : countWord u (kindOf t s) ≡ countWord t (kindOf t s) + 1
+  alone : (k : ℕ) → countAt k ≢ countAt (kindOf t s) → countWord u k ≡ countWord t k
+
+module _ (t : Tables) (s : ℕ) (a : Accepting t s) where
+  room : Room t s
+  room = sound-room t s (a .0) (a .1)
+
+  long : beforeNodes (t .sheet) ≤ length (t .nodes)
+  long = let n = is-sound t (a .0) .nodes-length in omega arith
+
+  held-counts : {u : Tables} → ComesToHold t s u → CountsOneMore t s u
+  held-counts (as-found e) =
+      rw e (record { holds = holds-then t s room long; kind-kept = same-kind t s room long; counted = hold-counts t s room long; alone = hold-counts-alone t s room long })
+  held-counts (once-linked e) =
+      let v = linkIn t s in
+      let kept = linking-in t s in
+      let words = words-stay kept in
+      let same = linked-kind t s in
+      let room : Room v s = unfold linkIn in room in
+      let long : beforeNodes (v .sheet) ≤ length (v .nodes) = rw (kept .same-profile, kept .same-length) long in
+      rw e (record {
+        holds = holds-then v s room long;
+        kind-kept = same-kind v s room long ∙ same;
+        counted = rw same at (hold-counts v s room long) ∙ ap (λ (n : ℕ). n + 1) (words (kindOf t s));
+        alone = λ k d. hold-counts-alone v s room long k (rw same d) ∙ words k;
+      })
 
   idle-then : phase (leave t s) s ≢ 5
   unfolding leave
@@ -172,7 +199,8 @@ counts-move t c = moves (call-outcome t c)
     moves (moves-on a d d′ f) = stay (λ h. absurd (d h)) (λ h. absurd (d′ h)) f
     moves (comes-to-hold a b d e) =
         let s = seatOf c in
-        rw e (one-more d (holds-then t s a) (hold-counts t s a) (hold-counts-alone t s a))
+        let w = held-counts t s a e in
+        one-more d (w .holds) (w .counted) (w .alone)
     moves (gives-up a p e) =
         let s = seatOf c in
         let some = holder-counts t (a .0) s (a .1) p in
@@ -187,11 +215,12 @@ module _ (t : Tables) (s k : ℕ) (kd : IsKind k) where
   moves-as-seat : {u : Tables} → Outcome t s u → countWord u k + one (holdsWith t k s) ≡ countWord t k + one (holdsWith u k s)
   moves-as-seat (unchanged e) = rw e
   moves-as-seat {u} (moves-on a d d′ f) = rw (ne-eqb (phase t s) 5 d, ne-eqb (phase u s) 5 d′, f k)
-  moves-as-seat (comes-to-hold a b d e) =
-      rw (e, ne-eqb (phase t s) 5 d, holds-then t s a, same-kind t s a)
+  moves-as-seat {u} (comes-to-hold a b d e) =
+      let now = held-counts t s a e in
+      rw (ne-eqb (phase t s) 5 d, now .holds, now .kind-kept)
       (if-same (kindOf t s) k
-      (λ y. let w : countWord (hold t s) k ≡ countWord t k + 1 = rw y at (hold-counts t s a) in rw (eq-eqb (kindOf t s) k y) (omega arith))
-      (λ y. rw (ne-eqb (kindOf t s) k y, hold-counts-alone t s a k (kinds-apart kd (own-kind t (a .0) s b) (λ z. y (sym z))))))
+      (λ y. let w : countWord u k ≡ countWord t k + 1 = rw y at (now .counted) in rw (eq-eqb (kindOf t s) k y) (omega arith))
+      (λ y. rw (ne-eqb (kindOf t s) k y, now .alone k (kinds-apart kd (own-kind t (a .0) s b) (λ z. y (sym z))))))
   moves-as-seat (gives-up a p e) =
       rw (e, p, ne-eqb (phase (leave t s) s) 5 (idle-then t s a))
       (if-same (kindOf t s) k

@@ -22,7 +22,7 @@ use Rattle.rules.proofs.Rules.Effects.{Room}
 use Rattle.rules.proofs.Rules.RuleEffects.{reserve-stored}
 use Rattle.rules.proofs.Laws.NodesAlone.{taken-out-profile, taken-out-seats}
 use Rattle.rules.proofs.Frames.SeatFrames.{sound-room}
-use Rattle.rules.proofs.Rules.Reasons.{Unlinking, takes-out, goes-past, as-reader, as-writer, Inserting, links-in, restarts, rereads, Walking, inserts, unlinks, passes, waits, walks, Waking, wakes, stays, wakes-to-walk, wakes-to-validate, reader-holds, reader-unlinks, reader-passes, reader-waits, writer-holds, writer-unlinks, writer-passes, withdraws, Validating, validates-reader, validates-writer, validates, by-phase-1, by-phase-2, by-phase-3, by-phase-4, by-phase-5, by-phase-6, Fetching, found, found-then, none, fetching as fetching-of}
+use Rattle.rules.proofs.Rules.Reasons.{Unlinking, takes-out, goes-past, as-reader, as-writer, on-sheet, Inserting, links-in, restarts, rereads, Walking, inserts, unlinks, passes, waits, walks, Waking, wakes, stays, wakes-to-walk, wakes-to-validate, reader-holds, reader-unlinks, reader-passes, reader-waits, writer-holds, writer-unlinks, writer-passes, withdraws, Validating, validates-reader, validates-writer, validates, by-phase-1, by-phase-2, by-phase-3, by-phase-4, by-phase-5, by-phase-6, Fetching, found, found-then, none, fetching as fetching-of}
 use Rattle.rules.proofs.Rules.Accepting.{Reserving, reserve-refused, reserve-accepted, reserving, Entering, enter-refused, enter-accepted, enters, step-or-same, Releasing, release-refused, release-accepted, releasing}
 
 -- ---- keeping, in general
@@ -134,25 +134,35 @@ module _ (t : Tables) (s : ℕ) where
   unlinked : {u : Tables} → Unlinking t s u → NodesKept (Prev t s) (Own t s) NoNode NoPlace t u
   unlinked w = kept-but (λ a x. x) (λ a x. absurd x) (λ a x. x) (λ i x. x) (unlinking w)
 
-  linking-in : NodesKept (OwnOrPrev t s) NoNode NoNode NoPlace t (linkIn t s)
+  pub linking-in : NodesKept (OwnOrPrev t s) NoNode NoNode NoPlace t (linkIn t s)
   unfolding linkIn
   linking-in =
       kept-then
       (kept-but (λ a x. inl x) (λ a x. x) (λ a x. x) (λ i x. x) (link-kept t (own t s) (cur t s)))
       (kept-but (λ a x. inr x) (λ a x. x) (λ a x. x) (λ i x. x) (link-kept (setLink t (own t s) (cur t s)) (prev t s) (own t s)))
 
-  inserting : {u : Tables} → Inserting t s u → NodesKept (OwnOrPrev t s) NoNode NoNode NoPlace t u
-  inserting (links-in j (as-reader k)) = seats-aside linking-in
-  inserting (links-in j (as-writer k)) = seats-aside linking-in
-  inserting (restarts j m) = only-seats
-  inserting (rereads j m) = only-seats
+  -- linking in changes no seat and no claim
+  pub linked-kind : kindOf (linkIn t s) s ≡ kindOf t s
+  unfolding linkIn
+  linked-kind = ap (λ (c : Claim). c .kind) (linking-in .claim-of (own t s) (λ z. z))
 
-  pub walking : {u : Tables} → Walking t s u → NodesKept (OwnOrPrev t s) NoNode NoNode NoPlace t u
+  -- on a sheet the claim may come to hold, and then there is a count too
+  abbrev Walked : Tables → Type 0
+  Walked u = ((t .sheet ≡ true) × (u ≡ hold (linkIn t s) s)) ⊎ NodesKept (OwnOrPrev t s) NoNode NoNode NoPlace t u
+
+  inserting : {u : Tables} → Inserting t s u → Walked u
+  inserting (links-in j (as-reader n k)) = inr (seats-aside linking-in)
+  inserting (links-in j (as-writer n k)) = inr (seats-aside linking-in)
+  inserting (links-in j (on-sheet q)) = inl (sym (linking-in .same-profile) ∙ q, refl)
+  inserting (restarts j m) = inr only-seats
+  inserting (rereads j m) = inr only-seats
+
+  pub walking-unless-held : {u : Tables} → Walking t s u → Walked u
   unfolding pass
-  walking (inserts f w) = inserting w
-  walking (unlinks c m w) = kept-but (λ a x. inr x) (λ a x. x) (λ a x. x) (λ i x. x) (unlinking w)
-  walking (passes c m f) = only-seats
-  walking (waits c m f f′) = only-seats
+  walking-unless-held (inserts f w) = inserting w
+  walking-unless-held (unlinks c m w) = inr (kept-but (λ a x. inr x) (λ a x. x) (λ a x. x) (λ i x. x) (unlinking w))
+  walking-unless-held (passes c m f) = inr only-seats
+  walking-unless-held (waits c m f f′) = inr only-seats
 
   -- ---- phases 2 and 4: none
   pub waking : {P : ℕ} {u : Tables} → Waking t s P u → NodesKept NoNode NoNode NoNode NoPlace t u
@@ -171,7 +181,7 @@ module _ (t : Tables) (s : ℕ) where
   unless-held (validates-writer k (writer-passes d c m f)) = inr only-seats
   unless-held (validates-writer k (withdraws d f)) = inr (seats-aside (kept-but (λ a x. absurd x) (λ a x. x) (λ a x. x) (λ i x. x) (mark-kept t (own t s) 1)))
 
-  holding : NodesKept NoNode NoNode NoNode (OwnCount t s) t (hold t s)
+  pub holding : NodesKept NoNode NoNode NoNode (OwnCount t s) t (hold t s)
   unfolding hold
   holding = kept-then {u = moveTo t s 5 0 0} only-seats (count-kept (moveTo t s 5 0 0) (kindOf t s) _)
 
@@ -189,6 +199,19 @@ module _ (t : Tables) (s : ℕ) where
       kept-then {u = u}
       (seats-aside (kept-but (λ a x. x) (λ a x. x) (λ a x. x) (λ i x. absurd x) (mark-kept t (own t s) 1)))
       (kept-but (λ a x. x) (λ a x. absurd x) (λ a x. x) (λ i x. x) (count-kept u (kindOf t s) _))
+
+-- ---- phase 1, on either profile
+abbrev pub OwnCountOnSheet : Tables → ℕ → ℕ → Type 0
+OwnCountOnSheet t s i = (t .sheet ≡ true) × OwnCount t s i
+
+pub walking : (t : Tables) (s : ℕ) {u : Tables} → Walking t s u → NodesKept (OwnOrPrev t s) NoNode NoNode (OwnCountOnSheet t s) t u
+walking t s w = elim (walking-unless-held t s w) [
+  | inl e ↦ rw (e .1)
+      (kept-then
+      (kept-but (λ a x. x) (λ a x. x) (λ a x. x) (λ i x. absurd x) (linking-in t s))
+      (kept-but (λ a x. absurd x) (λ a x. x) (λ a x. x) (λ i x. (e .0, x ∙ ap countAt (linked-kind t s))) (holding (linkIn t s) s)))
+  | inr f ↦ kept-but (λ a x. x) (λ a x. x) (λ a x. x) (λ i x. absurd x) f
+]
 
 -- ---- fetch: the node taken and, where the marked ones are taken out first, the links of the head and of the claims that stand
 module _ (t : Tables) (a : ℕ) (c : Claim) where
@@ -285,8 +308,8 @@ fetched-kept r w d = rw (fetched-own r w d) (fetching w)
 
 -- ---- the calls
 module _ (t : Tables) (s : ℕ) where
-  pub step-1-kept : phase t s ≡ 1 → NodesKept (OwnOrPrev t s) NoNode NoNode NoPlace t (step t s .after)
-  step-1-kept e = step-or-same t s (NodesKept (OwnOrPrev t s) NoNode NoNode NoPlace t) (kept-same t) (λ x y z. rw (by-phase-1 t s e) (walking t s (walks t s)))
+  pub step-1-kept : phase t s ≡ 1 → NodesKept (OwnOrPrev t s) NoNode NoNode (OwnCountOnSheet t s) t (step t s .after)
+  step-1-kept e = step-or-same t s (NodesKept (OwnOrPrev t s) NoNode NoNode (OwnCountOnSheet t s) t) (kept-same t) (λ x y z. rw (by-phase-1 t s e) (walking t s (walks t s)))
 
   pub step-2-kept : phase t s ≡ 2 → NodesKept NoNode NoNode NoNode NoPlace t (step t s .after)
   step-2-kept e = step-or-same t s (NodesKept NoNode NoNode NoNode NoPlace t) (kept-same t) (λ x y z. rw (by-phase-2 t s e) (waking t s (wakes-to-walk t s)))
@@ -327,7 +350,7 @@ module _ (t : Tables) (s : ℕ) where
     where
       reserved-kept : {d : Done Answer} → Reserving t s c d → FetchKept s t (d .after)
       reserved-kept (reserve-refused k r) = kept-same t
-      reserved-kept (reserve-accepted {f = f} e h p i z w) = unfold reserved in
+      reserved-kept (reserve-accepted {f = f} e h p k i z w) = unfold reserved in
           branch (λ (d : Done Answer). FetchKept s t (d .after)) (f .node is 0)
           (λ q. kept-same t) (λ q. fetched-kept (sound-room t s e h) w (eqb-false (f .node) 0 q))
 

@@ -21,7 +21,7 @@ use Rattle.rules.proofs.Laws.Words.{seat-within}
 use Rattle.rules.proofs.Laws.Shape.{is-sound}
 use Rattle.rules.proofs.Rules.Effects.{Room, Seated}
 use Rattle.rules.proofs.Rules.RuleEffects.{phase-stored, cur-stored, place-stored, pass-stored, start-stored, hold-stored, withdraw-stored, leave-stored, reserve-stored, enter-stored}
-use Rattle.rules.proofs.Rules.Reasons.{Unlinking, takes-out, goes-past, Starting, as-reader, as-writer, Inserting, links-in, restarts, rereads, Walking, inserts, unlinks, passes, waits, Waking, wakes, stays, ReaderValidating, reader-holds, reader-unlinks, reader-passes, reader-waits, WriterValidating, writer-holds, writer-unlinks, writer-passes, withdraws, Validating, validates-reader, validates-writer, Fetching, found, found-then, none, Stepping, in-1, in-2, in-3, in-4, in-6, in-7, at-rest}
+use Rattle.rules.proofs.Rules.Reasons.{Unlinking, takes-out, goes-past, Starting, as-reader, as-writer, on-sheet, Inserting, links-in, restarts, rereads, Walking, inserts, unlinks, passes, waits, Waking, wakes, stays, ReaderValidating, reader-holds, reader-unlinks, reader-passes, reader-waits, WriterValidating, writer-holds, writer-unlinks, writer-passes, withdraws, Validating, validates-reader, validates-writer, Fetching, found, found-then, none, Stepping, in-1, in-2, in-3, in-4, in-6, in-7, at-rest}
 use Rattle.rules.proofs.Rules.Accepting.{Reserving, reserve-refused, reserve-accepted, reserving, Entering, enter-refused, enter-accepted, enters, Stepped, step-refused, step-accepted, stepped, Releasing, release-refused, release-accepted, releasing}
 use Rattle.rules.proofs.Laws.NodesAlone.{taken-out-profile, taken-out-seats}
 
@@ -40,9 +40,10 @@ module _ (t : Tables) (s : ℕ) (r : Room t s) where
   unlinking (goes-past e) = others (cur-stored t s r (next t (cur t s)))
 
   starting : {u : Tables} → Starting (linkIn t s) s u → OtherSeatsKept s t u
-  unfolding linkIn
-  starting (as-reader k) = others (start-stored t s r 3 (own t s) (next (linkIn t s) (own t s)))
-  starting (as-writer k) = others (start-stored t s r 3 0 (head (linkIn t s)))
+  unfolding linkIn hold
+  starting (as-reader n k) = others (start-stored t s r 3 (own t s) (next (linkIn t s) (own t s)))
+  starting (as-writer n k) = others (start-stored t s r 3 0 (head (linkIn t s)))
+  starting (on-sheet q) = others (start-stored t s r 5 0 0)
 
   inserting : {u : Tables} → Inserting t s u → OtherSeatsKept s t u
   inserting (links-in j w) = starting w
@@ -119,7 +120,7 @@ module _ (t : Tables) (s : ℕ) where
 
   reserve-others : {c : Claim} {d : Done Answer} → Reserving t s c d → OtherSeatsKept s t (d .after)
   reserve-others (reserve-refused k r) = same s t
-  reserve-others (reserve-accepted {f = f} e h p i z w) = reserved-keeps f (fetching t s (sound-room t s e h) w)
+  reserve-others (reserve-accepted {f = f} e h p k i z w) = reserved-keeps f (fetching t s (sound-room t s e h) w)
 
   enter-others : {d : Done Answer} → Entering t s d → OtherSeatsKept s t (d .after)
   unfolding entering

@@ -19,7 +19,7 @@ use Rattle.rules.specs.Refusing.{WithinTitle, damaged}
 use Rattle.rules.specs.Apart.{NodesKept, NoNode}
 use Rattle.rules.specs.Title.{AllWithin, ReservesBeyond}
 use Rattle.rules.proofs.Ground.Logic.{branch, not-of}
-use Rattle.rules.proofs.Laws.Words.{node-put-field, node-put-link, node-put-at-most, count-not-title, fresh-title, fresh-node-word}
+use Rattle.rules.proofs.Laws.Words.{node-put-field, node-put-link, node-put-has, count-not-title, fresh-title, fresh-node-word}
 use Rattle.rules.proofs.Laws.Shape.{is-sound}
 use Rattle.rules.proofs.Laws.RunSteps.{requests-keep, reached-has}
 use Rattle.rules.proofs.Rules.Reasons.{Fetching, found, found-then, none, Stepping, in-1, in-2, in-3, in-4, in-6, in-7, at-rest}
@@ -63,7 +63,7 @@ written-at-most t a b most c i j =
       node-put-link (t .sheet) l₃ a b endAt 0 (omega arith) (omega arith),
       node-put-field (t .sheet) l₂ a b kindAt endAt (c .kind) (omega arith) (omega arith) (omega arith),
     )
-    (node-put-at-most (t .sheet) l₁ a b endAt (c .end) most (omega arith) i
+    (node-put-has (λ x. x ≤ most) (t .sheet) l₁ a b endAt (c .end) i
     (rw (node-put-field (t .sheet) (t .nodes) a b startAt endAt (c .start) (omega arith) (omega arith) (omega arith)) j))
 
 taken-within : (t : Tables) (s a : ℕ) (c : Claim) → WithinTitle t c → AllWithin t → AllWithin (takeNode t s a c)
@@ -89,7 +89,7 @@ fetch-stays i f = record { same-title = kept-title (λ z. z) (fetching f); still
 module _ (t : Tables) (s : ℕ) where
   stepping-stays : {d : Done Answer} → Stepping t s d → Stays t (d .after)
   unfolding refetched
-  stepping-stays (in-1 e w) = kept-stays (λ z. z) (walking t s w)
+  stepping-stays (in-1 e w) = kept-stays (λ z. not-own-count t s (z .1)) (walking t s w)
   stepping-stays (in-2 e w) = kept-stays (λ z. z) (waking t s w)
   stepping-stays (in-3 e w) = kept-stays (not-own-count t s) (validating t s w)
   stepping-stays (in-4 e w) = kept-stays (λ z. z) (waking t s w)
@@ -106,7 +106,7 @@ module _ (t : Tables) (s : ℕ) where
   reserved-stays : {c : Claim} {d : Done Answer} → Reserving t s c d → Stays t (d .after)
   unfolding reserved
   reserved-stays (reserve-refused k x) = as-found t
-  reserved-stays (reserve-accepted {f = f} e h p i z w) =
+  reserved-stays (reserve-accepted {f = f} e h p k i z w) =
       branch (λ (d : Done Answer). Stays t (d .after)) (f .node is 0)
       (λ q. as-found t) (λ q. fetch-stays (λ all. i) w)
 
@@ -138,7 +138,7 @@ all-kept t requests = requests-keep AllWithin within-kept requests t
 -- ---- a claim is taken only within the title, and nothing but a reserve is refused for ending beyond it
 reserved-within : {t : Tables} {s n : ℕ} {c : Claim} {d : Done Answer} → Reserving t s c d → d .answer ≡ node n → WithinTitle t c
 reserved-within (reserve-refused k x) q = not-refused (sym q)
-reserved-within (reserve-accepted e h p i z w) q = i
+reserved-within (reserve-accepted e h p k i z w) q = i
 
 pub node-within : (t : Tables) (s n : ℕ) (c : Claim) → reserve t s c .answer ≡ node n → WithinTitle t c
 node-within t s n c = reserved-within (reserving t s c)

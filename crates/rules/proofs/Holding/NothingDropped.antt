@@ -102,7 +102,7 @@ module _ {N S : ℕ} {t : Tables} (g : Good N S t) where
   -- ---- a call of the seat itself
   kept-by-reserve : (s : ℕ) (c : Claim) {d : Done Answer} → Linked (phase t s) → Reserving t s c d → StillStands s t (d .after)
   kept-by-reserve s c l (reserve-refused k x) = stands-as-it-is g s l
-  kept-by-reserve s c l (reserve-accepted e h p i z w) = absurd (linked-busy l z)
+  kept-by-reserve s c l (reserve-accepted e h p k i z w) = absurd (linked-busy l z)
 
   kept-by-enter : (s : ℕ) {d : Done Answer} → Linked (phase t s) → Entering t s d → StillStands s t (d .after)
   kept-by-enter s l (enter-refused k x) = stands-as-it-is g s l

@@ -75,7 +75,7 @@ reserve-leaves t s n c = go (reserving t s c)
   where
     go : {d : Done Answer} → Reserving t s c d → d .answer ≡ node n → HasReserved (d .after) s n c
     go (reserve-refused k x) q = not-refused (sym q)
-    go (reserve-accepted {f = f} e h p i z w) q = unfold reserved in
+    go (reserve-accepted {f = f} e h p k i z w) q = unfold reserved in
         branch (λ (d : Done Answer). d .answer ≡ node n → HasReserved (d .after) s n c) (f .node is 0)
         (λ y q. not-refused (sym q))
         (λ y q. let m : f .node ≡ n = cc in rw m at (fetched-has e h (eqb-false (f .node) 0 y) w))

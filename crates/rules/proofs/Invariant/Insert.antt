@@ -1,5 +1,5 @@
--- A claim is linked in behind prev, and its seat starts to validate. The invariant stays: a new reader has every writer that starts
--- within it ahead, a new writer starts at the head. The phase that the seat comes to is a parameter.
+-- A claim is linked in behind prev, and its seat starts to validate, or holds where nobody reads. The invariant stays: a new reader has every
+-- writer that starts within it ahead, a new writer starts at the head. The phase that the seat comes to is a parameter.
 use mathlib.Core.Path.{_≡_, refl, sym, _∙_, ap}
 use mathlib.Core.Logic.{_≢_, _⊎_, inl, inr}
 use Prim.Native.Nat.{ℕ, suc, _≤_, _<_}
@@ -7,19 +7,21 @@ use native.Mathlib.Omega.{arith}
 use Rattle.rules.proofs.Ground.Deciding.{if-same}
 use Rattle.rules.proofs.Ground.Following.{reach-source, reach-on, not-from-0, beyond, linear, more, insert-keeps-reach, insert-adds-own, insert-reaches-own, insert-keeps-list, insert-keeps-ends}
 use Rattle.rules.specs.Reach.{Reach, here}
-use Rattle.rules.proofs.Invariant.View.{Nodes, Seats, claimAt, Unmarked, relink, Outside, walking, Linked, validating}
+use Rattle.rules.proofs.Invariant.View.{Nodes, Seats, claimAt, Unmarked, relink, Outside, walking, Linked, validating, holding}
 use Rattle.rules.proofs.Invariant.Phases.{outside-busy, linked-busy, not-both}
 use Rattle.rules.proofs.Invariant.Clauses.{nothing, NodeShape, SeatShape, OnList, Seen, from-head, from-prev, from-cur, Ending, Ordered, Standing, Ahead, reader-comes, writer-comes, Invariant}
 use Rattle.rules.proofs.Invariant.Known.{along, Known, known-on, known-head, known-link, known-ends, seen-pos, seen-proper, own-pos, own-proper, precedes-ordered, hidden}
-use Rattle.rules.proofs.Invariant.SeatShapes.{not-waiting, on-its-way}
+use Rattle.rules.proofs.Invariant.SeatShapes.{not-waiting, on-its-way, at-rest}
 use Rattle.rules.proofs.Invariant.SeatMoves.{Moved, not-stuck}
 use Rattle.rules.proofs.Invariant.Unlink.{relink-shape}
+use Rattle.rules.proofs.Laws.Shape.{in-5}
 
 -- where a seat goes on once its claim is linked, by phase P, prev Q and cur C: a reader validates behind own, a writer from the head as
--- it then is
+-- it then is; where no node's claim reads, it holds
 pub data Starts (n : Nodes) (new : ℕ → ℕ) (own prev P Q C : ℕ) : Type 0 where
   reader : P ≡ 3 → n .kind own ≡ 1 → Q ≡ own → C ≡ n .link prev → Starts n new own prev P Q C
   writer : P ≡ 3 → n .kind own ≡ 2 → Q ≡ 0 → C ≡ new 0 → Starts n new own prev P Q C
+  holder : P ≡ 5 → ((a : ℕ) → n .kind a ≢ 1) → Q ≡ 0 → C ≡ 0 → Starts n new own prev P Q C
 
 module _ {N : ℕ} {n : Nodes} {s u : Seats} (v : Invariant N n s) (new : ℕ → ℕ) (i P Q C : ℕ) (walks : s .phase i ≡ 1)
     (prev-unmarked : Unmarked n (s .prev i)) (new-own : new (s .own i) ≡ n .link (s .prev i)) (new-prev : new (s .prev i) ≡ s .own i)
@@ -36,7 +38,7 @@ module _ {N : ℕ} {n : Nodes} {s u : Seats} (v : Invariant N n s) (new : ℕ �
   out = walking walks
 
   linked-P : Linked P
-  linked-P = elim starts [ reader x k q c ↦ validating x | writer x k q c ↦ validating x ]
+  linked-P = elim starts [ reader x k q c ↦ validating x | writer x k q c ↦ validating x | holder x k q c ↦ holding x ]
 
   o-pos : 0 < o
   o-pos = own-pos v i (outside-busy out)
@@ -73,10 +75,10 @@ module _ {N : ℕ} {n : Nodes} {s u : Seats} (v : Invariant N n s) (new : ℕ �
       (λ e. from-known known-head (rw (old 0 (omega (arith, o-pos)) e) at r))
 
   from-Q : {a : ℕ} → Reach new a Q → (a ≡ o) ⊎ Seen (n .link) s a
-  from-Q r = elim starts [ reader x k q c ↦ from-own (rw q at r) | writer x k q c ↦ absurd (not-from-0 r q) ]
+  from-Q r = elim starts [ reader x k q c ↦ from-own (rw q at r) | writer x k q c ↦ absurd (not-from-0 r q) | holder x k q c ↦ absurd (not-from-0 r q) ]
 
   from-C : {a : ℕ} → Reach new a C → (a ≡ o) ⊎ Seen (n .link) s a
-  from-C r = elim starts [ reader x k q c ↦ from-known (known-link i) (rw c at r) | writer x k q c ↦ from-new-head (rw c at r) ]
+  from-C r = elim starts [ reader x k q c ↦ from-known (known-link i) (rw c at r) | writer x k q c ↦ from-new-head (rw c at r) | holder x k q c ↦ absurd (not-from-0 r c) ]
 
   seen-was : {a : ℕ} → Seen new u a → (a ≡ o) ⊎ Seen (n .link) s a
   seen-was (from-head r) = from-new-head r
@@ -149,6 +151,7 @@ module _ {N : ℕ} {n : Nodes} {s u : Seats} (v : Invariant N n s) (new : ℕ �
       let d : o ≢ s .own w = λ e. let y = ap (n .kind) e in omega arith in
       elim starts [
         | writer x k z c ↦ absurd (omega arith)
+        | holder x k z c ↦ absurd (k o ko)
         | reader x k z c ↦
             reader-comes (rw (m .phase-i) (omega arith))
             (elim (linear own-on-list on) [
@@ -160,10 +163,11 @@ module _ {N : ℕ} {n : Nodes} {s u : Seats} (v : Invariant N n s) (new : ℕ �
             ])
       ]
 
-  new-writer-ahead : (g : ℕ) → Linked (u .phase g) → n .kind o ≡ 2 → Ahead new u g i
-  new-writer-ahead g lg ko =
+  new-writer-ahead : (g : ℕ) → Linked (u .phase g) → n .kind (s .own g) ≡ 1 → n .kind o ≡ 2 → Ahead new u g i
+  new-writer-ahead g lg kg ko =
       elim starts [
         | reader x k z c ↦ absurd (omega arith)
+        | holder x k z c ↦ absurd (k (s .own g) kg)
         | writer x k z c ↦ writer-comes (rw (m .phase-i) (omega arith)) (rw (own-kept g, m .cur-i, c) (linked g lg .on-list))
       ]
 
@@ -177,7 +181,7 @@ module _ {N : ℕ} {n : Nodes} {s u : Seats} (v : Invariant N n s) (new : ℕ �
       if-same g i
       (λ e. rw e (new-reader-ahead w lw (rw e at kg) kw (rw e at a)))
       (λ d. if-same w i
-      (λ e. rw e (new-writer-ahead g lg (rw e at kw)))
+      (λ e. rw e (new-writer-ahead g lg kg (rw e at kw)))
       (λ d′. others-ahead g w d d′ (v .unsettled g w (was-linked g d lg) (was-linked w d′ lw) kg kw a b)))
 
   -- ---- the shape
@@ -198,10 +202,11 @@ module _ {N : ℕ} {n : Nodes} {s u : Seats} (v : Invariant N n s) (new : ℕ �
             (on-its-way (omega arith) (omega arith) (not-waiting (omega arith) (omega arith)) o-pos own-named own-named (v .nodes .links p))
         | writer x k q c ↦ rw (q, c)
             (on-its-way (omega arith) (omega arith) (not-waiting (omega arith) (omega arith)) o-pos own-named (nothing refl) (nodes .links 0))
+        | holder x k q c ↦ rw (q, c) (at-rest (in-5 x) o-pos own-named)
       ]
 
   starts-behind : n .kind o ≡ 1 → 0 < C → n .start o ≤ n .start C
-  starts-behind k h = elim starts [ reader x l q c ↦ rw c (front (rw c at h) .starts) | writer x l q c ↦ absurd (omega arith) ]
+  starts-behind k h = elim starts [ reader x l q c ↦ rw c (front (rw c at h) .starts) | writer x l q c ↦ absurd (omega arith) | holder x l q c ↦ absurd (l o k) ]
 
   pub insert-keeps : Invariant N (relink n new) u
   insert-keeps = record {
@@ -227,7 +232,11 @@ module _ {N : ℕ} {n : Nodes} {s u : Seats} (v : Invariant N n s) (new : ℕ �
     ends = λ z. ends (seen-was z);
     passed = λ j h. let k = was-outside j h in rw (own-kept j, m .prev-j j (k .0)) (v .passed j (k .1));
     stuck = λ j. if-same j i
-        (λ e. rw (e, m .phase-i) (elim starts [ reader x k q c ↦ not-stuck (omega arith) (omega arith) | writer x k q c ↦ not-stuck (omega arith) (omega arith) ]))
+        (λ e. rw (e, m .phase-i) (elim starts [
+          | reader x k q c ↦ not-stuck (omega arith) (omega arith)
+          | writer x k q c ↦ not-stuck (omega arith) (omega arith)
+          | holder x k q c ↦ not-stuck (omega arith) (omega arith)
+        ]))
         (λ d. rw (m .phase-j j d, m .cur-j j d, m .own-j j d) (v .stuck j));
     reader-cur = λ j h. if-same j i
         (λ e. rw (e, m .own-i, m .cur-i) starts-behind)

@@ -47,7 +47,7 @@ module _ {N S : ℕ} {t : Tables} (g : Good N S t) (s : ℕ) where
   stepping-keeps h (in-2 e w) = waiting-keeps g s h e w
   stepping-keeps h (in-3 e w) = validating-keeps g s h e w
   stepping-keeps h (in-4 e w) = reader-waiting-keeps g s h e w
-  stepping-keeps h (in-6 {f = f} e w) = refetched-good f (fetch-keeps g s h (claimOf t (own t s)) (own-proper (g .inv) s (omega arith)) (inr e) w)
+  stepping-keeps h (in-6 {f = f} e w) = refetched-good f (fetch-keeps g s h (claimOf t (own t s)) (own-proper (g .inv) s (omega arith)) (λ q. g .aside .kinds q (own t s)) (inr e) w)
   stepping-keeps h (in-7 e) = entering-keeps g s h e
   stepping-keeps h (at-rest a b c d e f) = g
 
@@ -60,7 +60,7 @@ module _ {N S : ℕ} {t : Tables} (g : Good N S t) (s : ℕ) where
 
   reserving-keeps : {c : Claim} {d : Done Answer} → Reserving t s c d → Good N S (d .after)
   reserving-keeps (reserve-refused k r) = g
-  reserving-keeps {c} (reserve-accepted {f = f} e h p i z w) = reserved-good f (fetch-keeps g s (seat-in h) c p (inl z) w)
+  reserving-keeps {c} (reserve-accepted {f = f} e h p k i z w) = reserved-good f (fetch-keeps g s (seat-in h) c p k (inl z) w)
 
   enters-keeps : {d : Done Answer} → Entering t s d → Good N S (d .after)
   enters-keeps (enter-refused k r) = g
@@ -125,7 +125,7 @@ module _ (sheet : Bool) (N S frames : ℕ) where
   }
 
   fresh-good : Good N S t₀
-  fresh-good = record { aside = record { nodes-long = fresh-nodes-length sheet N S frames; seats-long = fresh-seats-length sheet N S frames; seat = λ s. record { idle = λ z f h. fresh-seat-word sheet N S frames s f } }; inv = fresh-invariant }
+  fresh-good = record { aside = record { nodes-long = fresh-nodes-length sheet N S frames; seats-long = fresh-seats-length sheet N S frames; seat = λ s. record { phases = rw (idle s) (λ q. (omega arith, omega arith, omega arith)); idle = λ z f h. fresh-seat-word sheet N S frames s f }; kinds = λ q a. rw (fresh-node-word sheet N S frames a kindAt) (omega arith) }; inv = fresh-invariant }
 
 -- ---- every table that is reached
 pub good : {N S : ℕ} {t : Tables} → Reached N S t → Good N S t

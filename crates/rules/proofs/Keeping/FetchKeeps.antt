@@ -12,12 +12,12 @@ use Rattle.rules.specs.Fetch.{Fetched, writeClaim, reserveFor, takeNode}
 use Rattle.rules.proofs.Laws.Words.{link-node, node-count}
 use Rattle.rules.proofs.Ground.Counting.{lowest-has}
 use Rattle.rules.proofs.Invariant.View.{nodesOf}
-use Rattle.rules.specs.Refusing.{Proper}
+use Rattle.rules.specs.Refusing.{Proper, WritesOnSheet}
 use Rattle.rules.proofs.Invariant.Take.{Written, take-keeps}
 use Rattle.rules.proofs.Rules.Effects.{stored, reseated, Noded, node-as-found, put-word, put-next}
 use Rattle.rules.proofs.Rules.RuleEffects.{reserve-stored}
 use Rattle.rules.proofs.Rules.Reasons.{Fetching, found, found-then, none}
-use Rattle.rules.proofs.Keeping.Aside.{not-idle, seat-put, node-room, seat-room, claim-put}
+use Rattle.rules.proofs.Keeping.Aside.{busy, seat-put, node-room, seat-room, claim-put}
 use Rattle.rules.proofs.Keeping.Good.{Good}
 use Rattle.rules.proofs.Laws.NodesAlone.{taken-out-profile, taken-out-seats}
 use Rattle.rules.proofs.Keeping.TakeOut.{taken-out-good}
@@ -52,14 +52,14 @@ written t a c z r p =
       mark-a = λ b d. w .others b markAt d (omega arith);
     }
 
-module _ {N S : ℕ} {t : Tables} (g : Good N S t) (s : ℕ) (s-in : s < S) (c : Claim) (proper : Proper c) (may : (phase t s ≡ 0) ⊎ (phase t s ≡ 6)) where
+module _ {N S : ℕ} {t : Tables} (g : Good N S t) (s : ℕ) (s-in : s < S) (c : Claim) (proper : Proper c) (writes : WritesOnSheet t c) (may : (phase t s ≡ 0) ⊎ (phase t s ≡ 6)) where
   take-good : (a : ℕ) → free t s a ≡ true → a ≢ 0 → a ≤ N → Good N S (takeNode t s a c)
   unfolding takeNode reserveFor writeClaim
   take-good a f z h =
       let u = writeClaim t a c in
       let sat = reserve-stored u s (seat-room (g .aside) s s-in) a in
       record {
-        aside = seat-put (claim-put (g .aside) a c) sat (not-idle (omega arith));
+        aside = seat-put (claim-put (g .aside) a c writes) sat (busy (omega arith) (omega arith) (omega arith) (omega arith));
         inv = take-keeps (g .inv) (is-free g s a f z h) (written t a c z (node-room (g .aside) a h) proper) (reseated t (reserveFor u s a) refl sat) h may;
       }
 
@@ -70,8 +70,9 @@ module _ {N S : ℕ} {t : Tables} (g : Good N S t) (s : ℕ) (s-in : s < S) (c :
       let w = lowest-has (nodeCount t) (free t s) a e z in
       take-good a (w .0) z (rw (node-count t N (g .aside .nodes-long)) at (w .1))
 
-pub fetch-keeps : {N S : ℕ} {t : Tables} → Good N S t → (s : ℕ) → s < S → (c : Claim) → Proper c → (phase t s ≡ 0) ⊎ (phase t s ≡ 6)
+pub fetch-keeps : {N S : ℕ} {t : Tables} → Good N S t → (s : ℕ) → s < S → (c : Claim) → Proper c → WritesOnSheet t c → (phase t s ≡ 0) ⊎ (phase t s ≡ 6)
     → {f : Fetched} → Fetching t s c f → Good N S (f .after)
-fetch-keeps g s s-in c p may (found a e z) = lowest-good g s s-in c p may a e z
-fetch-keeps {t = t} g s s-in c p may (found-then a e e′ z) = lowest-good (taken-out-good g) s s-in c p (rw (taken-out-profile t, taken-out-seats t) may) a e′ z
-fetch-keeps g s s-in c p may (none e e′) = g
+fetch-keeps g s s-in c p k may (found a e z) = lowest-good g s s-in c p k may a e z
+fetch-keeps {t = t} g s s-in c p k may (found-then a e e′ z) =
+    lowest-good (taken-out-good g) s s-in c p (rw (taken-out-profile t) k) (rw (taken-out-profile t, taken-out-seats t) may) a e′ z
+fetch-keeps g s s-in c p k may (none e e′) = g

@@ -20,7 +20,7 @@ use Rattle.rules.proofs.Invariant.Insert.{Starts, reader, writer, inser
 use Rattle.rules.proofs.Invariant.Leave.{Leaves, leave-keeps}
 use Rattle.rules.proofs.Rules.Effects.{Seated, reseated, same-nodes, only-links, only-marks}
 use Rattle.rules.proofs.Rules.Reasons.{Joined}
-use Rattle.rules.proofs.Keeping.Aside.{SeatAside, not-idle, Aside, link-put, word-put, count-put, seat-put, node-room, linked-in}
+use Rattle.rules.proofs.Keeping.Aside.{SeatAside, Aside, link-put, word-put, count-put, seat-put, node-room, linked-in}
 
 pub record Good (N S : ℕ) (t : Tables) : Type 0 where
   pub aside : Aside N S t
@@ -104,11 +104,11 @@ module _ {N S : ℕ} {t : Tables} (g : Good N S t) (s : ℕ) where
           | inr q ↦ precedes-ordered (own-proper (g .inv) s (outside-busy (walking walks))) q
         ])
 
-    pub links-in-good : {seats : List ℕ} {words : ℕ → ℕ} → Seated (t .sheet) (t .seats) seats s words → words ownAt ≡ o
+    pub links-in-good : {seats : List ℕ} {words : ℕ → ℕ} → Seated (t .sheet) (t .seats) seats s words → words ownAt ≡ o → SeatAside (t .sheet) words
         → Starts (nodesOf t) (link (linkIn t s)) o p (words phaseAt) (words prevAt) (words curAt) → Good N S (tables (t .sheet) (linkIn t s .nodes) seats)
     unfolding linkIn
-    links-in-good {seats} {words} w e st = record {
-      aside = linked-aside w (not-idle (elim st [ reader p k q c ↦ omega arith | writer p k q c ↦ omega arith ]));
+    links-in-good {seats} {words} w e k st = record {
+      aside = linked-aside w k;
       inv = subst (λ n. Invariant N n (seatsOf (tables (t .sheet) (linkIn t s .nodes) seats))) (only-links t (linkIn t s) (link-in-words t s))
           (insert-keeps (g .inv) (link (linkIn t s)) s (words phaseAt) (words prevAt) (words curAt) walks (join .unmarked)
           (new-own ∙ sym (join .to-cur)) new-prev old-links (rw e at (reseated t (tables (t .sheet) (linkIn t s .nodes) seats) refl w)) st in-front);
@@ -123,7 +123,7 @@ module _ {N S : ℕ} {t : Tables} (g : Good N S t) (s : ℕ) where
       let u = tables (t .sheet) (setMark t o 1 .nodes) seats in
       let r : Reseated (seatsOf t) (seatsOf u) s (words phaseAt) (words ownAt) 0 0 = rw (ep, ec) at (reseated t u refl w) in
       record {
-        aside = seat-put (word-put (g .aside) markAt o 1) w k;
+        aside = seat-put (word-put (g .aside) markAt o 1 (omega arith) (omega arith)) w k;
         inv = subst (λ n. Invariant N n (seatsOf u))
             (only-marks t (setMark t o 1) (λ a f b d. node-put-field (t .sheet) ns o a markAt f 1 (omega arith) b (λ e. d (sym e)))
             (λ a. link-put-field (t .sheet) ns o a markAt 1 (omega arith) (omega arith)))

@@ -43,7 +43,7 @@ kinds-apart (inr p) (inr q) d = absurd (d (p ∙ sym q))
 module _ (t : Tables) (e : sound t ≡ true) where
   -- who has a claim has one of a kind
   pub own-kind : (s : ℕ) → phase t s ≢ 0 → IsKind (kindOf t s)
-  own-kind s b = let w = is-sound t e .seat s in elim (w .own-names) [ inl z ↦ absurd (w .owning b z) | inr q ↦ q .1 ]
+  own-kind s b = let w = is-sound t e .seat s in elim (w .own-names) [ inl z ↦ absurd (w .owning b z) | inr q ↦ q .1 .0 ]
 
   few-holders : (k : ℕ) → holdersOfKind t k ≤ 64
   unfolding holdersOfKind

@@ -1,6 +1,6 @@
 -- Sound shape as facts: a record with a field for each clause of the Bool test `sound`, and both ways between them.
 use mathlib.Core.Path.{_≡_, refl}
-use mathlib.Core.Bool.{Bool, true, not, _&&_, _||_}
+use mathlib.Core.Bool.{Bool, true, false, not, _&&_, _||_}
 use mathlib.Core.Logic.{_≢_, _⊎_, inl, inr, ⊎-elim}
 use mathlib.Core.List.{List}
 use Prim.Native.Nat.{ℕ, zero, suc, _+_, _*_, _≤_, _<_}
@@ -10,9 +10,9 @@ use lib.ListN.{length}
 use borrow.Author.Tests.{eqb-true, eqb-false, leb-true, leb-false, ltb-true, ltb-false, eq-eqb, ne-eqb, le-leb, lt-ltb}
 use Rattle.rules.specs.Notation.{_is_, _≤?_, _<?_}
 use Rattle.rules.specs.Tables.{Tables, tables, seatCountOf, nodeCount, seatCount, beforeNodes, nodeWidth, seatWidth, endAt, phaseAt, ownAt, prevAt, curAt, seatWord, readers, writers, countWord, title, start, end, kind, mark, link, next, head, phase, own, prev, cur}
-use Rattle.rules.specs.Shape.{nodesFit, seatsFit, lengthsFit, isKind, zeroNode, claimNode, names, nodeSound, isPhase, zeroSeat, idleOrOwning, restingAtZero, waitingAtCur, seatSound, holdersOfKind, countsFit, endsBy, titleFits, endsWithin, nodesSound, seatsSound, sound}
+use Rattle.rules.specs.Shape.{nodesFit, seatsFit, lengthsFit, isKind, mayClaim, zeroNode, claimNode, names, nodeSound, mayBeIn, isPhase, zeroSeat, idleOrOwning, restingAtZero, waitingAtCur, seatSound, holdersOfKind, countsFit, endsBy, titleFits, endsWithin, nodesSound, seatsSound, sound}
 use Rattle.rules.specs.Title.{AllWithin}
-use Rattle.rules.proofs.Ground.Logic.{either, or-left, or-right, or-case, and-left, and-right, and-both, both, all3, all4, all5, all7, not-true, of-not, branch, all-at, all-of}
+use Rattle.rules.proofs.Ground.Logic.{clash, either, or-left, or-right, or-case, and-left, and-right, and-both, both, all3, all4, all5, all7, not-true, of-not, branch, all-at, all-of}
 use Rattle.rules.proofs.Ground.Deciding.{if-same}
 use Rattle.rules.proofs.Laws.Words.{node-zero, node-past, link-past, seat-past}
 
@@ -29,24 +29,38 @@ unfolding isKind
 kind-is k (inl p) = or-left (k is 1) (k is 2) (eq-eqb k 1 p)
 kind-is k (inr p) = or-right (k is 1) (k is 2) (eq-eqb k 2 p)
 
--- ---- a name: 0, or a node of kind 1 or 2
+-- the kinds that a claim may have, by the profile
+abbrev pub MayClaim : Bool → ℕ → Type 0
+MayClaim sheet k = IsKind k × (sheet ≡ true → k ≢ 1)
+
+pub may-claim : (sheet : Bool) (k : ℕ) → mayClaim sheet k ≡ true → MayClaim sheet k
+unfolding mayClaim
+may-claim true k e = let p = eqb-true k 2 e in (inr p, λ q. omega arith)
+may-claim false k e = (is-kind k e, λ q. absurd (clash false q refl))
+
+pub claim-may : (sheet : Bool) (k : ℕ) → MayClaim sheet k → mayClaim sheet k ≡ true
+unfolding mayClaim
+claim-may true k w = eq-eqb k 2 (elim (w .0) [ inl p ↦ absurd (w .1 refl p) | inr p ↦ p ])
+claim-may false k w = kind-is k (w .0)
+
+-- ---- a name: 0, or a node of a kind that a claim may have
 abbrev pub Names : Tables → ℕ → Type 0
-Names t a = (a ≡ 0) ⊎ ((a ≤ nodeCount t) × IsKind (kind t a))
+Names t a = (a ≡ 0) ⊎ ((a ≤ nodeCount t) × MayClaim (t .sheet) (kind t a))
 
 pub named : (t : Tables) (a : ℕ) → names t a ≡ true → Names t a
 unfolding names
 named t a e =
     ⊎-elim
     (λ p. inl (eqb-true a 0 p))
-    (λ p. let w = both (a ≤? nodeCount t) (isKind (kind t a)) p in inr (leb-true a (nodeCount t) (w .0), is-kind (kind t a) (w .1)))
-    (or-case (a is 0) (a ≤? nodeCount t && isKind (kind t a)) e)
+    (λ p. let w = both (a ≤? nodeCount t) (mayClaim (t .sheet) (kind t a)) p in inr (leb-true a (nodeCount t) (w .0), may-claim (t .sheet) (kind t a) (w .1)))
+    (or-case (a is 0) (a ≤? nodeCount t && mayClaim (t .sheet) (kind t a)) e)
 
 pub name-of : (t : Tables) (a : ℕ) → Names t a → names t a ≡ true
 unfolding names
-name-of t a (inl p) = or-left (a is 0) (a ≤? nodeCount t && isKind (kind t a)) (eq-eqb a 0 p)
+name-of t a (inl p) = or-left (a is 0) (a ≤? nodeCount t && mayClaim (t .sheet) (kind t a)) (eq-eqb a 0 p)
 name-of t a (inr p) =
-    or-right (a is 0) (a ≤? nodeCount t && isKind (kind t a))
-    (and-both (a ≤? nodeCount t) (isKind (kind t a)) (le-leb a (nodeCount t) (p .0)) (kind-is (kind t a) (p .1)))
+    or-right (a is 0) (a ≤? nodeCount t && mayClaim (t .sheet) (kind t a))
+    (and-both (a ≤? nodeCount t) (mayClaim (t .sheet) (kind t a)) (le-leb a (nodeCount t) (p .0)) (claim-may (t .sheet) (kind t a) (p .1)))
 
 pub name-small : (t : Tables) (a : ℕ) → Names t a → a ≤ nodeCount t
 name-small t a (inl p) = omega arith
@@ -61,7 +75,7 @@ pub record ZeroNode (t : Tables) (a : ℕ) : Type 0 where
   pub mark-zero : mark t a ≡ 0
 
 pub record ClaimNode (t : Tables) (a : ℕ) : Type 0 where
-  pub a-kind : IsKind (kind t a)
+  pub a-kind : MayClaim (t .sheet) (kind t a)
   pub some : start t a < end t a
   pub next-small : next t a ≤ nodeCount t
   pub mark-small : mark t a ≤ 1
@@ -92,9 +106,9 @@ node-zero-is t a z =
 pub claim-node : (t : Tables) (a : ℕ) → claimNode t a ≡ true → ClaimNode t a
 unfolding claimNode
 claim-node t a e =
-    let w = all4 (isKind (kind t a)) (start t a <? end t a) (next t a ≤? nodeCount t) (mark t a ≤? 1) e in
+    let w = all4 (mayClaim (t .sheet) (kind t a)) (start t a <? end t a) (next t a ≤? nodeCount t) (mark t a ≤? 1) e in
     record {
-      a-kind = is-kind (kind t a) (w .0);
+      a-kind = may-claim (t .sheet) (kind t a) (w .0);
       some = ltb-true (start t a) (end t a) (w .1);
       next-small = leb-true (next t a) (nodeCount t) (w .2);
       mark-small = leb-true (mark t a) 1 (w .3);
@@ -103,7 +117,7 @@ claim-node t a e =
 pub node-claim-is : (t : Tables) (a : ℕ) → ClaimNode t a → claimNode t a ≡ true
 unfolding claimNode
 node-claim-is t a c =
-    rw (kind-is (kind t a) (c .a-kind), lt-ltb (start t a) (end t a) (c .some), le-leb (next t a) (nodeCount t) (c .next-small), le-leb (mark t a) 1 (c .mark-small))
+    rw (claim-may (t .sheet) (kind t a) (c .a-kind), lt-ltb (start t a) (end t a) (c .some), le-leb (next t a) (nodeCount t) (c .next-small), le-leb (mark t a) 1 (c .mark-small))
 
 -- ---- a seat
 -- the phases in which prev and cur are 0
@@ -112,8 +126,46 @@ pub data Resting (P : ℕ) : Type 0 where
   in-6 : P ≡ 6 → Resting P
   in-7 : P ≡ 7 → Resting P
 
+-- the phases that a seat may be in, by the profile: on a sheet "there is no phase 3, 4 or 6"
+abbrev pub NoneOfSheet : Bool → ℕ → Type 0
+NoneOfSheet sheet P = sheet ≡ true → (P ≢ 3) × (P ≢ 4) × (P ≢ 6)
+
+abbrev pub MayBeIn : Bool → ℕ → Type 0
+MayBeIn sheet P = (P ≤ 7) × NoneOfSheet sheet P
+
+phase-allowed : (sheet : Bool) (p : ℕ) → mayBeIn sheet p ≡ true → MayBeIn sheet p
+unfolding mayBeIn
+phase-allowed true p e =
+    if-same p 0 (λ q. (omega arith, λ x. (omega arith, omega arith, omega arith))) (λ d₀.
+    if-same p 1 (λ q. (omega arith, λ x. (omega arith, omega arith, omega arith))) (λ d₁.
+    if-same p 2 (λ q. (omega arith, λ x. (omega arith, omega arith, omega arith))) (λ d₂.
+    if-same p 5 (λ q. (omega arith, λ x. (omega arith, omega arith, omega arith))) (λ d₅.
+    if-same p 7 (λ q. (omega arith, λ x. (omega arith, omega arith, omega arith))) (λ d₇.
+    absurd (clash false (rw (ne-eqb p 0 d₀, ne-eqb p 1 d₁, ne-eqb p 2 d₂, ne-eqb p 5 d₅, ne-eqb p 7 d₇) at e) refl))))))
+phase-allowed false p e = (leb-true p 7 e, λ q. absurd (clash false q refl))
+
+below : (p n : ℕ) → p ≤ n + 1 → p ≢ n + 1 → p ≤ n
+below p n l d = omega arith
+
+at-zero : (p : ℕ) → p ≤ 0 → p ≡ 0
+at-zero p l = omega arith
+
+allowed-phase : (sheet : Bool) (p : ℕ) → MayBeIn sheet p → mayBeIn sheet p ≡ true
+unfolding mayBeIn
+allowed-phase true p w =
+    if-same p 0 (λ q. rw q) (λ d₀.
+    if-same p 1 (λ q. rw q) (λ d₁.
+    if-same p 2 (λ q. rw q) (λ d₂.
+    if-same p 5 (λ q. rw q) (λ d₅.
+    if-same p 7 (λ q. rw q) (λ d₇.
+    if-same p 3 (λ q. absurd (w .1 refl .0 q)) (λ d₃.
+    if-same p 4 (λ q. absurd (w .1 refl .1 q)) (λ d₄.
+    if-same p 6 (λ q. absurd (w .1 refl .2 q)) (λ d₆.
+    absurd (d₀ (at-zero p (below p 0 (below p 1 (below p 2 (below p 3 (below p 4 (below p 5 (below p 6 (w .0) d₇) d₆) d₅) d₄) d₃) d₂) d₁)))))))))))
+allowed-phase false p w = le-leb p 7 (w .0)
+
 pub record SeatSound (t : Tables) (s : ℕ) : Type 0 where
-  pub phase-small : phase t s ≤ 7
+  pub may-be-in : MayBeIn (t .sheet) (phase t s)
   pub idle : phase t s ≡ 0 → (f : ℕ) → f < seatWidth (t .sheet) → seatWord (t .sheet) (t .seats) s f ≡ 0
   pub owning : phase t s ≢ 0 → own t s ≢ 0
   pub resting : Resting (phase t s) → (prev t s ≡ 0) × (cur t s ≡ 0)
@@ -170,7 +222,7 @@ module _ (t : Tables) (s : ℕ) where
   seat-sound e =
       let w = all7 (isPhase t s) (idleOrOwning t s) (restingAtZero t s) (waitingAtCur t s) (names t (own t s)) (names t (prev t s)) (names t (cur t s)) e in
       record {
-        phase-small = leb-true (phase t s) 7 (w .0);
+        may-be-in = phase-allowed (t .sheet) (phase t s) (w .0);
         idle = zeros-of (w .1);
         owning = owning-of (w .1);
         resting = λ p. let z = both (prev t s is 0) (cur t s is 0) (rests (phase t s) (prev t s is 0 && cur t s is 0) (w .2) p) in
@@ -185,7 +237,7 @@ module _ (t : Tables) (s : ℕ) where
   unfolding seatSound isPhase restingAtZero waitingAtCur
   seat-sound-is w =
       rw (
-        le-leb (phase t s) 7 (w .phase-small),
+        allowed-phase (t .sheet) (phase t s) (w .may-be-in),
         idle-or-owning w,
         rests-is (phase t s) (prev t s is 0 && cur t s is 0) (λ p. let z = w .resting p in rw (eq-eqb (prev t s) 0 (z .0), eq-eqb (cur t s) 0 (z .1))),
         two-phases-is (phase t s) 2 4 (not (cur t s is 0)) (λ p. rw (ne-eqb (cur t s) 0 (w .waiting p))),
@@ -284,7 +336,7 @@ past-seat t s e h =
     let v : prev t s ≡ 0 = seat-past t s prevAt e h in
     let c : cur t s ≡ 0 = seat-past t s curAt e h in
     record {
-      phase-small = omega arith;
+      may-be-in = (omega arith, λ q. (omega arith, omega arith, omega arith));
       idle = λ z f k. seat-past t s f e h;
       owning = λ z. absurd (z p);
       resting = λ z. (v, c);

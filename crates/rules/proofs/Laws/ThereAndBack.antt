@@ -16,7 +16,7 @@ use Rattle.rules.specs.Comparison.{Claim, claim}
 use Rattle.rules.specs.Shape.{sound}
 use Rattle.rules.specs.Locks.{Lock, lock, lastFrame, lockOf, taken, importLock, exportClaim, all, each, recordWidth, locksIn, lockNumbers, claimsIn, claimNumbers, listed, moved, importLocks, exportClaims}
 use Rattle.rules.specs.Play.{reserveCall}
-use Rattle.rules.specs.Refusing.{Refuses, damaged, no-seat, no-frames, beyond-title, no-kind, not-idle, none-to-reserve}
+use Rattle.rules.specs.Refusing.{Refuses, damaged, no-seat, no-frames, beyond-title, no-kind, reads-on-sheet, not-idle, none-to-reserve}
 use Rattle.rules.specs.Apart.{Covers, claimOfSeat}
 use Rattle.rules.specs.Archive.{LockCovers, SameFrames, Pairwise, no-more, and-then, OutAgain, recordNumbers}
 use Rattle.rules.proofs.Laws.Shape.{IsKind, is-kind, kind-is, Names, Sound, is-sound}
@@ -59,17 +59,24 @@ module _ (title : ℕ) (c : Claim) (l : Lock) (q : exportClaim title c ≡ taken
   pub exported-numbers : (l .start ≡ pos (c .start)) × (l .type ≡ pos (c .kind))
   exported-numbers = rw (exports title c l q .1) (refl, refl)
 
--- ---- tables: reserve refuses no claim that was imported for its table's title on account of its frames, its end or its kind
-refuses-otherwise : (t : Tables) (s : ℕ) (c : Claim) (k : ℕ) → Exports (title t) c → Refuses t (reserveCall s c) k → (k ≢ 3) × (k ≢ 11) × (k ≢ 4)
-refuses-otherwise t s c k e (damaged z) = (λ q. omega arith, λ q. omega arith, λ q. omega arith)
-refuses-otherwise t s c k e (no-seat z h) = (λ q. omega arith, λ q. omega arith, λ q. omega arith)
+-- ---- tables: reserve refuses no claim that was imported for its table's title on account of its frames, its end or its kind, but for a reader of a
+-- sheet
+abbrev OfAReaderThere : Tables → Claim → Type 0
+OfAReaderThere t c = (t .sheet ≡ true) × (c .kind ≡ 1)
+
+refuses-otherwise : (t : Tables) (s : ℕ) (c : Claim) (k : ℕ) → Exports (title t) c → Refuses t (reserveCall s c) k
+    → (k ≢ 3) × (k ≢ 11) × (k ≡ 4 → OfAReaderThere t c)
+refuses-otherwise t s c k e (damaged z) = (λ q. omega arith, λ q. omega arith, λ q. absurd (omega arith))
+refuses-otherwise t s c k e (no-seat z h) = (λ q. omega arith, λ q. omega arith, λ q. absurd (omega arith))
 refuses-otherwise t s c k e (no-frames w h) = let i = e .some in absurd (omega arith)
 refuses-otherwise t s c k e (beyond-title w h b) = let i = e .within in absurd (omega arith)
 refuses-otherwise t s c k e (no-kind w h b d f) = absurd (⊎-elim d f (is-kind (c .kind) (e .known)))
-refuses-otherwise t s c k e (not-idle w p h d) = (λ q. omega arith, λ q. omega arith, λ q. omega arith)
-refuses-otherwise t s c k e (none-to-reserve w p h z n) = (λ q. omega arith, λ q. omega arith, λ q. omega arith)
+refuses-otherwise t s c k e (reads-on-sheet w h b x y) = (λ q. omega arith, λ q. omega arith, λ q. (x, y))
+refuses-otherwise t s c k e (not-idle w p y h d) = (λ q. omega arith, λ q. omega arith, λ q. absurd (omega arith))
+refuses-otherwise t s c k e (none-to-reserve w p y h z n) = (λ q. omega arith, λ q. omega arith, λ q. absurd (omega arith))
 
-pub reserve-takes : (t : Tables) (s k : ℕ) (l : Lock) (c : Claim) → importLock (title t) l ≡ taken c → Refuses t (reserveCall s c) k → (k ≢ 3) × (k ≢ 11) × (k ≢ 4)
+pub reserve-takes : (t : Tables) (s k : ℕ) (l : Lock) (c : Claim) → importLock (title t) l ≡ taken c → Refuses t (reserveCall s c) k
+    → (k ≢ 3) × (k ≢ 11) × (k ≡ 4 → OfAReaderThere t c)
 reserve-takes t s k l c q = let i = imports (title t) l c q in refuses-otherwise t s c k (record { some = i .some; within = i .within; known = i .known })
 
 -- and every claim of sound tables can be exported for their title
@@ -91,9 +98,9 @@ claims-export t s e d = go (w .seat s .own-names)
     go (inr k) =
         exported (title t) (claimOfSeat t s)
         (record {
-          some = ⊎-elim (λ z. absurd (no-kind-0 (k .1) (z .kind-zero))) (λ z. z .some) (w .node (own t s) some (k .0));
+          some = ⊎-elim (λ z. absurd (no-kind-0 (k .1 .0) (z .kind-zero))) (λ z. z .some) (w .node (own t s) some (k .0));
           within = w .all-within .within (own t s);
-          known = kind-is (kind t (own t s)) (k .1);
+          known = kind-is (kind t (own t s)) (k .1 .0);
         })
 
 -- ---- several records

@@ -43,13 +43,14 @@ unfolding seatCountOf
 same-seat-count t u k e = rw (k, e)
 
 -- ---- a word after a store to any
--- no more than a bound that both keep, whether the table has it or not
-put-at-most : (l : List ℕ) (i k v most : ℕ) → v ≤ most → getD l k 0 ≤ most → getD (set l i v) k 0 ≤ most
-put-at-most l i k v most h j =
+-- what holds of the word before and of the value stored holds of it, whether the table has it or not
+put-has : (P : ℕ → Type 0) (l : List ℕ) (i k v : ℕ) → P v → P (getD l k 0) → P (getD (set l i v) k 0)
+put-has P l i k v h j =
     if-same i k
     (λ e. elim (decLt i (length l)) [
       | yes q ↦ rw (← e, getD-set-same l i v 0 q) h
-      | no q ↦ rw (← e, List·getD-eq-default (set l i v) 0 {n = i} (let r = length-set l i v in omega arith)) (omega arith)
+      | no q ↦ rw (← e, List·getD-eq-default (set l i v) 0 {n = i} (let r = length-set l i v in omega arith))
+          (rw (List·getD-eq-default l 0 {n = i} (omega arith)) at (rw (← e) at j))
     ])
     (λ d. rw (getD-set-other l i k v 0 (λ e. d (sym e))) j)
 
@@ -80,12 +81,12 @@ node-put-node sheet l (suc m) zero f g v h i d = refl
 node-put-node sheet l (suc m) (suc k) f g v h i d =
     getD-set-other l (beforeNodes sheet + nodeWidth * m + f) (beforeNodes sheet + nodeWidth * k + g) v 0 (λ e. d (omega arith))
 
--- a store keeps a bound on a word of every node, whether the table has the node or not
-pub node-put-at-most : (sheet : Bool) (l : List ℕ) (a b f v most : ℕ) → f < nodeWidth → v ≤ most → nodeWord sheet l b f ≤ most → nodeWord sheet (putNode sheet l a f v) b f ≤ most
+-- so it is of a word of every node, whether the table has the node or not
+pub node-put-has : (P : ℕ → Type 0) (sheet : Bool) (l : List ℕ) (a b f v : ℕ) → P v → P (nodeWord sheet l b f) → P (nodeWord sheet (putNode sheet l a f v) b f)
 unfolding nodeWord putNode
-node-put-at-most sheet l zero b f v most h i j = j
-node-put-at-most sheet l (suc m) zero f v most h i j = j
-node-put-at-most sheet l (suc m) (suc k) f v most h i j = put-at-most l (beforeNodes sheet + nodeWidth * m + f) (beforeNodes sheet + nodeWidth * k + f) v most i j
+node-put-has P sheet l zero b f v i j = j
+node-put-has P sheet l (suc m) zero f v i j = j
+node-put-has P sheet l (suc m) (suc k) f v i j = put-has P l (beforeNodes sheet + nodeWidth * m + f) (beforeNodes sheet + nodeWidth * k + f) v i j
 
 -- node 0 has only zeros
 pub node-zero : (sheet : Bool) (l : List ℕ) (f : ℕ) → nodeWord sheet l 0 f ≡ 0
@@ -131,11 +132,11 @@ link-put-there sheet l (suc m) v d = put-there l (beforeNodes sheet + nodeWidth 
 -- a store keeps a bound on every link
 pub link-put-at-most : (sheet : Bool) (l : List ℕ) (a b v most : ℕ) → v ≤ most → linkWord sheet l b ≤ most → linkWord sheet (putLink sheet l a v) b ≤ most
 unfolding linkWord putLink nodeWord putNode
-link-put-at-most sheet l zero zero v most h j = put-at-most l headAt headAt v most h j
-link-put-at-most sheet l zero (suc k) v most h j = put-at-most l headAt (beforeNodes sheet + nodeWidth * k + nextAt) v most h j
-link-put-at-most sheet l (suc m) zero v most h j = put-at-most l (beforeNodes sheet + nodeWidth * m + nextAt) headAt v most h j
+link-put-at-most sheet l zero zero v most h j = put-has (λ x. x ≤ most) l headAt headAt v h j
+link-put-at-most sheet l zero (suc k) v most h j = put-has (λ x. x ≤ most) l headAt (beforeNodes sheet + nodeWidth * k + nextAt) v h j
+link-put-at-most sheet l (suc m) zero v most h j = put-has (λ x. x ≤ most) l (beforeNodes sheet + nodeWidth * m + nextAt) headAt v h j
 link-put-at-most sheet l (suc m) (suc k) v most h j =
-    put-at-most l (beforeNodes sheet + nodeWidth * m + nextAt) (beforeNodes sheet + nodeWidth * k + nextAt) v most h j
+    put-has (λ x. x ≤ most) l (beforeNodes sheet + nodeWidth * m + nextAt) (beforeNodes sheet + nodeWidth * k + nextAt) v h j
 
 pub link-put-other : (sheet : Bool) (l : List ℕ) (a b v : ℕ) → a ≢ b → linkWord sheet (putLink sheet l a v) b ≡ linkWord sheet l b
 unfolding linkWord putLink nodeWord putNode

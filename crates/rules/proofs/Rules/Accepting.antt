@@ -1,14 +1,14 @@
 -- Why a call is refused, or what is known where it is accepted. Over any tables and numbers.
 use Prim.Native.Nat.{ℕ, _≤_, _<_}
 use mathlib.Core.Path.{_≡_, refl}
-use mathlib.Core.Bool.{true, false, not}
-use mathlib.Core.Logic.{_≢_}
+use mathlib.Core.Bool.{Bool, true, false, not}
+use mathlib.Core.Logic.{_≢_, _⊎_, inl, inr}
 use native.Mathlib.Omega.{arith}
 use borrow.Author.Tests.{eqb-true, eqb-false, leb-true, leb-false, ltb-true, ltb-false, not-false, lt-leb, ne-eqb}
 use Rattle.rules.specs.Notation.{if_then_else_, _is_, _≤?_, _<?_}
 use Rattle.rules.specs.Tables.{Tables, seatCount, title, phase}
 use Rattle.rules.specs.Comparison.{Claim}
-use Rattle.rules.specs.Shape.{sound, isKind}
+use Rattle.rules.specs.Shape.{sound, isKind, mayClaim}
 use Rattle.rules.specs.Fetch.{Fetched}
 use Rattle.rules.specs.Answers.{Answer, node, refused, out, Done, done, answerOf, answered}
 use Rattle.rules.specs.Steps.{leave, refetched, stepByPhase, entering}
@@ -16,10 +16,11 @@ use Rattle.rules.specs.Calls.{noSeat, reserved, reserve, enter, step, re
 use Rattle.rules.specs.Run.{refusalOf}
 use Rattle.rules.specs.Play.{Call, reserveCall, enterCall, stepCall, releaseCall}
 use Rattle.rules.proofs.Ground.Logic.{branch, not-true, or-neither}
-use Rattle.rules.proofs.Laws.Shape.{is-kind}
-use Rattle.rules.specs.Refusing.{HasSeat, Proper, WithinTitle, Refuses, damaged, no-seat, no-frames, beyond-title, no-kind, not-idle, idle, not-holding, not-reserved, none-to-reserve, none-again}
+use Rattle.rules.proofs.Laws.Shape.{may-claim}
+use Rattle.rules.specs.Refusing.{HasSeat, Proper, WritesOnSheet, WithinTitle, Refuses, damaged, no-seat, no-frames, beyond-title, no-kind, reads-on-sheet, not-idle, idle, not-holding, not-reserved, none-to-reserve, none-again}
 use Rattle.rules.specs.Title.{ReservesBeyond, reserves-beyond}
 use Rattle.rules.proofs.Rules.Reasons.{Fetching, fetching, Stepping, in-1, in-2, in-3, in-4, in-6, in-7, at-rest, steps}
+use Rattle.rules.proofs.Ground.Deciding.{if-same}
 
 -- what a refusal's number tells: it is never 0, 1 only for damaged tables, and 11 only of a reserve that ends beyond the title
 pub record Tells (t : Tables) (c : Call) (number : ℕ) : Type 0 where
@@ -36,16 +37,19 @@ refusal-tells (no-seat e h) = neither-1-nor-11 (omega arith) (omega arith) (omeg
 refusal-tells (no-frames w h) = neither-1-nor-11 (omega arith) (omega arith) (omega arith)
 refusal-tells (beyond-title w h b) = record { not-0 = omega arith; if-1 = λ q. absurd (omega arith); if-11 = λ q. reserves-beyond b }
 refusal-tells (no-kind w h i k k′) = neither-1-nor-11 (omega arith) (omega arith) (omega arith)
-refusal-tells (not-idle w p i d) = neither-1-nor-11 (omega arith) (omega arith) (omega arith)
+refusal-tells (reads-on-sheet w h i x k) = neither-1-nor-11 (omega arith) (omega arith) (omega arith)
+refusal-tells (not-idle w p y i d) = neither-1-nor-11 (omega arith) (omega arith) (omega arith)
 refusal-tells (idle w e) = neither-1-nor-11 (omega arith) (omega arith) (omega arith)
 refusal-tells (not-holding w d) = neither-1-nor-11 (omega arith) (omega arith) (omega arith)
 refusal-tells (not-reserved w d) = neither-1-nor-11 (omega arith) (omega arith) (omega arith)
-refusal-tells (none-to-reserve w p i e n) = neither-1-nor-11 (omega arith) (omega arith) (omega arith)
+refusal-tells (none-to-reserve w p y i e n) = neither-1-nor-11 (omega arith) (omega arith) (omega arith)
 refusal-tells (none-again w e n) = neither-1-nor-11 (omega arith) (omega arith) (omega arith)
 
-no-such-kind : (k : ℕ) → not (isKind k) ≡ true → (k ≢ 1) × (k ≢ 2)
-unfolding isKind
-no-such-kind k e = let q = or-neither (k is 1) (k is 2) (not-true (isKind k) e) in (eqb-false k 1 (q .0), eqb-false k 2 (q .1))
+-- a kind that no claim may have is none at all; or, on a sheet, it reads
+no-such-kind : (sheet : Bool) (k : ℕ) → not (mayClaim sheet k) ≡ true → ((k ≢ 1) × (k ≢ 2)) ⊎ ((sheet ≡ true) × (k ≡ 1))
+unfolding mayClaim isKind
+no-such-kind true k e = if-same k 1 (λ q. inr (refl, q)) (λ d. inl (d, eqb-false k 2 (not-true (k is 2) e)))
+no-such-kind false k e = let q = or-neither (k is 1) (k is 2) (not-true (isKind k) e) in inl (eqb-false k 1 (q .0), eqb-false k 2 (q .1))
 
 -- every call on a seat looks at the tables first, and then at the seat's number
 seat-first : (t : Tables) (s : ℕ) {d : Done Answer} (P : Done Answer → Type 0)
@@ -70,7 +74,7 @@ phase-wanted t s wanted number P other there has =
 
 pub data Reserving (t : Tables) (s : ℕ) (c : Claim) : Done Answer → Type 0 where
   reserve-refused : (number : ℕ) → Refuses t (reserveCall s c) number → Reserving t s c (done (refused number) t)
-  reserve-accepted : {f : Fetched} → sound t ≡ true → s < seatCount t → Proper c → WithinTitle t c → phase t s ≡ 0 → Fetching t s c f → Reserving t s c (reserved t f)
+  reserve-accepted : {f : Fetched} → sound t ≡ true → s < seatCount t → Proper c → WritesOnSheet t c → WithinTitle t c → phase t s ≡ 0 → Fetching t s c f → Reserving t s c (reserved t f)
 
 pub reserving : (t : Tables) (s : ℕ) (c : Claim) → Reserving t s c (reserve t s c)
 unfolding reserve
@@ -80,10 +84,16 @@ reserving t s c =
     let frames = leb-false (c .end) (c .start) e₃ in
     branch (Reserving t s c) (title t <? c .end) (λ e. reserve-refused 11 (beyond-title has frames (ltb-true (title t) (c .end) e))) (λ e₁₁.
     let within = ltb-false (title t) (c .end) e₁₁ in
-    branch (Reserving t s c) (not (isKind (c .kind))) (λ e. let k = no-such-kind (c .kind) e in reserve-refused 4 (no-kind has frames within (k .0) (k .1))) (λ e₄.
-    let proper : Proper c = record { some = frames; reads-or-writes = is-kind (c .kind) (not-false (isKind (c .kind)) e₄) } in
-    branch (Reserving t s c) (not (phase t s is 0)) (λ e. reserve-refused 5 (not-idle has proper within (eqb-false (phase t s) 0 (not-true (phase t s is 0) e)))) (λ e₅.
-    reserve-accepted (has .is-sound) (has .is-seat) proper within (eqb-true (phase t s) 0 (not-false (phase t s is 0) e₅)) (fetching t s c))))))
+    branch (Reserving t s c) (not (mayClaim (t .sheet) (c .kind)))
+    (λ e. reserve-refused 4 (elim (no-such-kind (t .sheet) (c .kind) e) [
+      | inl k ↦ no-kind has frames within (k .0) (k .1)
+      | inr k ↦ reads-on-sheet has frames within (k .0) (k .1)
+    ]))
+    (λ e₄.
+    let may = may-claim (t .sheet) (c .kind) (not-false (mayClaim (t .sheet) (c .kind)) e₄) in
+    let proper : Proper c = record { some = frames; reads-or-writes = may .0 } in
+    branch (Reserving t s c) (not (phase t s is 0)) (λ e. reserve-refused 5 (not-idle has proper (may .1) within (eqb-false (phase t s) 0 (not-true (phase t s is 0) e)))) (λ e₅.
+    reserve-accepted (has .is-sound) (has .is-seat) proper (may .1) within (eqb-true (phase t s) 0 (not-false (phase t s is 0) e₅)) (fetching t s c))))))
 
 -- reserve answers with a node, or is refused
 reserved-answers : (t : Tables) (f : Fetched) (P : Answer → Type 0) → ((n : ℕ) → P (node n)) → ((number : ℕ) → P (refused number)) → P (reserved t f .answer)
@@ -95,7 +105,7 @@ reserve-answers t s c P taken not-taken = go (reserving t s c)
   where
     go : {d : Done Answer} → Reserving t s c d → P (d .answer)
     go (reserve-refused number r) = not-taken number
-    go (reserve-accepted {f} e h p w i k) = reserved-answers t f P taken not-taken
+    go (reserve-accepted {f} e h p y w i k) = reserved-answers t f P taken not-taken
 
 pub data Entering (t : Tables) (s : ℕ) : Done Answer → Type 0 where
   enter-refused : (number : ℕ) → Refuses t (enterCall s) number → Entering t s (done (refused number) t)

@@ -12,7 +12,7 @@ use Rattle.rules.specs.Comparison.{Claim, claimOf, reads, byComparison}
 use Rattle.rules.specs.Reach.{lowestFree}
 use Rattle.rules.specs.Fetch.{Fetched, fetched, takenOut, takeNode, fetch, fetchAgain}
 use Rattle.rules.specs.Answers.{Answer, Done, answered}
-use Rattle.rules.specs.Steps.{moveTo, joined, unlink, pass, linkIn, startValidating, lookAgain, insert, hold, withdraw, walking, waitingToEnter, readerValidating, writerValidating, validating, readerWaiting, refetched, withdrawn, entering, stepByPhase}
+use Rattle.rules.specs.Steps.{moveTo, joined, unlink, pass, linkIn, startValidating, onceLinked, lookAgain, insert, hold, withdraw, walking, waitingToEnter, readerValidating, writerValidating, validating, readerWaiting, refetched, withdrawn, entering, stepByPhase}
 use Rattle.rules.proofs.Ground.Logic.{branch, both, or-case, or-neither, not-true}
 use Rattle.rules.proofs.Laws.Compared.{Precedes, Compared, after, before, clashing, compared}
 
@@ -40,13 +40,17 @@ unfolding unlink
 unlinking t s = branch (Unlinking t s) (joined t s) (λ e. takes-out (is-joined t s e)) goes-past
 
 pub data Starting (t : Tables) (s : ℕ) : Tables → Type 0 where
-  as-reader : kind t (own t s) ≡ 1 → Starting t s (moveTo t s 3 (own t s) (next t (own t s)))
-  as-writer : kind t (own t s) ≢ 1 → Starting t s (moveTo t s 3 0 (head t))
+  as-reader : t .sheet ≡ false → kind t (own t s) ≡ 1 → Starting t s (moveTo t s 3 (own t s) (next t (own t s)))
+  as-writer : t .sheet ≡ false → kind t (own t s) ≢ 1 → Starting t s (moveTo t s 3 0 (head t))
+  on-sheet : t .sheet ≡ true → Starting t s (hold t s)
 
-pub starting : (t : Tables) (s : ℕ) → Starting t s (startValidating t s)
-unfolding startValidating
+pub starting : (t : Tables) (s : ℕ) → Starting t s (onceLinked t s)
+unfolding onceLinked startValidating
 starting t s =
-    branch (Starting t s) (reads (claimOf t (own t s))) (λ e. as-reader (eqb-true (kind t (own t s)) 1 e)) (λ e. as-writer (eqb-false (kind t (own t s)) 1 e))
+    branch (Starting t s) (t .sheet) on-sheet (λ e₀.
+    branch (Starting t s) (reads (claimOf t (own t s)))
+    (λ e. as-reader e₀ (eqb-true (kind t (own t s)) 1 e))
+    (λ e. as-writer e₀ (eqb-false (kind t (own t s)) 1 e)))
 
 pub data Inserting (t : Tables) (s : ℕ) : Tables → Type 0 where
   links-in : {u : Tables} → Joined t s → Starting (linkIn t s) s u → Inserting t s u

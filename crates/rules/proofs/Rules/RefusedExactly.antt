@@ -1,7 +1,7 @@
 -- The calls refuse exactly as the tables of specs/Refusing.antt say, and what is refused changes nothing. Of any tables and numbers.
 use Prim.Native.Nat.{ℕ, _/_, _≤_, _<_}
 use mathlib.Core.Path.{_≡_, refl, sym, ap, subst, _∙_}
-use mathlib.Core.Bool.{true, false, not}
+use mathlib.Core.Bool.{Bool, true, false, not}
 use mathlib.Core.List.{List}
 use mathlib.Core.Logic.{_≢_, _⊎_, inl, inr}
 use native.Mathlib.Omega.{arith}
@@ -10,7 +10,7 @@ use borrow.Author.Tests.{ltb-true, lt-ltb, le-ltb, le-leb, lt-leb, eqb-true, eqb
 use Rattle.rules.specs.Notation.{if_then_else_, _is_, _<?_}
 use Rattle.rules.specs.Tables.{Tables, nodeCount, seatCount, title, phase, own, fresh}
 use Rattle.rules.specs.Comparison.{Claim, claimOf}
-use Rattle.rules.specs.Shape.{lengthsFit, sound, isKind}
+use Rattle.rules.specs.Shape.{lengthsFit, sound, isKind, mayClaim}
 use Rattle.rules.specs.Fetch.{Fetched, fetched, fetch, fetchAgain}
 use Rattle.rules.specs.Answers.{Answer, node, on, refused, Done, done}
 use Rattle.rules.specs.Steps.{refetched, entering}
@@ -19,12 +19,13 @@ use Rattle.rules.specs.FreeCount.{Counted, freeCount}
 use Rattle.rules.specs.Board.{Boarded, Shown, shown, holders, board, rowWidth, boardNumbers}
 use Rattle.rules.specs.Run.{refusalOf}
 use Rattle.rules.specs.Play.{Call, reserveCall, enterCall, stepCall, releaseCall, call, seatOf}
-use Rattle.rules.specs.Refusing.{HasSeat, Proper, WithinTitle, NoNodeFree, Refuses, damaged, no-seat, no-frames, beyond-title, no-kind, not-idle, idle, not-holding, not-reserved, none-to-reserve, none-again, ClearRefuses, lengths-wrong, title-of-none, DamageRefuses, tables-damaged, BoardRefuses, board-damaged, too-few-rows}
+use Rattle.rules.specs.Refusing.{HasSeat, Proper, WritesOnSheet, WithinTitle, NoNodeFree, Refuses, damaged, no-seat, no-frames, beyond-title, no-kind, reads-on-sheet, not-idle, idle, not-holding, not-reserved, none-to-reserve, none-again, ClearRefuses, lengths-wrong, title-of-none, DamageRefuses, tables-damaged, BoardRefuses, board-damaged, too-few-rows}
 use Rattle.rules.specs.declared.Row.{Row}
-use Rattle.rules.proofs.Ground.Logic.{branch, not-true, neither, or-left, or-right}
+use Rattle.rules.proofs.Ground.Logic.{clash, branch, not-true, neither, or-left, or-right}
 use Rattle.rules.proofs.Laws.Answers.{refused-as, answers-no-refusal}
 use Rattle.rules.proofs.Rules.Reasons.{Fetching, found, found-then, none, Stepping, in-1, in-2, in-3, in-4, in-6, in-7, at-rest, by-phase-6}
 use Rattle.rules.proofs.Rules.Accepting.{Reserving, reserve-refused, reserve-accepted, reserving, Entering, enter-refused, enter-accepted, enters, Stepped, step-refused, step-accepted, stepped, Releasing, release-refused, release-accepted, releasing, step-is}
+use Rattle.rules.proofs.Laws.Shape.{claim-may}
 
 -- ---- a refused reserve, enter, step or release is one of the table
 same-number : {t : Tables} {c : Call} {j k : ℕ} → Refuses t c j → refused j ≡ refused k → Refuses t c k
@@ -37,11 +38,11 @@ pub on-not-refused : {A : Type 0} {k : ℕ} → on ≡ refused k → A
 on-not-refused q = let z : _≡_ {A = ℕ} 0 1 = cc in absurd (omega arith)
 
 module _ (t : Tables) (s k : ℕ) (has : HasSeat t s) where
-  reserved-refused : (c : Claim) {f : Fetched} → Proper c → WithinTitle t c → phase t s ≡ 0 → Fetching t s c f → reserved t f .answer ≡ refused k → Refuses t (reserveCall s c) k
+  reserved-refused : (c : Claim) {f : Fetched} → Proper c → WritesOnSheet t c → WithinTitle t c → phase t s ≡ 0 → Fetching t s c f → reserved t f .answer ≡ refused k → Refuses t (reserveCall s c) k
   unfolding reserved
-  reserved-refused c p i z (found a e d) q = not-refused (rw (ne-eqb a 0 d) at q)
-  reserved-refused c p i z (found-then a e e′ d) q = not-refused (rw (ne-eqb a 0 d) at q)
-  reserved-refused c p i z (none e e′) q = same-number (none-to-reserve has p i z (record { at-first = e; marked-out = e′ })) q
+  reserved-refused c p y i z (found a e d) q = not-refused (rw (ne-eqb a 0 d) at q)
+  reserved-refused c p y i z (found-then a e e′ d) q = not-refused (rw (ne-eqb a 0 d) at q)
+  reserved-refused c p y i z (none e e′) q = same-number (none-to-reserve has p y i z (record { at-first = e; marked-out = e′ })) q
 
   refetched-refused : (c : Claim) {f : Fetched} → phase t s ≡ 6 → Fetching t s c f → refetched t s f .answer ≡ refused k → Refuses t (stepCall s) k
   unfolding refetched
@@ -64,7 +65,7 @@ seat-of e h = record { is-sound = e; is-seat = h }
 module _ (t : Tables) (s k : ℕ) where
   reserve-by-table : (c : Claim) {d : Done Answer} → Reserving t s c d → d .answer ≡ refused k → Refuses t (reserveCall s c) k
   reserve-by-table c (reserve-refused number x) q = same-number x q
-  reserve-by-table c (reserve-accepted e h p i z w) q = reserved-refused t s k (seat-of e h) c p i z w q
+  reserve-by-table c (reserve-accepted e h p y i z w) q = reserved-refused t s k (seat-of e h) c p y i z w q
 
   step-by-table : {d : Done Answer} → Stepped t s d → d .answer ≡ refused k → Refuses t (stepCall s) k
   step-by-table (step-refused number x) q = same-number x q
@@ -90,14 +91,15 @@ no-node-found : (t : Tables) (s : ℕ) (c : Claim) → NoNodeFree t s → fetch 
 unfolding fetch fetchAgain
 no-node-found t s c n = rw (n .at-first, n .marked-out)
 
-is-a-kind : (k : ℕ) → (k ≡ 1) ⊎ (k ≡ 2) → isKind k ≡ true
-unfolding isKind
-is-a-kind k (inl e) = or-left (k is 1) (k is 2) (eq-eqb k 1 e)
-is-a-kind k (inr e) = or-right (k is 1) (k is 2) (eq-eqb k 2 e)
+no-kind-at-all : (sheet : Bool) (k : ℕ) → k ≢ 1 → k ≢ 2 → mayClaim sheet k ≡ false
+unfolding mayClaim isKind
+no-kind-at-all true k d d′ = ne-eqb k 2 d′
+no-kind-at-all false k d d′ = neither (k is 1) (k is 2) (ne-eqb k 1 d) (ne-eqb k 2 d′)
 
-no-kind-at-all : (k : ℕ) → k ≢ 1 → k ≢ 2 → isKind k ≡ false
-unfolding isKind
-no-kind-at-all k d d′ = neither (k is 1) (k is 2) (ne-eqb k 1 d) (ne-eqb k 2 d′)
+no-reader-there : (sheet : Bool) (k : ℕ) → sheet ≡ true → k ≡ 1 → mayClaim sheet k ≡ false
+unfolding mayClaim
+no-reader-there true k q e = rw e
+no-reader-there false k q e = absurd (clash false q refl)
 
 damaged-refused : (t : Tables) (c : Call) → sound t ≡ false → call t c ≡ done (refused 1) t
 unfolding call reserve enter step release
@@ -121,14 +123,16 @@ table-refused t _ k (no-frames {s = s} {c = c} w h) = rw (w .is-sound, lt-leb (s
 table-refused t _ k (beyond-title {s = s} {c = c} w h b) =
     rw (w .is-sound, lt-leb (seatCount t) s (w .is-seat), lt-leb (c .end) (c .start) h, lt-ltb (title t) (c .end) b)
 table-refused t _ k (no-kind {s = s} {c = c} w h i d d′) =
-    rw (w .is-sound, lt-leb (seatCount t) s (w .is-seat), lt-leb (c .end) (c .start) h, le-ltb (title t) (c .end) i, no-kind-at-all (c .kind) d d′)
-table-refused t _ k (not-idle {s = s} {c = c} w p i d) =
-    rw (w .is-sound, lt-leb (seatCount t) s (w .is-seat), lt-leb (c .end) (c .start) (p .some), le-ltb (title t) (c .end) i, is-a-kind (c .kind) (p .reads-or-writes), ne-eqb (phase t s) 0 d)
+    rw (w .is-sound, lt-leb (seatCount t) s (w .is-seat), lt-leb (c .end) (c .start) h, le-ltb (title t) (c .end) i, no-kind-at-all (t .sheet) (c .kind) d d′)
+table-refused t _ k (reads-on-sheet {s = s} {c = c} w h i q e) =
+    rw (w .is-sound, lt-leb (seatCount t) s (w .is-seat), lt-leb (c .end) (c .start) h, le-ltb (title t) (c .end) i, no-reader-there (t .sheet) (c .kind) q e)
+table-refused t _ k (not-idle {s = s} {c = c} w p y i d) =
+    rw (w .is-sound, lt-leb (seatCount t) s (w .is-seat), lt-leb (c .end) (c .start) (p .some), le-ltb (title t) (c .end) i, claim-may (t .sheet) (c .kind) (p .reads-or-writes, y), ne-eqb (phase t s) 0 d)
 table-refused t _ k (idle {s = s} w e) = rw (w .is-sound, lt-leb (seatCount t) s (w .is-seat), eq-eqb (phase t s) 0 e)
 table-refused t _ k (not-holding {s = s} w d) = rw (w .is-sound, lt-leb (seatCount t) s (w .is-seat), ne-eqb (phase t s) 5 d)
 table-refused t _ k (not-reserved {s = s} w d) = rw (w .is-sound, lt-leb (seatCount t) s (w .is-seat), ne-eqb (phase t s) 7 d)
-table-refused t _ k (none-to-reserve {s = s} {c = c} w p i e n) =
-    rw (w .is-sound, lt-leb (seatCount t) s (w .is-seat), lt-leb (c .end) (c .start) (p .some), le-ltb (title t) (c .end) i, is-a-kind (c .kind) (p .reads-or-writes), eq-eqb (phase t s) 0 e, no-node-found t s c n)
+table-refused t _ k (none-to-reserve {s = s} {c = c} w p y i e n) =
+    rw (w .is-sound, lt-leb (seatCount t) s (w .is-seat), lt-leb (c .end) (c .start) (p .some), le-ltb (title t) (c .end) i, claim-may (t .sheet) (c .kind) (p .reads-or-writes, y), eq-eqb (phase t s) 0 e, no-node-found t s c n)
 table-refused t _ k (none-again {s = s} w e n) =
     step-is t s (w .is-sound) (w .is-seat) (omega arith) ∙ by-phase-6 t s e ∙ rw (no-node-found t s (claimOf t (own t s)) n)
 

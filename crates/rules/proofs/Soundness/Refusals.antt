@@ -57,7 +57,7 @@ module _ (t : Tables) (e : sound t ≡ true) (s : ℕ) where
 
   reserve-not-1 : {c : Claim} {d : Done Answer} → Reserving t s c d → d .answer ≢ refused 1
   reserve-not-1 (reserve-refused k r) = refused-not-1 r
-  reserve-not-1 (reserve-accepted {f = f} x h p i z w) = none-or-8-not-1 (reserved-none-or-8 t f)
+  reserve-not-1 (reserve-accepted {f = f} x h p k i z w) = none-or-8-not-1 (reserved-none-or-8 t f)
 
   step-not-1 : {d : Done Answer} → Stepped t s d → d .answer ≢ refused 1
   step-not-1 (step-refused k r) = refused-not-1 r

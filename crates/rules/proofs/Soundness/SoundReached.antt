@@ -39,13 +39,13 @@ module _ {N S : ℕ} {t : Tables} (g : Shaped N S t) where
 
   names : {a : ℕ} → Named N (claimAt (nodesOf t)) a → Names t a
   names (nothing e) = inl e
-  names (node p l c) = inr (rw count l, c .reads-or-writes)
+  names {a} (node p l c) = inr (rw count l, (c .reads-or-writes, λ q. g .aside .kinds q a))
 
   node-shape : (a : ℕ) → a ≢ 0 → ZeroNode t a ⊎ ClaimNode t a
   node-shape a z = elim (g .view .nodes .blank-or-proper a (omega arith)) [
     | inl b ↦ inl (record { start-zero = b .start-0; end-zero = b .end-0; kind-zero = b .kind-0; next-zero = b .link-0; mark-zero = b .mark-0 })
     | inr c ↦ inr (record {
-      a-kind = c .reads-or-writes;
+      a-kind = (c .reads-or-writes, λ q. g .aside .kinds q a);
       some = c .some;
       next-small = rw count (named-in (g .view .nodes .links a));
       mark-small = g .view .nodes .marks a;
@@ -54,7 +54,7 @@ module _ {N S : ℕ} {t : Tables} (g : Shaped N S t) where
 
   seat-shape : (s : ℕ) → SeatSound t s
   seat-shape s = let h = g .view .seats s in record {
-    phase-small = h .is-phase;
+    may-be-in = (h .is-phase, g .aside .seat s .phases);
     idle = g .aside .seat s .idle;
     owning = λ b. let o = h .owning b in omega arith;
     resting = h .resting;

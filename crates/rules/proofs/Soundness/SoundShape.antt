@@ -7,7 +7,7 @@ use mathlib.Core.List.{List}
 use mathlib.Core.Logic.{_≢_, _⊎_, inl, inr}
 use native.Mathlib.Omega.{arith}
 use native.Mathlib.Decide.{decLt}
-use Rattle.rules.specs.Tables.{Tables, tables, nodeCount, seatCount, startAt, endAt, kindAt, markAt, phaseAt, ownAt, prevAt, curAt, mark, link, next, head, setCount, setLink, setMark}
+use Rattle.rules.specs.Tables.{Tables, tables, nodeCount, seatCount, startAt, endAt, kindAt, markAt, phaseAt, ownAt, prevAt, curAt, mark, link, next, head, setCount, setLink, setMark, kind}
 use Rattle.rules.specs.Comparison.{Claim, claimOf}
 use Rattle.rules.specs.Shape.{endsWithin}
 use Rattle.rules.specs.Fetch.{writeClaim}
@@ -18,7 +18,7 @@ use Rattle.rules.proofs.Laws.Listed.{within-ends}
 use Rattle.rules.proofs.Ground.Following.{ends-tail, unlink-keeps-ends, away-keeps-ends}
 use Rattle.rules.proofs.Invariant.View.{Nodes, Seats, nodesOf, seatsOf, claimAt, relink, remark, Reseated}
 use Rattle.rules.proofs.Invariant.Clauses.{Named, nothing, node, Blank, NodeShape, SeatShape, OnList, Ending}
-use Rattle.rules.specs.Refusing.{Proper}
+use Rattle.rules.specs.Refusing.{Proper, WritesOnSheet}
 use Rattle.rules.proofs.Invariant.Unlink.{relink-shape}
 use Rattle.rules.proofs.Invariant.Leave.{remark-shape}
 use Rattle.rules.proofs.Invariant.Take.{Written, written-shape, seat-same}
@@ -108,7 +108,7 @@ module _ {N S : ℕ} {t : Tables} (g : Shaped N S t) where
   claim-marked o d o-in c =
       let l = t .nodes in
       record {
-        aside = aside.word-put (g .aside) markAt o 1;
+        aside = aside.word-put (g .aside) markAt o 1 (omega arith) (omega arith);
         view = subst (λ n. SoundView N n (seatsOf t))
             (only-marks t (setMark t o 1) (λ a f b d. node-put-field (t .sheet) l o a markAt f 1 (omega arith) b (λ e. d (sym e)))
             (λ a. link-put-field (t .sheet) l o a markAt 1 (omega arith) (omega arith)))
@@ -116,12 +116,12 @@ module _ {N S : ℕ} {t : Tables} (g : Shaped N S t) where
             (λ a d. node-put-node (t .sheet) l o a markAt markAt 1 (omega arith) (omega arith) (λ e. d (sym e))));
       }
 
-  pub claim-put : (a : ℕ) (c : Claim) → a ≢ 0 → a ≤ N → Proper c → (OnList (link t) a → ⊥) → Shaped N S (writeClaim t a c)
+  pub claim-put : (a : ℕ) (c : Claim) → a ≢ 0 → a ≤ N → Proper c → WritesOnSheet t c → (OnList (link t) a → ⊥) → Shaped N S (writeClaim t a c)
   unfolding writeClaim
-  claim-put a c d a-in p off =
+  claim-put a c d a-in p k off =
       let room = node-room (g .aside) a a-in in
       record {
-        aside = aside.claim-put (g .aside) a c;
+        aside = aside.claim-put (g .aside) a c k;
         view = write-keeps-shape (g .view) a (written t a c d room p) (omega arith) off;
       }
 
@@ -154,14 +154,14 @@ module _ {t : Tables} (w : Sound t) where
   ]
 
   proper-claim : {a : ℕ} → ClaimNode t a → Proper (claimOf t a)
-  proper-claim c = record { some = c .some; reads-or-writes = c .a-kind }
+  proper-claim c = record { some = c .some; reads-or-writes = c .a-kind .0 }
 
   named : {a : ℕ} → Names t a → Named (nodeCount t) (claimOf t) a
   named (inl e) = nothing e
   named {a} (inr q) =
       if-same a 0 nothing
       (λ z. elim (w .node a z (q .0)) [
-        | inl b ↦ absurd (let k = b .kind-zero in elim (q .1) [ inl e ↦ omega arith | inr e ↦ omega arith ])
+        | inl b ↦ absurd (let k = b .kind-zero in elim (q .1 .0) [ inl e ↦ omega arith | inr e ↦ omega arith ])
         | inr c ↦ node (omega arith) (q .0) (proper-claim c)
       ])
 
@@ -171,9 +171,21 @@ module _ {t : Tables} (w : Sound t) where
       (λ e. rw (e, node-zero (t .sheet) (t .nodes) markAt) (omega arith))
       (λ z. elim (blank-or-claim a z) [ inl b ↦ (let k = b .mark-0 in omega arith) | inr c ↦ c .mark-small ])
 
+  -- on a sheet no node reads: node 0 and what stands past the last one have no kind
+  writers-there : t .sheet ≡ true → (a : ℕ) → kind t a ≢ 1
+  writers-there q a =
+      if-same a 0
+      (λ e. rw (e, node-zero (t .sheet) (t .nodes) kindAt) (omega arith))
+      (λ z. elim (blank-or-claim a z) [ inl b ↦ (let k = b .kind-0 in omega arith) | inr c ↦ c .a-kind .1 q ])
+
   pub sound-shaped : Shaped (nodeCount t) (seatCount t) t
   sound-shaped = record {
-    aside = record { nodes-long = w .nodes-length; seats-long = w .seats-length; seat = λ s. record { idle = w .seat s .idle } };
+    aside = record {
+      nodes-long = w .nodes-length;
+      seats-long = w .seats-length;
+      seat = λ s. record { phases = w .seat s .may-be-in .1; idle = w .seat s .idle };
+      kinds = writers-there;
+    };
     view = record {
       nodes = record {
         head-unmarked = node-zero (t .sheet) (t .nodes) markAt;
@@ -182,7 +194,7 @@ module _ {t : Tables} (w : Sound t) where
         links = λ a. named (w .link-names a);
       };
       seats = λ s. let h = w .seat s in record {
-        is-phase = h .phase-small;
+        is-phase = h .may-be-in .0;
         owning = λ b. let o = h .owning b in omega arith;
         resting = h .resting;
         at-cur = λ p. let c = h .waiting p in omega arith;

@@ -55,7 +55,7 @@ module _ {N S : ℕ} (s : ℕ) (s-in : s < S) where
       let c = chain-ahead (w .reached) in
       more-time {k = suc N + (N + 1)} (omega arith)
       (and-then (N + 1) (walk-ends s s-in true N w (c .0) (c .1) (c .2))
-      (λ u d. elim d [ walk.at-rest z ↦ now z | walk.linked g p f ↦ from-clear-3 g p (f refl) ]))
+      (λ u d. elim d [ walk.at-rest z ↦ now z | walk.linked n g p f ↦ from-clear-3 g p (f refl) ]))
 
   from-7 : {t : Tables} → Reached N S t → phase t s ≡ 7 → Rests s (2 * N + 3) t
   from-7 g p = more-time {k = suc (2 * N + 2)} (omega arith) (later {k = 2 * N + 2} (from-clean-walk (after-7 s s-in g p)))
@@ -80,7 +80,7 @@ module _ {N S : ℕ} (s : ℕ) (s-in : s < S) where
       let c = chain-ahead (w .reached) in
       more-time {k = suc N + (3 * N + 5)} (omega arith)
       (and-then (3 * N + 5) (walk-ends s s-in false N w (c .0) (c .1) (c .2))
-      (λ u d. elim d [ walk.at-rest z ↦ now z | walk.linked g p f ↦ from-3 g p ]))
+      (λ u d. elim d [ walk.at-rest z ↦ now z | walk.linked n g p f ↦ from-3 g p ]))
 
   from-1 : {t : Tables} → Reached N S t → phase t s ≡ 1 → Rests s (5 * N + 7) t
   from-1 g p =

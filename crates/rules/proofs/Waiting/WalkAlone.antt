@@ -2,12 +2,12 @@
 -- has seen every claim of the list on its way is then sure to hold.
 use Prim.Native.Nat.{ℕ, suc, _≤_, _<_}
 use mathlib.Core.Path.{_≡_, refl, sym, ap, _∙_}
-use mathlib.Core.Bool.{Bool, true}
+use mathlib.Core.Bool.{Bool, true, false}
 use mathlib.Core.Logic.{_≢_, _⊎_, inl, inr}
 use native.Mathlib.Omega.{arith}
 use Rattle.rules.specs.Tables.{Tables, startAt, endAt, kindAt, markAt, phaseAt, ownAt, prevAt, curAt, start, end, kind, mark, link, next, head, phase, own, prev, cur}
 use Rattle.rules.specs.Comparison.{claimOf}
-use Rattle.rules.specs.Steps.{moveTo, linkIn, pass}
+use Rattle.rules.specs.Steps.{moveTo, linkIn, pass, hold}
 use Rattle.rules.proofs.Ground.Deciding.{if-same}
 use Rattle.rules.proofs.Ground.Following.{reach-source, not-from-0, beyond, Ends, ends-tail}
 use Rattle.rules.specs.Reach.{Reach, here}
@@ -18,12 +18,12 @@ use Rattle.rules.proofs.Invariant.Phases.{outside-busy}
 use Rattle.rules.proofs.Invariant.Clauses.{OnList, from-head, from-cur}
 use Rattle.rules.proofs.Invariant.Known.{own-proper, ordered-along}
 use Rattle.rules.proofs.Rules.RuleEffects.{pass-stored, start-stored}
-use Rattle.rules.proofs.Rules.Reasons.{Joined, Starting, as-reader, as-writer, links-in, restarts, rereads, Walking, inserts, unlinks, passes, waits}
+use Rattle.rules.proofs.Rules.Reasons.{Joined, Starting, as-reader, as-writer, on-sheet, links-in, restarts, rereads, Walking, inserts, unlinks, passes, waits}
 use Rattle.rules.proofs.Keeping.Good.{link-in-words}
 use Rattle.rules.proofs.Keeping.Aside.{seat-room}
 use Rattle.rules.proofs.Keeping.CallKeeps.{good}
 use Rattle.rules.proofs.Waiting.Within.{Within, now, later, along-chain}
-use Rattle.rules.proofs.Waiting.Alone.{alone, AtRest, rests-in, after-1, unlinked, is-not-joined}
+use Rattle.rules.proofs.Waiting.Alone.{alone, AtRest, rests-holding, rests-in, after-1, unlinked, is-not-joined}
 use Rattle.rules.proofs.Waiting.WriterAlone.{ClearWay}
 
 -- every claim that stands lies ahead of cur, or ends before own starts
@@ -38,7 +38,7 @@ pub record WalkAt (N S s : ℕ) (known : Bool) (t : Tables) : Type 0 where
 
 pub data WalkEnds (N S s : ℕ) (known : Bool) (t : Tables) : Type 0 where
   at-rest : AtRest s t → WalkEnds N S s known t
-  linked : Reached N S t → phase t s ≡ 3 → (known ≡ true → kind t (own t s) ≢ 1 → ClearWay s t) → WalkEnds N S s known t
+  linked : t .sheet ≡ false → Reached N S t → phase t s ≡ 3 → (known ≡ true → kind t (own t s) ≢ 1 → ClearWay s t) → WalkEnds N S s known t
 
 module _ {N S : ℕ} (s : ℕ) (s-in : s < S) (known : Bool) where
   -- a writer that is linked in where it has seen all has a clear way from the head
@@ -75,13 +75,15 @@ module _ {N S : ℕ} (s : ℕ) (s-in : s < S) (known : Bool) where
 
   starts : {t u : Tables} → WalkAt N S s known t → (cur t s ≡ 0) ⊎ Precedes (claimOf t (own t s)) (claimOf t (cur t s))
       → Starting (linkIn t s) s u → Reached N S u → WalkEnds N S s known u
-  unfolding linkIn
-  starts {t} r front (as-reader x) g =
+  unfolding linkIn hold
+  starts {t} r front (as-reader n x) g =
       let w = start-stored t s (seat-room (good (r .reached) .aside) s s-in) 3 (own t s) (next (linkIn t s) (own t s)) in
-      linked g (w .at-s phaseAt (omega arith)) (λ k ko. absurd (ko (ap (kind (linkIn t s)) (w .at-s ownAt (omega arith)) ∙ x)))
-  starts {t} r front (as-writer x) g =
+      linked n g (w .at-s phaseAt (omega arith)) (λ k ko. absurd (ko (ap (kind (linkIn t s)) (w .at-s ownAt (omega arith)) ∙ x)))
+  starts {t} r front (as-writer n x) g =
       let w = start-stored t s (seat-room (good (r .reached) .aside) s s-in) 3 0 (head (linkIn t s)) in
-      linked g (w .at-s phaseAt (omega arith)) (λ k ko. clear-way r front g k (λ q. x (link-in-words t s (own t s) kindAt (omega arith) (omega arith) ∙ q)))
+      linked n g (w .at-s phaseAt (omega arith)) (λ k ko. clear-way r front g k (λ q. x (link-in-words t s (own t s) kindAt (omega arith) (omega arith) ∙ q)))
+  starts {t} r front (on-sheet q) g =
+      at-rest (rests-holding (start-stored t s (seat-room (good (r .reached) .aside) s s-in) 5 0 0 .at-s phaseAt (omega arith)))
 
   one-step : (m k : ℕ) (t : Tables) → WalkAt N S s known t → Ends (link t) (cur t s) k
       → ((u : Tables) → WalkAt N S s known u → (j : ℕ) → Ends (link u) (cur u s) j → j < k → Within (alone s) (WalkEnds N S s known) m u)
