@@ -1,8 +1,8 @@
 -- The small histories of document 01, H1 to H11, as one statement over the group, proved by computing with the rules; beside them the
--- examples of requests (i) to (v) and (vii) of document 02, and two of our own, for the faults that H1 to H11 do not tell apart.
+-- examples of requests (i) to (v), (vii) and (viii) of document 02, and two of our own, for the faults that H1 to H11 do not tell apart.
 use Prim.Native.Nat.{ℕ}
 use mathlib.Core.Path.{_≡_, refl}
-use mathlib.Core.Bool.{true, false}
+use mathlib.Core.Bool.{Bool, true, false}
 use mathlib.Core.List.{List, [], _∷_, _++_, map}
 use lib.ListN.{replicate}
 use Rattle.rules.specs.Tables.{Tables, tables, fresh, readers, writers, title, head, own}
@@ -17,6 +17,7 @@ use Rattle.rules.specs.Board.{holders, coveredBy, filled, shown, board}
 use Rattle.rules.specs.Play.{Call, reserveCall, enterCall, stepCall, releaseCall, Turn, trace, afterAll, ascii, play}
 use Rattle.rules.specs.declared.Row.{Row}
 use Rattle.rules.proofs.Laws.Opened.{rules}
+use Rattle.rules.specs.Run.{ran, run}
 
 -- calls as a script writes them
 abbrev v : ℕ → ℕ → ℕ → ℕ → Call
@@ -343,6 +344,82 @@ pub reserved-before-entered : ReservedFirst × EnterRefused × AllowedLikeSix ×
 unfolding rules
 reserved-before-entered =
     ((refl, refl, refl, refl, refl, refl, refl, refl, refl), (refl, refl, refl, refl, refl), (refl, refl, refl, refl, refl), (refl, refl, refl, refl))
+
+-- ---- 02 (viii): writers' sheets
+abbrev sheet : ℕ → ℕ → Tables
+sheet N S = fresh true N S 4294967295
+
+-- "a claim holds as soon as it is linked": a claim's life takes four messages, where a writer's on the ordinary table takes five
+abbrev pub LifeOfAClaim : Type 0
+LifeOfAClaim =
+    (answers (sheet 4 3) (v 0 10 20 2 ∷ e 0 ∷ s 0 ∷ r 0 ∷ []) ≡ node 1 ∷ on ∷ held ∷ out ∷ [])
+    × (answers (cleared 4 3) (v 0 10 20 2 ∷ e 0 ∷ s 0 ∷ s 0 ∷ r 0 ∷ []) ≡ node 1 ∷ on ∷ on ∷ held ∷ out ∷ [])
+    × (afterAll (sheet 1 1) (v 0 10 20 2 ∷ s 0 ∷ s 0 ∷ []) .nodes ≡ 1 ∷ 0 ∷ 1 ∷ 4294967295 ∷ 10 ∷ 20 ∷ 2 ∷ 0 ∷ 0 ∷ [])
+    × (afterAll (sheet 1 1) (v 0 10 20 2 ∷ s 0 ∷ s 0 ∷ []) .seats ≡ 5 ∷ 1 ∷ 0 ∷ 0 ∷ [])
+
+-- H1 on a sheet: who waits is told where and for which frames, and holds once the other has released; readers 0, writers 1
+abbrev H1calls : List Call
+H1calls = v 0 10 20 2 ∷ e 0 ∷ s 0 ∷ v 1 15 25 2 ∷ e 1 ∷ s 1 ∷ r 0 ∷ s 1 ∷ s 1 ∷ s 1 ∷ []
+
+abbrev pub H1onSheet : Type 0
+H1onSheet =
+    (answers (sheet 4 3) H1calls ≡ node 1 ∷ on ∷ held ∷ node 2 ∷ on ∷ wait 1 15 20 ∷ out ∷ on ∷ on ∷ held ∷ [])
+    × (listOf (afterAll (sheet 4 3) H1calls) ≡ 2 ∷ [])
+    × (holders (afterAll (sheet 4 3) H1calls) ≡ row 1 15 25 2 ∷ [])
+    × (readers (afterAll (sheet 4 3) H1calls) ≡ 0)
+    × (writers (afterAll (sheet 4 3) H1calls) ≡ 1)
+
+-- a claim that ends where the other starts holds beside it; behind a marked prev a claim is not linked, it looks again from the head; and a released node
+-- is taken again, but none where nodes have run out (H2, H6 and H7 on a sheet)
+abbrev pub BesideAndBehind : Type 0
+BesideAndBehind =
+    (answers (sheet 4 4) (v 0 10 20 2 ∷ e 0 ∷ s 0 ∷ v 1 20 30 2 ∷ e 1 ∷ s 1 ∷ s 1 ∷ v 2 0 10 2 ∷ e 2 ∷ s 2 ∷ [])
+    ≡ node 1 ∷ on ∷ held ∷ node 2 ∷ on ∷ on ∷ held ∷ node 3 ∷ on ∷ held ∷ [])
+    × (answers (sheet 4 4) (v 0 0 10 2 ∷ e 0 ∷ s 0 ∷ v 1 20 30 2 ∷ e 1 ∷ s 1 ∷ r 0 ∷ s 1 ∷ s 1 ∷ s 1 ∷ [])
+    ≡ node 1 ∷ on ∷ held ∷ node 2 ∷ on ∷ on ∷ out ∷ on ∷ on ∷ held ∷ [])
+    × (answers (sheet 1 2) (v 0 0 10 2 ∷ e 0 ∷ s 0 ∷ v 1 0 10 2 ∷ r 0 ∷ v 1 0 10 2 ∷ []) ≡ node 1 ∷ on ∷ held ∷ refused 8 ∷ out ∷ node 1 ∷ [])
+
+-- "kind 1 is 4": after 2, 3 and 11 and before 5, like every kind that is none; the ordinary table takes it
+abbrev pub KindOneIsFour : Type 0
+KindOneIsFour =
+    (answers (fresh true 2 2 20) (v 2 10 10 1 ∷ v 0 10 10 1 ∷ v 0 10 21 1 ∷ v 0 10 20 1 ∷ v 0 10 20 3 ∷ v 0 10 20 2 ∷ v 0 0 5 1 ∷ v 0 0 5 2 ∷ [])
+    ≡ refused 2 ∷ refused 3 ∷ refused 11 ∷ refused 4 ∷ refused 4 ∷ node 1 ∷ refused 4 ∷ refused 5 ∷ [])
+    × (answers (fresh false 2 2 20) (v 0 10 20 1 ∷ []) ≡ node 1 ∷ [])
+
+-- "phases 0, 1, 2, 5 and 7 and kind 2 only": what else is sound in the ordinary tables is damage in a sheet. A seat in this phase, with its cur, and its node
+abbrev withPhase : Bool → ℕ → ℕ → ℕ → Tables
+withPhase sheet phase cur kind = tables sheet (0 ∷ 0 ∷ 0 ∷ 100 ∷ 10 ∷ 20 ∷ kind ∷ 0 ∷ 0 ∷ 0 ∷ 0 ∷ 0 ∷ 0 ∷ 0 ∷ []) (phase ∷ 1 ∷ 0 ∷ cur ∷ [])
+
+abbrev soundness : Bool → ℕ → List Bool
+soundness sheet kind = map (λ (phase : ℕ). sound (withPhase sheet phase 1 kind)) (1 ∷ 2 ∷ 3 ∷ 4 ∷ []) ++ map (λ (phase : ℕ). sound (withPhase sheet phase 0 kind)) (6 ∷ 7 ∷ 8 ∷ [])
+
+abbrev pub PhasesAndKinds : Type 0
+PhasesAndKinds =
+    (soundness true 2 ≡ true ∷ true ∷ false ∷ false ∷ false ∷ true ∷ false ∷ [])
+    × (soundness false 2 ≡ true ∷ true ∷ true ∷ true ∷ true ∷ true ∷ false ∷ [])
+    × (soundness true 1 ≡ false ∷ false ∷ false ∷ false ∷ false ∷ false ∷ false ∷ [])
+    × (soundness false 1 ≡ true ∷ true ∷ true ∷ true ∷ true ∷ true ∷ false ∷ [])
+    × (sound (tables true (0 ∷ 0 ∷ 1 ∷ 100 ∷ 10 ∷ 20 ∷ 2 ∷ 0 ∷ 0 ∷ []) (5 ∷ 1 ∷ 0 ∷ 0 ∷ [])) ≡ true)
+    × (sound (tables true (0 ∷ 0 ∷ 0 ∷ 100 ∷ 10 ∷ 20 ∷ 1 ∷ 0 ∷ 0 ∷ []) (0 ∷ 0 ∷ 0 ∷ 0 ∷ [])) ≡ false)
+    × (sound (tables false (0 ∷ 0 ∷ 0 ∷ 100 ∷ 10 ∷ 20 ∷ 1 ∷ 0 ∷ 0 ∷ []) (0 ∷ 0 ∷ 0 ∷ 0 ∷ [])) ≡ true)
+
+-- a sheet that no calls come to, where own is on the list already: the step that links it closes a circle, and the next entry of the run is refused 1
+abbrev ownListed : Tables
+ownListed = tables true (2 ∷ 0 ∷ 0 ∷ 100 ∷ 0 ∷ 10 ∷ 2 ∷ 0 ∷ 0 ∷ 20 ∷ 30 ∷ 2 ∷ 1 ∷ 0 ∷ []) (1 ∷ 1 ∷ 0 ∷ 2 ∷ [])
+
+abbrev pub LinkedTwice : Type 0
+LinkedTwice =
+    (run ownListed (0 ∷ 0 ∷ []) 1 .answer ≡ ran 1 0)
+    × (run ownListed (0 ∷ 0 ∷ []) 2 .answer ≡ ran 1 1)
+    × (run ownListed (0 ∷ 0 ∷ []) 2 .after .seats ≡ 5 ∷ 1 ∷ 0 ∷ 0 ∷ [])
+
+pub sheets : LifeOfAClaim × H1onSheet × BesideAndBehind × KindOneIsFour
+unfolding rules
+sheets = ((refl, refl, refl, refl), (refl, refl, refl, refl, refl), (refl, refl, refl), (refl, refl))
+
+pub sheets-sound : PhasesAndKinds × LinkedTwice
+unfolding rules
+sheets-sound = ((refl, refl, refl, refl, refl, refl, refl), (refl, refl, refl))
 
 -- ---- ours: seat 2 waits at node 1, and nodes 1 and 2 are released. Taken out, node 2 is at no seat's own, prev or cur; but
 -- seat 2 still reaches it through node 1, so it is not free

@@ -6,3 +6,4 @@ pub mod NothingDropped
 pub mod Standing
 pub mod CoveredOnce
 pub mod ReservedClaims
+pub mod SheetsApart

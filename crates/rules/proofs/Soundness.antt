@@ -4,3 +4,4 @@ pub mod SoundShape
 pub mod SoundReached
 pub mod Refusals
 pub mod SoundKept
+pub mod SoundSheets

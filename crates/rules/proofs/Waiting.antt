@@ -13,3 +13,4 @@ pub mod Causes
 pub mod EveryWait
 pub mod StepsAlone
 pub mod NobodyWaits
+pub mod SheetsAlone

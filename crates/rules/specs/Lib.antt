@@ -25,3 +25,4 @@ pub mod Title
 pub mod Stores
 pub mod Archive
 pub mod Reserved
+pub mod Sheets

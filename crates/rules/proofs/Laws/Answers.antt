@@ -47,6 +47,19 @@ module _ (t : Tables) (s : ℕ) where
   unfolding answerOf
   answers-back p = rw p
 
+  -- a seat that is told `back` is in phase 6
+  pub back-in : answerOf t s ≡ back → phase t s ≡ 6
+  unfolding answerOf
+  back-in =
+      branch In6 (phase t s is 2) (λ e q. let z : _≡_ {A = ℕ} 0 1 = cc in absurd (omega arith))
+      (λ e. branch In6 (phase t s is 4) (λ e q. let z : _≡_ {A = ℕ} 0 1 = cc in absurd (omega arith))
+      (λ e. branch In6 (phase t s is 5) (λ e q. let z : _≡_ {A = ℕ} 0 1 = cc in absurd (omega arith))
+      (λ e. branch In6 (phase t s is 6) (λ e q. eqb-true (phase t s) 6 e)
+      (λ e q. let z : _≡_ {A = ℕ} 0 1 = cc in absurd (omega arith)))))
+    where
+      In6 : Answer → Type 0
+      In6 a = a ≡ back → phase t s ≡ 6
+
   -- a seat that is told to wait is in phase 2 or 4, and is told where, and for which frames, by its cur
   pub waits-in : (n first end : ℕ) → answerOf t s ≡ wait n first end → ((phase t s ≡ 2) ⊎ (phase t s ≡ 4)) × (waiting t s ≡ wait n first end)
   unfolding answerOf

@@ -29,12 +29,12 @@ use Rattle.rules.proofs.Waiting.FetchAlone.{after-6, after-7}
 is-7 : (p : ℕ) → 4 ≤ p → p ≤ 7 → p ≢ 4 → p ≢ 5 → p ≢ 6 → p ≡ 7
 is-7 p h l d₄ d₅ d₆ = omega arith
 
-abbrev Rests : ℕ → ℕ → Tables → Type 0
+abbrev pub Rests : ℕ → ℕ → Tables → Type 0
 Rests s k t = Within (alone s) (AtRest s) k t
 
 module _ {N S : ℕ} (s : ℕ) (s-in : s < S) where
   -- at most N nodes lie ahead of cur
-  chain-ahead : {t : Tables} → Reached N S t → (k : ℕ) × Ends (link t) (cur t s) k × (k ≤ N)
+  pub chain-ahead : {t : Tables} → Reached N S t → (k : ℕ) × Ends (link t) (cur t s) k × (k ≤ N)
   chain-ahead {t} g =
       let e = known-ends (good g .inv) (known-cur s) in
       (e .0, e .1, short N (λ a. named-in (good g .inv .nodes .links a)) (named-in (good g .inv .seats s .cur-named)) (e .1))
@@ -90,7 +90,7 @@ module _ {N S : ℕ} (s : ℕ) (s-in : s < S) where
       (λ u d. elim d [ loose.at-rest z ↦ now z | loose.joins w ↦ from-joined-walk w ]))
 
   -- phases 2 and 4: at rest, or one step to phase P
-  from-marked : {t : Tables} (P k : ℕ) → Reached N S t → ((u : Tables) → Reached N S u → phase u s ≡ P → Rests s k u) → mark t (cur t s) ≡ 1
+  pub from-marked : {t : Tables} (P k : ℕ) → Reached N S t → ((u : Tables) → Reached N S u → phase u s ≡ P → Rests s k u) → mark t (cur t s) ≡ 1
       → (u : Tables) → Waking t s P u → Reached N S u → Rests s k u
   from-marked {t} P k g on m u (wakes x) g′ = on _ g′ (phase-stored t s (seat-room (good g .aside) s s-in) P .at-s phaseAt (omega arith))
   from-marked P k g on m u (stays x) g′ = absurd (x m)

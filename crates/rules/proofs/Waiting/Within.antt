@@ -22,6 +22,12 @@ module _ {next : Tables → Tables} where
   then-now (now p) f = now (f _ p)
   then-now (later {k = k} w) f = later {k = k} (then-now w f)
 
+-- what each step keeps holds then too
+pub within-keeps : {next : Tables → Tables} {P : Tables → Type 0} (K : Tables → Type 0) → ((t : Tables) → K t → K (next t))
+    → {k : ℕ} {t : Tables} → K t → Within next P k t → Within next (λ u. P u × K u) k t
+within-keeps K keeps q (now p) = now (p, q)
+within-keeps K keeps q (later {k = k} w) = later {k = k} (within-keeps K keeps (keeps _ q) w)
+
 -- a walk along a chain that each step shortens: as many steps as the chain has nodes, and one
 pub along-chain : {next : Tables → Tables} {P R : Tables → Type 0} (at : Tables → ℕ)
     → ((m k : ℕ) (t : Tables) → R t → Ends (link t) (at t) k
