@@ -4,19 +4,22 @@ use Prim.Native.Nat.{_-_, _≤_}
 use mathlib.Core.Path.{_≡_, refl}
 use native.Mathlib.Omega.{arith}
 use borrow.Author.Needs.{needs}
-use Rattle.rules.specs.Tables.{seatWidth, clearWords}
+use Rattle.rules.specs.Tables.{clearWords}
 use Rattle.words.proofs.Places.{clear-none, clear-more, clear-all}
 use Rattle.words.proofs.clear_seat.Statement.{statement}
 use Rattle.words.proofs.clear_seat.Tie as tie
 
 abbrev Inv-loop : tie.InvT-loop
-Inv-loop seat₀ at₀ seat at = (at ≤ seatWidth) × (length seat ≡ length seat₀) × (seat ≡ clearWords at seat₀ 0)
+Inv-loop sheet seat₀ width at₀ seat at = (at ≤ width) × (length seat ≡ length seat₀) × (seat ≡ clearWords sheet at seat₀ 0)
 
 abbrev μ-loop : tie.MeasureT-loop
-μ-loop seat₀ at₀ seat at = seatWidth - at
+μ-loop sheet seat₀ width at₀ seat at = width - at
+
+seat-width-requires : tie.Need-seat-width-requires Inv-loop μ-loop
+seat-width-requires c κs = search needs
 
 loop-holds : tie.Need-loop-holds Inv-loop μ-loop
-loop-holds c = (omega arith, refl, clear-none _ _)
+loop-holds c = (omega arith, refl, clear-none _ _ _)
 
 cast-loop : tie.Need-cast-loop Inv-loop μ-loop
 cast-loop c = search needs
@@ -45,6 +48,7 @@ clear-seat-spec =
     (tie.spec
     Inv-loop
     μ-loop
+    seat-width-requires
     loop-holds
     cast-loop
     put-field-requires

@@ -4,6 +4,9 @@ use borrow.Author.Needs.{needs}
 use Rattle.words.proofs.from_first_node.Statement.{statement}
 use Rattle.words.proofs.from_first_node.Tie as tie
 
+before-nodes-requires : tie.Need-before-nodes-requires
+before-nodes-requires c κs = search needs
+
 mul-result : tie.Need-mul-result
 mul-result c = search needs
 
@@ -21,4 +24,11 @@ returns c = search to-the-end
 
 pub from-first-node-spec : {M : Type 1} → statement M
 from-first-node-spec =
-    tie.close (tie.spec mul-result sub-result part-result-start part-result-end returns)
+    tie.close
+    (tie.spec
+    before-nodes-requires
+    mul-result
+    sub-result
+    part-result-start
+    part-result-end
+    returns)

@@ -5,6 +5,9 @@ use Rattle.rules.specs.Tables.{nodeCountOf}
 use Rattle.words.proofs.node_count.Statement.{statement}
 use Rattle.words.proofs.node_count.Tie as tie
 
+before-nodes-requires : tie.Need-before-nodes-requires
+before-nodes-requires c κs = search needs
+
 returns : tie.Need-returns
 unfolding nodeCountOf
 returns c = search needs
@@ -14,4 +17,4 @@ unfolding nodeCountOf
 returns-2 c = search needs
 
 pub node-count-spec : {M : Type 1} → statement M
-node-count-spec = tie.close (tie.spec returns returns-2)
+node-count-spec = tie.close (tie.spec before-nodes-requires returns returns-2)

@@ -7,6 +7,9 @@ use Rattle.words.proofs.put_seat.Tie as tie
 seat-count-requires : tie.Need-seat-count-requires
 seat-count-requires c κs = search needs
 
+seat-width-requires : tie.Need-seat-width-requires
+seat-width-requires c κs = search needs
+
 seat-place-requires : tie.Need-seat-place-requires
 seat-place-requires c κs = search needs
 
@@ -39,6 +42,7 @@ put-seat-spec =
     tie.close
     (tie.spec
     seat-count-requires
+    seat-width-requires
     seat-place-requires
     mul-seats
     slice-write-seats

@@ -7,6 +7,9 @@ use Rattle.words.proofs.seat_word.Tie as tie
 seat-count-requires : tie.Need-seat-count-requires
 seat-count-requires c κs = search needs
 
+seat-width-requires : tie.Need-seat-width-requires
+seat-width-requires c κs = search needs
+
 seat-word-within-requires : tie.Need-seat-word-within-requires
 seat-word-within-requires c κs = search (seat-there, field-there)
 
@@ -27,6 +30,7 @@ seat-word-spec =
     tie.close
     (tie.spec
     seat-count-requires
+    seat-width-requires
     seat-word-within-requires
     returns
     seat-place-requires
