@@ -41,12 +41,12 @@ pub compare-fits : (c o : Claim) → SFits w32 (compare c o)
 unfolding compare
 compare-fits c o = a-sign (liesAfter c o) (liesBefore c o)
 
-pub of-words : (l : List ℕ) (c o a b k x y m : ℕ) (r : ℤ) → r ≡ compare (claim a b k) (claim x y m) → m ≡ nodeWord l o kindAt → y ≡ nodeWord l o endAt → x ≡ nodeWord l o startAt
-    → k ≡ nodeWord l c kindAt → b ≡ nodeWord l c endAt → a ≡ nodeWord l c startAt
-    → toZ w32 (ofZ w32 r) ≡ compare (claimOf (tables l []) c) (claimOf (tables l []) o)
-of-words l c o a b k x y m r q pm py px pk pb pa =
-    let e : r ≡ compare (claimOf (tables l []) c) (claimOf (tables l []) o) = q ∙ rw (pa, pb, pk, px, py, pm) in
-    rw e (toZ-ofZ (compare-fits (claimOf (tables l []) c) (claimOf (tables l []) o)))
+pub of-words : (sheet : Bool) (l : List ℕ) (c o a b k x y m : ℕ) (r : ℤ) → r ≡ compare (claim a b k) (claim x y m) → m ≡ nodeWord sheet l o kindAt → y ≡ nodeWord sheet l o endAt → x ≡ nodeWord sheet l o startAt
+    → k ≡ nodeWord sheet l c kindAt → b ≡ nodeWord sheet l c endAt → a ≡ nodeWord sheet l c startAt
+    → toZ w32 (ofZ w32 r) ≡ compare (claimOf (tables sheet l []) c) (claimOf (tables sheet l []) o)
+of-words sheet l c o a b k x y m r q pm py px pk pb pa =
+    let e : r ≡ compare (claimOf (tables sheet l []) c) (claimOf (tables sheet l []) o) = q ∙ rw (pa, pb, pk, px, py, pm) in
+    rw e (toZ-ofZ (compare-fits (claimOf (tables sheet l []) c) (claimOf (tables sheet l []) o)))
 
 -- ---- a signed local is tested by its bits, `ofZ w32 r`: what each test tells
 module _ {A : Type 0} (r : ℤ) (after clash before : A) (fits : SFits w32 r) where

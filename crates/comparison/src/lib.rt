@@ -38,15 +38,15 @@ fn compare_claims(
     0
 }
 
-pub fn compare_nodes(nodes: &[u32], c: u32, o: u32) -> i32
-    ensures { λ r. ⌜ r ≡ compare (claimOf (tables (now (nodes .entry)) []) c) (claimOf (tables (now (nodes .entry)) []) o) ⌝ }
+pub fn compare_nodes(sheet: bool, nodes: &[u32], c: u32, o: u32) -> i32
+    ensures { λ r. ⌜ r ≡ compare (claimOf (tables sheet (now (nodes .entry)) []) c) (claimOf (tables sheet (now (nodes .entry)) []) o) ⌝ }
 {
-    let c_start = words::node_word(nodes, c, words::START);
-    let c_end = words::node_word(nodes, c, words::END);
-    let c_kind = words::node_word(nodes, c, words::KIND);
-    let o_start = words::node_word(nodes, o, words::START);
-    let o_end = words::node_word(nodes, o, words::END);
-    let o_kind = words::node_word(nodes, o, words::KIND);
+    let c_start = words::node_word(sheet, nodes, c, words::START);
+    let c_end = words::node_word(sheet, nodes, c, words::END);
+    let c_kind = words::node_word(sheet, nodes, c, words::KIND);
+    let o_start = words::node_word(sheet, nodes, o, words::START);
+    let o_end = words::node_word(sheet, nodes, o, words::END);
+    let o_kind = words::node_word(sheet, nodes, o, words::KIND);
     compare_claims(c_start, c_end, c_kind, o_start, o_end, o_kind)
 }
 
@@ -83,13 +83,13 @@ fn run_or_none(first: u32, end: u32) -> SharedRun
     SharedRun { first: 0, end: 0 }
 }
 
-pub fn shared_by_nodes(nodes: &[u32], c: u32, o: u32) -> SharedRun
-    ensures { λ r. ⌜ r ≡ rule.shared (claimOf (tables (now (nodes .entry)) []) c) (claimOf (tables (now (nodes .entry)) []) o) ⌝ }
+pub fn shared_by_nodes(sheet: bool, nodes: &[u32], c: u32, o: u32) -> SharedRun
+    ensures { λ r. ⌜ r ≡ rule.shared (claimOf (tables sheet (now (nodes .entry)) []) c) (claimOf (tables sheet (now (nodes .entry)) []) o) ⌝ }
 {
-    let c_start = words::node_word(nodes, c, words::START);
-    let c_end = words::node_word(nodes, c, words::END);
-    let o_start = words::node_word(nodes, o, words::START);
-    let o_end = words::node_word(nodes, o, words::END);
+    let c_start = words::node_word(sheet, nodes, c, words::START);
+    let c_end = words::node_word(sheet, nodes, c, words::END);
+    let o_start = words::node_word(sheet, nodes, o, words::START);
+    let o_end = words::node_word(sheet, nodes, o, words::END);
     let first = later(c_start, o_start);
     let end = earlier(c_end, o_end);
     run_or_none(first, end)
