@@ -16,39 +16,39 @@ use Rattle.rules.proofs.Ground.Logic.{all-fails}
 use Rattle.rules.proofs.Laws.Shape.{name-small, seat-sound}
 use Rattle.shape.specs.Parts.{heldKind, seatsAndCountsSound}
 
-pub is-holder : (t : List ℕ) (s p : ℕ) → p ≡ seatWord t s phaseAt → eqb p 5 ≡ (seatWord t s phaseAt is 5)
-is-holder t s p e = rw e
+pub is-holder : (sheet : Bool) (t : List ℕ) (s p : ℕ) → p ≡ seatWord sheet t s phaseAt → eqb p 5 ≡ (seatWord sheet t s phaseAt is 5)
+is-holder sheet t s p e = rw e
 
 -- ---- a holder of sound shape has a node of its own, whose kind is read
-module _ (l t : List ℕ) (s : ℕ) (b : Bool) (isHolder : b ≡ (seatWord t s phaseAt is 5)) where
-  pub holder-none : b ≡ false → 0 ≡ heldKind (tables l t) s
+module _ (sheet : Bool) (l t : List ℕ) (s : ℕ) (b : Bool) (isHolder : b ≡ (seatWord sheet t s phaseAt is 5)) where
+  pub holder-none : b ≡ false → 0 ≡ heldKind (tables sheet l t) s
   holder-none e = rw (sym isHolder ∙ e)
 
-  module _ (holds : b ≡ true) (o : ℕ) (isOwn : o ≡ seatWord t s ownAt) where
-    pub holder-some : seatSound (tables l t) s ≡ true → o ≢ 0
+  module _ (holds : b ≡ true) (o : ℕ) (isOwn : o ≡ seatWord sheet t s ownAt) where
+    pub holder-some : seatSound (tables sheet l t) s ≡ true → o ≢ 0
     holder-some e z =
-        let h = eqb-true (seatWord t s phaseAt) 5 (sym isHolder ∙ holds) in
-        seat-sound (tables l t) s e .owning (λ q. omega arith) (sym isOwn ∙ z)
+        let h = eqb-true (seatWord sheet t s phaseAt) 5 (sym isHolder ∙ holds) in
+        seat-sound (tables sheet l t) s e .owning (λ q. omega arith) (sym isOwn ∙ z)
 
-    pub holder-in : seatSound (tables l t) s ≡ true → o ≤ nodeCountOf l
-    holder-in e = rw isOwn (name-small (tables l t) (seatWord t s ownAt) (seat-sound (tables l t) s e .own-names))
+    pub holder-in : seatSound (tables sheet l t) s ≡ true → o ≤ nodeCountOf sheet l
+    holder-in e = rw isOwn (name-small (tables sheet l t) (seatWord sheet t s ownAt) (seat-sound (tables sheet l t) s e .own-names))
 
-    pub holder-kind : (k : ℕ) → k ≡ nodeWord l o kindAt → k ≡ heldKind (tables l t) s
+    pub holder-kind : (k : ℕ) → k ≡ nodeWord sheet l o kindAt → k ≡ heldKind (tables sheet l t) s
     holder-kind k e = rw (sym isHolder ∙ holds, ← isOwn) e
 
 -- after the test of a seat
-pub seat-fits : (l t : List ℕ) (s : ℕ) (b : Bool) → b ≡ seatSound (tables l t) s → not b ≡ false → seatSound (tables l t) s ≡ true
-seat-fits l t s b p e = sym p ∙ not-false b e
+pub seat-fits : (sheet : Bool) (l t : List ℕ) (s : ℕ) (b : Bool) → b ≡ seatSound (tables sheet l t) s → not b ≡ false → seatSound (tables sheet l t) s ≡ true
+seat-fits sheet l t s b p e = sym p ∙ not-false b e
 
 -- ---- the seats below a bound
-pub record Counted (l t : List ℕ) (s readers writers : ℕ) : Type 0 where
-  pub below : all s (seatSound (tables l t)) ≡ true
-  pub reading : readers ≡ count s (holdsWith (tables l t) 1)
-  pub writing : writers ≡ count s (holdsWith (tables l t) 2)
+pub record Counted (sheet : Bool) (l t : List ℕ) (s readers writers : ℕ) : Type 0 where
+  pub below : all s (seatSound (tables sheet l t)) ≡ true
+  pub reading : readers ≡ count s (holdsWith (tables sheet l t) 1)
+  pub writing : writers ≡ count s (holdsWith (tables sheet l t) 2)
 
-pub counted-none : (l t : List ℕ) → Counted l t 0 0 0
+pub counted-none : (sheet : Bool) (l t : List ℕ) → Counted sheet l t 0 0 0
 unfolding all count
-counted-none l t = record { below = refl; reading = refl; writing = refl }
+counted-none sheet l t = record { below = refl; reading = refl; writing = refl }
 
 -- a kind that is not 0 is held or not
 held-is : (t : Tables) (s k : ℕ) → k ≢ 0 → holdsWith t k s ≡ (heldKind t s is k)
@@ -58,32 +58,32 @@ held-is t s k d = held (phase t s is 5)
     held true = refl
     held false = sym (ne-eqb 0 k (λ e. d (sym e)))
 
-module _ (l t : List ℕ) (s readers writers : ℕ) where
-  module _ (k : ℕ) (isHeld : k ≡ heldKind (tables l t) s) (b : Bool) (isSeat : b ≡ seatSound (tables l t) s) (fits : not b ≡ false) (w : Counted l t s readers writers) where
-    more : (u v : ℕ) → u ≡ readers + (if k is 1 then 1 else 0) → v ≡ writers + (if k is 2 then 1 else 0) → Counted l t (s + 1) u v
+module _ (sheet : Bool) (l t : List ℕ) (s readers writers : ℕ) where
+  module _ (k : ℕ) (isHeld : k ≡ heldKind (tables sheet l t) s) (b : Bool) (isSeat : b ≡ seatSound (tables sheet l t) s) (fits : not b ≡ false) (w : Counted sheet l t s readers writers) where
+    more : (u v : ℕ) → u ≡ readers + (if k is 1 then 1 else 0) → v ≡ writers + (if k is 2 then 1 else 0) → Counted sheet l t (s + 1) u v
     unfolding all count
     more u v p q = record {
       below = rw (add-one s, w .below, ← isSeat) (not-false b fits);
-      reading = rw (add-one s, held-is (tables l t) s 1 (λ z. omega arith), ← isHeld, ← w .reading) p;
-      writing = rw (add-one s, held-is (tables l t) s 2 (λ z. omega arith), ← isHeld, ← w .writing) q;
+      reading = rw (add-one s, held-is (tables sheet l t) s 1 (λ z. omega arith), ← isHeld, ← w .reading) p;
+      writing = rw (add-one s, held-is (tables sheet l t) s 2 (λ z. omega arith), ← isHeld, ← w .writing) q;
     }
 
-    pub counted-reader : k ≡ 1 → Counted l t (s + 1) (readers + 1) writers
+    pub counted-reader : k ≡ 1 → Counted sheet l t (s + 1) (readers + 1) writers
     counted-reader e = more (readers + 1) writers (rw e) (rw e (omega arith))
 
-    pub counted-writer : k ≡ 2 → Counted l t (s + 1) readers (writers + 1)
+    pub counted-writer : k ≡ 2 → Counted sheet l t (s + 1) readers (writers + 1)
     counted-writer e = more readers (writers + 1) (rw e (omega arith)) (rw e)
 
-    pub counted-other : k ≢ 1 → k ≢ 2 → Counted l t (s + 1) readers writers
+    pub counted-other : k ≢ 1 → k ≢ 2 → Counted sheet l t (s + 1) readers writers
     counted-other d e = more readers writers (rw (ne-eqb k 1 d) (omega arith)) (rw (ne-eqb k 2 e) (omega arith))
 
 -- ---- the ways out
-pub seat-fails : (l t : List ℕ) (n s x y : ℕ) (b : Bool) → b ≡ seatSound (tables l t) s → not b ≡ true → s < n → n ≡ seatCountOf t → false ≡ seatsAndCountsSound (tables l t) x y
+pub seat-fails : (sheet : Bool) (l t : List ℕ) (n s x y : ℕ) (b : Bool) → b ≡ seatSound (tables sheet l t) s → not b ≡ true → s < n → n ≡ seatCountOf sheet t → false ≡ seatsAndCountsSound (tables sheet l t) x y
 unfolding seatsSound
-seat-fails l t n s x y b p q h e = rw (all-fails (seatCountOf t) s (seatSound (tables l t)) (rw e at h) (sym p ∙ not-true b q))
+seat-fails sheet l t n s x y b p q h e = rw (all-fails (seatCountOf sheet t) s (seatSound (tables sheet l t)) (rw e at h) (sym p ∙ not-true b q))
 
-pub all-counted : (l t : List ℕ) (n s readers writers x y : ℕ) → Counted l t s readers writers → n ≤ s → s ≤ n → n ≡ seatCountOf t → (eqb x readers && eqb y writers) ≡ seatsAndCountsSound (tables l t) x y
+pub all-counted : (sheet : Bool) (l t : List ℕ) (n s readers writers x y : ℕ) → Counted sheet l t s readers writers → n ≤ s → s ≤ n → n ≡ seatCountOf sheet t → (eqb x readers && eqb y writers) ≡ seatsAndCountsSound (tables sheet l t) x y
 unfolding seatsSound holdersOfKind
-all-counted l t n s readers writers x y w h i e =
-    let z : s ≡ seatCountOf t = omega arith in
+all-counted sheet l t n s readers writers x y w h i e =
+    let z : s ≡ seatCountOf sheet t = omega arith in
     rw (← z, w .below, w .reading, w .writing)

@@ -10,7 +10,7 @@ use lib.Dec.{eqb, leb, ltb}
 use lib.ListN.{length, drop}
 use borrow.Author.Tests.{not-true, not-false, eq-eqb, ne-eqb, eqb-true, eqb-false, ltb-true, ltb-false, le-leb, lt-leb}
 use Rattle.rules.specs.Notation.{_≤?_, all}
-use Rattle.rules.specs.Tables.{Tables, tables, beforeNodes, title, countWord, nodeWord, linkWord, seatWord, nodeCountOf, seatCountOf, startAt, endAt, kindAt, markAt, phaseAt, ownAt, prevAt, curAt}
+use Rattle.rules.specs.Tables.{Tables, tables, beforeNodes, seatWidth, title, countWord, nodeWord, linkWord, seatWord, nodeCountOf, seatCountOf, startAt, endAt, kindAt, markAt, phaseAt, ownAt, prevAt, curAt}
 use Rattle.rules.specs.Shape.{nodesFit, seatsFit, lengthsFit, isKind, zeroNode, claimNode, names, nodeSound, isPhase, zeroSeat, idleOrOwning, restingAtZero, waitingAtCur, seatSound, countsFit, endsBy, titleFits, endsWithin, nodesSound, seatsSound, sound}
 use Rattle.rules.proofs.Ground.Logic.{or-case, or-neither, and-left, all-fails, all-and}
 use Rattle.rules.proofs.Laws.Words.{link-past}
@@ -22,26 +22,26 @@ use Rattle.shape.proofs.Part.{same-names, same-nodes, same-ends, same-s
 use Rattle.shape.specs.Parts.{nodeSoundBy, nodesSoundBy, busySound, waitingSound, restingSound, seatsAndCountsSound, listEnds}
 use Rattle.rules.proofs.Ground.Deciding.{if-same}
 
-pub lengths-is : (l t : List ℕ) (u v : Bool) → u ≡ nodesFit (tables l []) → v ≡ seatsFit (tables [] t) → (u && v) ≡ lengthsFit (tables l t)
+pub lengths-is : (sheet : Bool) (l t : List ℕ) (u v : Bool) → u ≡ nodesFit (tables sheet l []) → v ≡ seatsFit (tables sheet [] t) → (u && v) ≡ lengthsFit (tables sheet l t)
 unfolding lengthsFit nodesFit seatsFit
-lengths-is l t u v p q = rw (p, q)
+lengths-is sheet l t u v p q = rw (p, q)
 
 -- ---- a name
-module _ (l : List ℕ) (n a : ℕ) (isCount : n ≡ nodeCountOf l) where
-  pub names-zero : a ≡ 0 → true ≡ names (tables l []) a
+module _ (sheet : Bool) (l : List ℕ) (n a : ℕ) (isCount : n ≡ nodeCountOf sheet l) where
+  pub names-zero : a ≡ 0 → true ≡ names (tables sheet l []) a
   unfolding names
   names-zero e = rw (eq-eqb a 0 e)
 
-  pub names-past : n < a → a ≢ 0 → false ≡ names (tables l []) a
+  pub names-past : n < a → a ≢ 0 → false ≡ names (tables sheet l []) a
   unfolding names
   names-past h d = rw (ne-eqb a 0 d, ← isCount, lt-leb a n h)
 
-  pub names-kind : (k : ℕ) (b : Bool) → b ≡ isKind k → k ≡ nodeWord l a kindAt → a ≤ n → a ≢ 0 → b ≡ names (tables l []) a
+  pub names-kind : (k : ℕ) (b : Bool) → b ≡ isKind k → k ≡ nodeWord sheet l a kindAt → a ≤ n → a ≢ 0 → b ≡ names (tables sheet l []) a
   unfolding names
   names-kind k b p q h d = rw (ne-eqb a 0 d, ← isCount, le-leb a n h, ← q) p
 
-named-small : (l : List ℕ) (a : ℕ) → names (tables l []) a ≡ true → leb a (nodeCountOf l) ≡ true
-named-small l a e = le-leb a (nodeCountOf l) (name-small (tables l []) a (named (tables l []) a e))
+named-small : (sheet : Bool) (l : List ℕ) (a : ℕ) → names (tables sheet l []) a ≡ true → leb a (nodeCountOf sheet l) ≡ true
+named-small sheet l a e = le-leb a (nodeCountOf sheet l) (name-small (tables sheet l []) a (named (tables sheet l []) a e))
 
 -- ---- a node: of kind 0, or a claim. What is named is at most N, so that a claim's next is not held to N again
 zero-case : (a b c d z : Bool) → (c ≡ true → z ≡ true) → (a && b && c && d) ≡ ((a && b && true && c && d || false) && z)
@@ -74,32 +74,32 @@ no-zero true true c d = refl
 no-zero true false c d = refl
 no-zero false b c d = refl
 
-module _ (l : List ℕ) (frames a x y k next m : ℕ) (isMark : m ≡ nodeWord l a markAt) (isNext : next ≡ linkWord l a) (isKindOf : k ≡ nodeWord l a kindAt)
-    (isEnd : y ≡ nodeWord l a endAt) (isStart : x ≡ nodeWord l a startAt) where
-  zero-sound : k ≡ 0 → (eqb x 0 && eqb y 0 && eqb next 0 && eqb m 0) ≡ nodeSound (tables l []) a
+module _ (sheet : Bool) (l : List ℕ) (frames a x y k next m : ℕ) (isMark : m ≡ nodeWord sheet l a markAt) (isNext : next ≡ linkWord sheet l a) (isKindOf : k ≡ nodeWord sheet l a kindAt)
+    (isEnd : y ≡ nodeWord sheet l a endAt) (isStart : x ≡ nodeWord sheet l a startAt) where
+  zero-sound : k ≡ 0 → (eqb x 0 && eqb y 0 && eqb next 0 && eqb m 0) ≡ nodeSound (tables sheet l []) a
   unfolding nodeSound zeroNode claimNode isKind
   zero-sound e =
-      let q : nodeWord l a kindAt ≡ 0 = sym isKindOf ∙ e in
+      let q : nodeWord sheet l a kindAt ≡ 0 = sym isKindOf ∙ e in
       rw (isMark, isNext, isEnd, isStart, q)
-      (zero-case (eqb (nodeWord l a startAt) 0) (eqb (nodeWord l a endAt) 0) (eqb (linkWord l a) 0) (eqb (nodeWord l a markAt) 0) (names (tables l []) (linkWord l a))
-      (λ z. sym (names-zero l (nodeCountOf l) (linkWord l a) refl (eqb-true (linkWord l a) 0 z))))
+      (zero-case (eqb (nodeWord sheet l a startAt) 0) (eqb (nodeWord sheet l a endAt) 0) (eqb (linkWord sheet l a) 0) (eqb (nodeWord sheet l a markAt) 0) (names (tables sheet l []) (linkWord sheet l a))
+      (λ z. sym (names-zero sheet l (nodeCountOf sheet l) (linkWord sheet l a) refl (eqb-true (linkWord sheet l a) 0 z))))
 
-  pub node-zero : k ≡ 0 → (eqb x 0 && eqb y 0 && eqb next 0 && eqb m 0) ≡ nodeSoundBy (tables l []) frames a
+  pub node-zero : k ≡ 0 → (eqb x 0 && eqb y 0 && eqb next 0 && eqb m 0) ≡ nodeSoundBy (tables sheet l []) frames a
   node-zero e =
       rw (← zero-sound e, ← isEnd)
       (zero-within (eqb x 0) (eqb y 0) (eqb next 0) (eqb m 0) (leb y frames) (λ z. le-leb y frames (let q = eqb-true y 0 z in omega arith)))
 
-  module _ (v : Bool) (isNamed : v ≡ names (tables l []) next) (some : k ≢ 0) where
-    pub node-lost : not v ≡ true → false ≡ nodeSoundBy (tables l []) frames a
+  module _ (v : Bool) (isNamed : v ≡ names (tables sheet l []) next) (some : k ≢ 0) where
+    pub node-lost : not v ≡ true → false ≡ nodeSoundBy (tables sheet l []) frames a
     unfolding nodeSound
     node-lost e =
-        let q : names (tables l []) (linkWord l a) ≡ false = rw isNext at (sym isNamed ∙ not-true v e) in
-        rw (q, and-false (zeroNode (tables l []) a || claimNode (tables l []) a)) (sym (and-false (nodeWord l a endAt ≤? frames)))
+        let q : names (tables sheet l []) (linkWord sheet l a) ≡ false = rw isNext at (sym isNamed ∙ not-true v e) in
+        rw (q, and-false (zeroNode (tables sheet l []) a || claimNode (tables sheet l []) a)) (sym (and-false (nodeWord sheet l a endAt ≤? frames)))
 
-    pub node-claim : (u : Bool) → u ≡ isKind k → not v ≡ false → (u && ltb x y && leb y frames && leb m 1) ≡ nodeSoundBy (tables l []) frames a
+    pub node-claim : (u : Bool) → u ≡ isKind k → not v ≡ false → (u && ltb x y && leb y frames && leb m 1) ≡ nodeSoundBy (tables sheet l []) frames a
     unfolding nodeSound zeroNode claimNode
     node-claim u q e =
-        let w : names (tables l []) (linkWord l a) ≡ true = rw isNext at (sym isNamed ∙ not-false v e) in
+        let w : names (tables sheet l []) (linkWord sheet l a) ≡ true = rw isNext at (sym isNamed ∙ not-false v e) in
         rw (
           q,
           isMark,
@@ -107,56 +107,56 @@ module _ (l : List ℕ) (frames a x y k next m : ℕ) (isMark : m ≡ nodeWord l
           isEnd,
           isStart,
           w,
-          named-small l (linkWord l a) w,
-          ne-eqb (nodeWord l a kindAt) 0 (λ z. some (isKindOf ∙ z)),
-          no-zero (eqb (nodeWord l a startAt) 0) (eqb (nodeWord l a endAt) 0) (eqb (linkWord l a) 0) (eqb (nodeWord l a markAt) 0),
+          named-small sheet l (linkWord sheet l a) w,
+          ne-eqb (nodeWord sheet l a kindAt) 0 (λ z. some (isKindOf ∙ z)),
+          no-zero (eqb (nodeWord sheet l a startAt) 0) (eqb (nodeWord sheet l a endAt) 0) (eqb (linkWord sheet l a) 0) (eqb (nodeWord sheet l a markAt) 0),
         )
-        (claim-case (isKind (nodeWord l a kindAt)) (ltb (nodeWord l a startAt) (nodeWord l a endAt)) (leb (nodeWord l a endAt) frames) (leb (nodeWord l a markAt) 1))
+        (claim-case (isKind (nodeWord sheet l a kindAt)) (ltb (nodeWord sheet l a startAt) (nodeWord sheet l a endAt)) (leb (nodeWord sheet l a endAt) frames) (leb (nodeWord sheet l a markAt) 1))
 
 -- ---- every node
-unfoldable pub nodesBelow : List ℕ → ℕ → ℕ → Bool
-nodesBelow l frames i = all i (λ m. nodeSoundBy (tables l []) frames (m + 1))
+unfoldable pub nodesBelow : Bool → List ℕ → ℕ → ℕ → Bool
+nodesBelow sheet l frames i = all i (λ m. nodeSoundBy (tables sheet l []) frames (m + 1))
 
-both-clauses : (l : List ℕ) (frames : ℕ) → nodesBelow l frames (nodeCountOf l) ≡ nodesSoundBy (tables l []) frames
+both-clauses : (sheet : Bool) (l : List ℕ) (frames : ℕ) → nodesBelow sheet l frames (nodeCountOf sheet l) ≡ nodesSoundBy (tables sheet l []) frames
 unfolding nodesBelow nodesSound endsBy
-both-clauses l frames = all-and (nodeCountOf l) (λ m. nodeWord l (m + 1) endAt ≤? frames) (λ m. nodeSound (tables l []) (m + 1))
+both-clauses sheet l frames = all-and (nodeCountOf sheet l) (λ m. nodeWord sheet l (m + 1) endAt ≤? frames) (λ m. nodeSound (tables sheet l []) (m + 1))
 
-pub nodes-none : (l : List ℕ) (frames : ℕ) → nodesBelow l frames 0 ≡ true
+pub nodes-none : (sheet : Bool) (l : List ℕ) (frames : ℕ) → nodesBelow sheet l frames 0 ≡ true
 unfolding nodesBelow all
-nodes-none l frames = refl
+nodes-none sheet l frames = refl
 
-pub nodes-more : (l : List ℕ) (frames i : ℕ) (b : Bool) → nodesBelow l frames i ≡ true → b ≡ nodeSoundBy (tables l []) frames (i + 1) → b ≡ true → nodesBelow l frames (i + 1) ≡ true
+pub nodes-more : (sheet : Bool) (l : List ℕ) (frames i : ℕ) (b : Bool) → nodesBelow sheet l frames i ≡ true → b ≡ nodeSoundBy (tables sheet l []) frames (i + 1) → b ≡ true → nodesBelow sheet l frames (i + 1) ≡ true
 unfolding nodesBelow all
-nodes-more l frames i b h p q = rw (add-one i, h, ← p, q)
+nodes-more sheet l frames i b h p q = rw (add-one i, h, ← p, q)
 
-pub nodes-fail : (l : List ℕ) (frames n i : ℕ) (b : Bool) → b ≡ nodeSoundBy (tables l []) frames (i + 1) → b ≡ false → i < n → n ≡ nodeCountOf l → false ≡ nodesSoundBy (tables l []) frames
+pub nodes-fail : (sheet : Bool) (l : List ℕ) (frames n i : ℕ) (b : Bool) → b ≡ nodeSoundBy (tables sheet l []) frames (i + 1) → b ≡ false → i < n → n ≡ nodeCountOf sheet l → false ≡ nodesSoundBy (tables sheet l []) frames
 unfolding nodesBelow
-nodes-fail l frames n i b p q h e =
-    sym (all-fails (nodeCountOf l) i (λ m. nodeSoundBy (tables l []) frames (m + 1)) (rw e at h) (sym p ∙ q)) ∙ both-clauses l frames
+nodes-fail sheet l frames n i b p q h e =
+    sym (all-fails (nodeCountOf sheet l) i (λ m. nodeSoundBy (tables sheet l []) frames (m + 1)) (rw e at h) (sym p ∙ q)) ∙ both-clauses sheet l frames
 
-pub nodes-all : (l : List ℕ) (frames n i : ℕ) → nodesBelow l frames i ≡ true → n ≤ i → i ≤ n → n ≡ nodeCountOf l → true ≡ nodesSoundBy (tables l []) frames
-nodes-all l frames n i h a b e = let q : i ≡ nodeCountOf l = omega arith in rw (← both-clauses l frames, ← q) (sym h)
+pub nodes-all : (sheet : Bool) (l : List ℕ) (frames n i : ℕ) → nodesBelow sheet l frames i ≡ true → n ≤ i → i ≤ n → n ≡ nodeCountOf sheet l → true ≡ nodesSoundBy (tables sheet l []) frames
+nodes-all sheet l frames n i h a b e = let q : i ≡ nodeCountOf sheet l = omega arith in rw (← both-clauses sheet l frames, ← q) (sym h)
 
 -- ---- own, prev and cur
-module _ (l : List ℕ) (o v c : ℕ) where
-  pub own-none : o ≡ 0 → false ≡ busySound (tables l []) o v c
+module _ (sheet : Bool) (l : List ℕ) (o v c : ℕ) where
+  pub own-none : o ≡ 0 → false ≡ busySound (tables sheet l []) o v c
   own-none e = rw (eq-eqb o 0 e)
 
-  module _ (x : Bool) (isOwn : x ≡ names (tables l []) o) where
-    pub own-lost : not x ≡ true → false ≡ busySound (tables l []) o v c
+  module _ (x : Bool) (isOwn : x ≡ names (tables sheet l []) o) where
+    pub own-lost : not x ≡ true → false ≡ busySound (tables sheet l []) o v c
     own-lost e = rw (sym isOwn ∙ not-true x e, and-false (not (eqb o 0)))
 
-    module _ (y : Bool) (isPrev : y ≡ names (tables l []) v) (owns : not x ≡ false) (some : o ≢ 0) where
-      pub prev-lost : not y ≡ true → false ≡ busySound (tables l []) o v c
+    module _ (y : Bool) (isPrev : y ≡ names (tables sheet l []) v) (owns : not x ≡ false) (some : o ≢ 0) where
+      pub prev-lost : not y ≡ true → false ≡ busySound (tables sheet l []) o v c
       prev-lost e = rw (ne-eqb o 0 some, sym isOwn ∙ not-false x owns, sym isPrev ∙ not-true y e)
 
-      pub all-named : (z : Bool) → z ≡ names (tables l []) c → not y ≡ false → z ≡ busySound (tables l []) o v c
+      pub all-named : (z : Bool) → z ≡ names (tables sheet l []) c → not y ≡ false → z ≡ busySound (tables sheet l []) o v c
       all-named z isCur e = rw (ne-eqb o 0 some, sym isOwn ∙ not-false x owns, sym isPrev ∙ not-false y e) isCur
 
-  pub waits-nowhere : c ≡ 0 → false ≡ waitingSound (tables l []) o v c
+  pub waits-nowhere : c ≡ 0 → false ≡ waitingSound (tables sheet l []) o v c
   waits-nowhere e = rw (eq-eqb c 0 e)
 
-  pub waits-at-cur : (w : Bool) → w ≡ busySound (tables l []) o v c → c ≢ 0 → w ≡ waitingSound (tables l []) o v c
+  pub waits-at-cur : (w : Bool) → w ≡ busySound (tables sheet l []) o v c → c ≢ 0 → w ≡ waitingSound (tables sheet l []) o v c
   waits-at-cur w q d = rw (ne-eqb c 0 d) q
 
   -- the test before own is looked up
@@ -166,11 +166,11 @@ module _ (l : List ℕ) (o v c : ℕ) where
   rests-case false true false w = refl
   rests-case false true true w = refl
 
-  pub rests-not : (eqb o 0 || not (eqb v 0) || not (eqb c 0)) ≡ true → false ≡ restingSound (tables l []) o v c
-  rests-not e = rw (rests-case (eqb o 0) (eqb v 0) (eqb c 0) (names (tables l []) o), e)
+  pub rests-not : (eqb o 0 || not (eqb v 0) || not (eqb c 0)) ≡ true → false ≡ restingSound (tables sheet l []) o v c
+  rests-not e = rw (rests-case (eqb o 0) (eqb v 0) (eqb c 0) (names (tables sheet l []) o), e)
 
-  pub rests : (w : Bool) → w ≡ names (tables l []) o → (eqb o 0 || not (eqb v 0) || not (eqb c 0)) ≡ false → w ≡ restingSound (tables l []) o v c
-  rests w q e = rw (rests-case (eqb o 0) (eqb v 0) (eqb c 0) (names (tables l []) o), e) q
+  pub rests : (w : Bool) → w ≡ names (tables sheet l []) o → (eqb o 0 || not (eqb v 0) || not (eqb c 0)) ≡ false → w ≡ restingSound (tables sheet l []) o v c
+  rests w q e = rw (rests-case (eqb o 0) (eqb v 0) (eqb c 0) (names (tables sheet l []) o), e) q
 
 -- ---- a seat by its phase
 idle-case : (a b c f g h : Bool) → (a ≡ true → f ≡ true) → (b ≡ true → g ≡ true) → (c ≡ true → h ≡ true)
@@ -198,45 +198,53 @@ resting-case true true false f g h q r = refl
 resting-case true false c f g h q r = refl
 resting-case false b c f g h q r = refl
 
+-- The code tests the four words that have a name, and a seat has no others, in either profile: where it gets more of them, this fails, and the code
+-- has to test those too.
+four-words : (sheet : Bool) (t : List ℕ) (s : ℕ) → all (seatWidth sheet) (λ field. eqb (seatWord sheet t s field) 0)
+    ≡ (eqb (seatWord sheet t s phaseAt) 0 && eqb (seatWord sheet t s ownAt) 0 && eqb (seatWord sheet t s prevAt) 0 && eqb (seatWord sheet t s curAt) 0)
+unfolding all
+four-words true t s = refl
+four-words false t s = refl
+
 seven : {p : ℕ} → 5 ≤ p → p < 8 → p ≢ 5 → p ≢ 6 → p ≡ 7
 seven g h d d′ = omega arith
 
-module _ (l t : List ℕ) (s p o v c : ℕ) (isCur : c ≡ seatWord t s curAt) (isPrev : v ≡ seatWord t s prevAt) (isOwn : o ≡ seatWord t s ownAt) (isPhaseOf : p ≡ seatWord t s phaseAt) where
-  zero-named : (a : ℕ) → eqb a 0 ≡ true → names (tables l []) a ≡ true
-  zero-named a z = name-of (tables l []) a (inl (eqb-true a 0 z))
+module _ (sheet : Bool) (l t : List ℕ) (s p o v c : ℕ) (isCur : c ≡ seatWord sheet t s curAt) (isPrev : v ≡ seatWord sheet t s prevAt) (isOwn : o ≡ seatWord sheet t s ownAt) (isPhaseOf : p ≡ seatWord sheet t s phaseAt) where
+  zero-named : (a : ℕ) → eqb a 0 ≡ true → names (tables sheet l []) a ≡ true
+  zero-named a z = name-of (tables sheet l []) a (inl (eqb-true a 0 z))
 
-  pub seat-idle : p ≡ 0 → (eqb o 0 && eqb v 0 && eqb c 0) ≡ seatSound (tables l t) s
-  unfolding seatSound isPhase zeroSeat idleOrOwning restingAtZero waitingAtCur names all
+  pub seat-idle : p ≡ 0 → (eqb o 0 && eqb v 0 && eqb c 0) ≡ seatSound (tables sheet l t) s
+  unfolding seatSound isPhase zeroSeat idleOrOwning restingAtZero waitingAtCur names
   seat-idle e =
-      rw (← isPhaseOf, ← isCur, ← isPrev, ← isOwn, e)
-      (idle-case (eqb o 0) (eqb v 0) (eqb c 0) (names (tables l []) o) (names (tables l []) v) (names (tables l []) c) (zero-named o) (zero-named v) (zero-named c))
+      rw (four-words sheet t s, ← isPhaseOf, ← isCur, ← isPrev, ← isOwn, e)
+      (idle-case (eqb o 0) (eqb v 0) (eqb c 0) (names (tables sheet l []) o) (names (tables sheet l []) v) (names (tables sheet l []) c) (zero-named o) (zero-named v) (zero-named c))
 
   -- what each clause says of a seat in a phase from 1 to 7
   clauses : Bool → Bool → Bool
-  clauses resting waiting = not (eqb o 0) && resting && waiting && names (tables l []) o && names (tables l []) v && names (tables l []) c
+  clauses resting waiting = not (eqb o 0) && resting && waiting && names (tables sheet l []) o && names (tables sheet l []) v && names (tables sheet l []) c
 
-  in-phase : (P : ℕ) → p ≡ P → P ≢ 0 → P ≤ 7 → clauses (not (eqb P 5 || eqb P 6 || eqb P 7) || eqb v 0 && eqb c 0) (not (eqb P 2 || eqb P 4) || not (eqb c 0)) ≡ seatSound (tables l t) s
+  in-phase : (P : ℕ) → p ≡ P → P ≢ 0 → P ≤ 7 → clauses (not (eqb P 5 || eqb P 6 || eqb P 7) || eqb v 0 && eqb c 0) (not (eqb P 2 || eqb P 4) || not (eqb c 0)) ≡ seatSound (tables sheet l t) s
   unfolding seatSound isPhase idleOrOwning restingAtZero waitingAtCur names clauses
   in-phase P e d h = rw (← isPhaseOf, ← isCur, ← isPrev, ← isOwn, e, ne-eqb P 0 d, le-leb P 7 h)
 
-  pub seat-on-foot : (w : Bool) → w ≡ busySound (tables l []) o v c → (p ≡ 1) ⊎ (p ≡ 3) → w ≡ seatSound (tables l t) s
+  pub seat-on-foot : (w : Bool) → w ≡ busySound (tables sheet l []) o v c → (p ≡ 1) ⊎ (p ≡ 3) → w ≡ seatSound (tables sheet l t) s
   unfolding clauses
-  seat-on-foot w h (inl e) = h ∙ foot-case (not (eqb o 0)) (names (tables l []) o) (names (tables l []) v) (names (tables l []) c) ∙ in-phase 1 e (omega arith) (omega arith)
-  seat-on-foot w h (inr e) = h ∙ foot-case (not (eqb o 0)) (names (tables l []) o) (names (tables l []) v) (names (tables l []) c) ∙ in-phase 3 e (omega arith) (omega arith)
+  seat-on-foot w h (inl e) = h ∙ foot-case (not (eqb o 0)) (names (tables sheet l []) o) (names (tables sheet l []) v) (names (tables sheet l []) c) ∙ in-phase 1 e (omega arith) (omega arith)
+  seat-on-foot w h (inr e) = h ∙ foot-case (not (eqb o 0)) (names (tables sheet l []) o) (names (tables sheet l []) v) (names (tables sheet l []) c) ∙ in-phase 3 e (omega arith) (omega arith)
 
-  pub seat-waiting : (w : Bool) → w ≡ waitingSound (tables l []) o v c → (p ≡ 2) ⊎ (p ≡ 4) → w ≡ seatSound (tables l t) s
+  pub seat-waiting : (w : Bool) → w ≡ waitingSound (tables sheet l []) o v c → (p ≡ 2) ⊎ (p ≡ 4) → w ≡ seatSound (tables sheet l t) s
   unfolding clauses
   seat-waiting w h (inl e) =
-      h ∙ waiting-case (not (eqb o 0)) (not (eqb c 0)) (names (tables l []) o) (names (tables l []) v) (names (tables l []) c) ∙ in-phase 2 e (omega arith) (omega arith)
+      h ∙ waiting-case (not (eqb o 0)) (not (eqb c 0)) (names (tables sheet l []) o) (names (tables sheet l []) v) (names (tables sheet l []) c) ∙ in-phase 2 e (omega arith) (omega arith)
   seat-waiting w h (inr e) =
-      h ∙ waiting-case (not (eqb o 0)) (not (eqb c 0)) (names (tables l []) o) (names (tables l []) v) (names (tables l []) c) ∙ in-phase 4 e (omega arith) (omega arith)
+      h ∙ waiting-case (not (eqb o 0)) (not (eqb c 0)) (names (tables sheet l []) o) (names (tables sheet l []) v) (names (tables sheet l []) c) ∙ in-phase 4 e (omega arith) (omega arith)
 
-  rested : restingSound (tables l []) o v c ≡ clauses (eqb v 0 && eqb c 0) true
+  rested : restingSound (tables sheet l []) o v c ≡ clauses (eqb v 0 && eqb c 0) true
   unfolding clauses
-  rested = resting-case (not (eqb o 0)) (eqb v 0) (eqb c 0) (names (tables l []) o) (names (tables l []) v) (names (tables l []) c) (zero-named v) (zero-named c)
+  rested = resting-case (not (eqb o 0)) (eqb v 0) (eqb c 0) (names (tables sheet l []) o) (names (tables sheet l []) v) (names (tables sheet l []) c) (zero-named v) (zero-named c)
 
   -- 5, 6 or 7 is what is left below 8
-  pub seat-resting : (w : Bool) → w ≡ restingSound (tables l []) o v c → p ≢ 0 → ((p ≡ 1) ⊎ (p ≡ 3) → ⊥) → ((p ≡ 2) ⊎ (p ≡ 4) → ⊥) → p < 8 → w ≡ seatSound (tables l t) s
+  pub seat-resting : (w : Bool) → w ≡ restingSound (tables sheet l []) o v c → p ≢ 0 → ((p ≡ 1) ⊎ (p ≡ 3) → ⊥) → ((p ≡ 2) ⊎ (p ≡ 4) → ⊥) → p < 8 → w ≡ seatSound (tables sheet l t) s
   seat-resting w h z f g small =
       let no-1 : p ≢ 1 = λ e. f (inl e) in
       let no-2 : p ≢ 2 = λ e. g (inl e) in
@@ -247,7 +255,7 @@ module _ (l t : List ℕ) (s p o v c : ℕ) (isCur : c ≡ seatWord t s curAt) (
       if-same p 6 (λ e. h ∙ rested ∙ in-phase 6 e (omega arith) (omega arith)) (λ d′.
       h ∙ rested ∙ in-phase 7 (seven large small d d′) (omega arith) (omega arith)))
 
-  pub seat-no-phase : 8 ≤ p → false ≡ seatSound (tables l t) s
+  pub seat-no-phase : 8 ≤ p → false ≡ seatSound (tables sheet l t) s
   unfolding seatSound isPhase
   seat-no-phase h = rw (← isPhaseOf, lt-leb p 7 (omega arith))
 
@@ -257,7 +265,7 @@ unfolding endsWithin
 ends-zero t zero a e = rw e
 ends-zero t (suc left) a e = rw e
 
-ends-next : (t : Tables) (left a : ℕ) → left ≢ 0 → a ≢ 0 → endsWithin (left - 1) t (linkWord (t .nodes) a) ≡ endsWithin left t a
+ends-next : (t : Tables) (left a : ℕ) → left ≢ 0 → a ≢ 0 → endsWithin (left - 1) t (linkWord (t .sheet) (t .nodes) a) ≡ endsWithin left t a
 unfolding endsWithin
 ends-next t zero a g h = absurd (g refl)
 ends-next t (suc left) a g h = let e : suc left - 1 ≡ left = omega arith in rw (e, ne-eqb a 0 h)
@@ -265,99 +273,99 @@ ends-next t (suc left) a g h = let e : suc left - 1 ≡ left = omega arith in rw
 pub within-some : (n a : ℕ) → (eqb a 0 || ltb n a) ≡ false → a ≢ 0
 within-some n a e = eqb-false a 0 (or-neither (eqb a 0) (ltb n a) e .0)
 
-module _ (l : List ℕ) (left a : ℕ) (whole : endsWithin left (tables l []) a ≡ listEnds (tables l [])) where
-  pub ends-again : (n x : ℕ) → x ≡ linkWord l a → left ≢ 0 → (eqb a 0 || ltb n a) ≡ false → endsWithin (left - 1) (tables l []) x ≡ listEnds (tables l [])
-  ends-again n x p g e = rw p (ends-next (tables l []) left a g (within-some n a e) ∙ whole)
+module _ (sheet : Bool) (l : List ℕ) (left a : ℕ) (whole : endsWithin left (tables sheet l []) a ≡ listEnds (tables sheet l [])) where
+  pub ends-again : (n x : ℕ) → x ≡ linkWord sheet l a → left ≢ 0 → (eqb a 0 || ltb n a) ≡ false → endsWithin (left - 1) (tables sheet l []) x ≡ listEnds (tables sheet l [])
+  ends-again n x p g e = rw p (ends-next (tables sheet l []) left a g (within-some n a e) ∙ whole)
 
-  pub ends-left : left ≡ 0 → eqb a 0 ≡ listEnds (tables l [])
+  pub ends-left : left ≡ 0 → eqb a 0 ≡ listEnds (tables sheet l [])
   unfolding endsWithin
   ends-left e = rw e at whole
 
   -- 0, or past the last node, where the next reads 0
-  pub ends-out : (n : ℕ) → n ≡ nodeCountOf l → nodesFit (tables l []) ≡ true → (eqb a 0 || ltb n a) ≡ true → left ≢ 0 → true ≡ listEnds (tables l [])
+  pub ends-out : (n : ℕ) → n ≡ nodeCountOf sheet l → nodesFit (tables sheet l []) ≡ true → (eqb a 0 || ltb n a) ≡ true → left ≢ 0 → true ≡ listEnds (tables sheet l [])
   ends-out n k fit e g = elim (or-case (eqb a 0) (ltb n a) e) [
-    | inl z ↦ sym (ends-zero (tables l []) left a (eqb-true a 0 z)) ∙ whole
+    | inl z ↦ sym (ends-zero (tables sheet l []) left a (eqb-true a 0 z)) ∙ whole
     | inr z ↦
-        let past : nodeCountOf l < a = rw k at (ltb-true n a z) in
-        sym (ends-zero (tables l []) (left - 1) (linkWord l a) (link-past (tables l []) a (nodes-fit (tables l []) fit .0) past))
-        ∙ ends-next (tables l []) left a g (omega arith)
+        let past : nodeCountOf sheet l < a = rw k at (ltb-true n a z) in
+        sym (ends-zero (tables sheet l []) (left - 1) (linkWord sheet l a) (link-past (tables sheet l []) a (nodes-fit (tables sheet l []) fit .0) past))
+        ∙ ends-next (tables sheet l []) left a g (omega arith)
         ∙ whole
   ]
 
-pub within-in : (l : List ℕ) (n a : ℕ) → n ≡ nodeCountOf l → (eqb a 0 || ltb n a) ≡ false → a ≤ nodeCountOf l
-within-in l n a k e = rw (← k) (ltb-false n a (or-neither (eqb a 0) (ltb n a) e .1))
+pub within-in : (sheet : Bool) (l : List ℕ) (n a : ℕ) → n ≡ nodeCountOf sheet l → (eqb a 0 || ltb n a) ≡ false → a ≤ nodeCountOf sheet l
+within-in sheet l n a k e = rw (← k) (ltb-false n a (or-neither (eqb a 0) (ltb n a) e .1))
 
-pub few-fit : (l : List ℕ) (n : ℕ) → n ≡ nodeCountOf l → nodesFit (tables l []) ≡ true → n ≤ 256
-few-fit l n k fit = rw k (nodes-fit (tables l []) fit .2)
+pub few-fit : (sheet : Bool) (l : List ℕ) (n : ℕ) → n ≡ nodeCountOf sheet l → nodesFit (tables sheet l []) ≡ true → n ≤ 256
+few-fit sheet l n k fit = rw k (nodes-fit (tables sheet l []) fit .2)
 
-pub nodes-of-fit : (l t : List ℕ) → lengthsFit (tables l t) ≡ true → nodesFit (tables l []) ≡ true
+pub nodes-of-fit : (sheet : Bool) (l t : List ℕ) → lengthsFit (tables sheet l t) ≡ true → nodesFit (tables sheet l []) ≡ true
 unfolding lengthsFit nodesFit
-nodes-of-fit l t e = and-left (nodesFit (tables l [])) (seatsFit (tables l t)) e
+nodes-of-fit sheet l t e = and-left (nodesFit (tables sheet l [])) (seatsFit (tables sheet l t)) e
 
-pub ends-all : (l : List ℕ) (n a : ℕ) → n ≡ nodeCountOf l → a ≡ linkWord l 0 → endsWithin n (tables l []) a ≡ listEnds (tables l [])
-ends-all l n a p q = rw (p, q)
+pub ends-all : (sheet : Bool) (l : List ℕ) (n a : ℕ) → n ≡ nodeCountOf sheet l → a ≡ linkWord sheet l 0 → endsWithin n (tables sheet l []) a ≡ listEnds (tables sheet l [])
+ends-all sheet l n a p q = rw (p, q)
 
-pub long-enough : (l t : List ℕ) → lengthsFit (tables l t) ≡ true → beforeNodes ≤ length l
-long-enough l t e = let h = lengths-fit (tables l t) e .nodes-length in omega arith
+pub long-enough : (sheet : Bool) (l t : List ℕ) → lengthsFit (tables sheet l t) ≡ true → beforeNodes sheet ≤ length l
+long-enough sheet l t e = let h = lengths-fit (tables sheet l t) e .nodes-length in omega arith
 
 -- ---- the whole, from the title and from what is found of the part from node 1 on
-pub title-none : (l t : List ℕ) (z : ℕ) → z ≡ title (tables l []) → z ≡ 0 → lengthsFit (tables l t) ≡ true → false ≡ sound (tables l t)
+pub title-none : (sheet : Bool) (l t : List ℕ) (z : ℕ) → z ≡ title (tables sheet l []) → z ≡ 0 → lengthsFit (tables sheet l t) ≡ true → false ≡ sound (tables sheet l t)
 unfolding sound titleFits
-title-none l t z p e fit = rw (fit, sym p ∙ e)
+title-none sheet l t z p e fit = rw (fit, sym p ∙ e)
 
-module _ (l t p : List ℕ) (isPart : p ≡ drop beforeNodes l) where
-  pub counts-part : (n : ℕ) → n ≡ nodeCountOf l → n ≡ nodeCountOf (withZeros p)
-  counts-part n e = rw isPart (e ∙ sym (same-count l))
+module _ (sheet : Bool) (l t p : List ℕ) (isPart : p ≡ drop (beforeNodes sheet) l) where
+  pub counts-part : (n : ℕ) → n ≡ nodeCountOf sheet l → n ≡ nodeCountOf sheet (withZeros sheet p)
+  counts-part n e = rw isPart (e ∙ sym (same-count sheet l))
 
-  module _ (fit : lengthsFit (tables l t) ≡ true) (z : ℕ) (isTitle : z ≡ title (tables l [])) (some-title : z ≢ 0)
-      (b : Bool) (isNodes : b ≡ nodesSoundBy (tables (withZeros p) []) z) where
-    has-title : 1 ≤? title (tables l []) ≡ true
-    has-title = le-leb 1 (title (tables l [])) (let q = sym isTitle in omega arith)
+  module _ (fit : lengthsFit (tables sheet l t) ≡ true) (z : ℕ) (isTitle : z ≡ title (tables sheet l [])) (some-title : z ≢ 0)
+      (b : Bool) (isNodes : b ≡ nodesSoundBy (tables sheet (withZeros sheet p) []) z) where
+    has-title : 1 ≤? title (tables sheet l []) ≡ true
+    has-title = le-leb 1 (title (tables sheet l [])) (let q = sym isTitle in omega arith)
 
-    nodes-are : (endsBy (tables l t) (title (tables l [])) && nodesSound (tables l t)) ≡ b
-    nodes-are = rw (← isTitle, ← ends-by-alone l t z, ← same-ends l z, ← nodes-alone l t, ← same-nodes l) (sym (rw isPart at isNodes))
+    nodes-are : (endsBy (tables sheet l t) (title (tables sheet l [])) && nodesSound (tables sheet l t)) ≡ b
+    nodes-are = rw (← isTitle, ← ends-by-alone sheet l t z, ← same-ends sheet l z, ← nodes-alone sheet l t, ← same-nodes sheet l) (sym (rw isPart at isNodes))
 
-    pub nodes-not : not b ≡ true → false ≡ sound (tables l t)
+    pub nodes-not : not b ≡ true → false ≡ sound (tables sheet l t)
     unfolding sound titleFits
     nodes-not e = rw (fit, has-title, nodes-are, not-true b e)
 
-    module _ (some : not b ≡ false) (h : ℕ) (isHead : h ≡ linkWord l 0) (c : Bool) (isNamed : c ≡ names (tables (withZeros p) []) h) where
-      head-is : names (tables l []) h ≡ c
-      head-is = sym (same-names l h) ∙ sym (rw isPart at isNamed)
+    module _ (some : not b ≡ false) (h : ℕ) (isHead : h ≡ linkWord sheet l 0) (c : Bool) (isNamed : c ≡ names (tables sheet (withZeros sheet p) []) h) where
+      head-is : names (tables sheet l []) h ≡ c
+      head-is = sym (same-names sheet l h) ∙ sym (rw isPart at isNamed)
 
-      pub head-not : not c ≡ true → false ≡ sound (tables l t)
+      pub head-not : not c ≡ true → false ≡ sound (tables sheet l t)
       unfolding sound titleFits names
       head-not e = rw (fit, has-title, nodes-are, not-false b some, ← isHead, head-is, not-true c e)
 
-      module _ (found : not c ≡ false) (x y : ℕ) (isWriters : y ≡ countWord (tables l []) 2) (isReaders : x ≡ countWord (tables l []) 1)
-          (d : Bool) (isSeats : d ≡ seatsAndCountsSound (tables (withZeros p) t) x y) where
-        seats-are : (seatsSound (tables l t) && countsFit (tables l t)) ≡ d
+      module _ (found : not c ≡ false) (x y : ℕ) (isWriters : y ≡ countWord (tables sheet l []) 2) (isReaders : x ≡ countWord (tables sheet l []) 1)
+          (d : Bool) (isSeats : d ≡ seatsAndCountsSound (tables sheet (withZeros sheet p) t) x y) where
+        seats-are : (seatsSound (tables sheet l t) && countsFit (tables sheet l t)) ≡ d
         unfolding countsFit
-        seats-are = rw (← isReaders, ← isWriters, ← same-seats l t, ← same-holders l t 1, ← same-holders l t 2) (sym (rw isPart at isSeats))
+        seats-are = rw (← isReaders, ← isWriters, ← same-seats sheet l t, ← same-holders sheet l t 1, ← same-holders sheet l t 2) (sym (rw isPart at isSeats))
 
-        pub seats-not : not d ≡ true → false ≡ sound (tables l t)
+        pub seats-not : not d ≡ true → false ≡ sound (tables sheet l t)
         unfolding sound titleFits names
         seats-not e = rw (fit, has-title, nodes-are, not-false b some, ← isHead, head-is, not-false c found, seats-are, not-true d e)
 
-        pub words-are : (r : Bool) → r ≡ listEnds (tables l []) → not d ≡ false → r ≡ sound (tables l t)
+        pub words-are : (r : Bool) → r ≡ listEnds (tables sheet l []) → not d ≡ false → r ≡ sound (tables sheet l t)
         unfolding sound titleFits names
         words-are r q e =
-            rw (fit, has-title, nodes-are, not-false b some, ← isHead, head-is, not-false c found, seats-are, not-false d e, ← ends-alone (nodeCountOf l) l t h, isHead) q
+            rw (fit, has-title, nodes-are, not-false b some, ← isHead, head-is, not-false c found, seats-are, not-false d e, ← ends-alone sheet (nodeCountOf sheet l) l t h, isHead) q
 
-pub sound-not : (l t : List ℕ) (b : Bool) → b ≡ lengthsFit (tables l t) → b ≡ false → false ≡ sound (tables l t)
+pub sound-not : (sheet : Bool) (l t : List ℕ) (b : Bool) → b ≡ lengthsFit (tables sheet l t) → b ≡ false → false ≡ sound (tables sheet l t)
 unfolding sound
-sound-not l t b q e = rw (← q, e)
+sound-not sheet l t b q e = rw (← q, e)
 
-pub fits : (l t : List ℕ) (b : Bool) → b ≡ lengthsFit (tables l t) → b ≡ true → lengthsFit (tables l t) ≡ true
-fits l t b p q = sym p ∙ q
+pub fits : (sheet : Bool) (l t : List ℕ) (b : Bool) → b ≡ lengthsFit (tables sheet l t) → b ≡ true → lengthsFit (tables sheet l t) ≡ true
+fits sheet l t b p q = sym p ∙ q
 
 -- N and S are small where the lengths fit
-pub few-nodes : (l t : List ℕ) (n : ℕ) → n ≡ nodeCountOf l → lengthsFit (tables l t) ≡ true → n ≤ 256
-few-nodes l t n e f = rw e (lengths-fit (tables l t) f .few-nodes)
+pub few-nodes : (sheet : Bool) (l t : List ℕ) (n : ℕ) → n ≡ nodeCountOf sheet l → lengthsFit (tables sheet l t) ≡ true → n ≤ 256
+few-nodes sheet l t n e f = rw e (lengths-fit (tables sheet l t) f .few-nodes)
 
-pub few-seats : (l t : List ℕ) (n : ℕ) → n ≡ seatCountOf t → lengthsFit (tables l t) ≡ true → n ≤ 64
-few-seats l t n e f = rw e (lengths-fit (tables l t) f .few-seats)
+pub few-seats : (sheet : Bool) (l t : List ℕ) (n : ℕ) → n ≡ seatCountOf sheet t → lengthsFit (tables sheet l t) ≡ true → n ≤ 64
+few-seats sheet l t n e f = rw e (lengths-fit (tables sheet l t) f .few-seats)
 
 -- what a caller knows after the test
-pub now-sound : (l t : List ℕ) (b : Bool) → b ≡ sound (tables l t) → b ≡ true → sound (tables l t) ≡ true
-now-sound l t b p e = sym p ∙ e
+pub now-sound : (sheet : Bool) (l t : List ℕ) (b : Bool) → b ≡ sound (tables sheet l t) → b ≡ true → sound (tables sheet l t) ≡ true
+now-sound sheet l t b p e = sym p ∙ e

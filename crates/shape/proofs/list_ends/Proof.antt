@@ -11,16 +11,16 @@ use Rattle.shape.proofs.list_ends.Statement.{statement}
 use Rattle.shape.proofs.list_ends.Tie as tie
 
 abbrev Inv-loop : tie.InvT-loop
-Inv-loop nodes n left₀ a₀ left a = endsWithin left (tables nodes []) a ≡ listEnds (tables nodes [])
+Inv-loop sheet nodes n left₀ a₀ left a = endsWithin left (tables sheet nodes []) a ≡ listEnds (tables sheet nodes [])
 
 abbrev μ-loop : tie.MeasureT-loop
-μ-loop nodes n left₀ a₀ left a = left
+μ-loop sheet nodes n left₀ a₀ left a = left
 
 node-count-requires : tie.Need-node-count-requires Inv-loop μ-loop
 node-count-requires c κs = search needs
 
 cast-n : tie.Need-cast-n Inv-loop μ-loop
-cast-n c = omega (arith, few-fit _ _ (c .node-count .ensures) (c .before .before .pre))
+cast-n c = omega (arith, few-fit _ _ _ (c .node-count .ensures) (c .before .before .pre))
 
 link-requires : tie.Need-link-requires Inv-loop μ-loop
 link-requires c κs = search needs

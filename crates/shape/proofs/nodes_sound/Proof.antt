@@ -10,13 +10,13 @@ use Rattle.shape.proofs.nodes_sound.Statement.{statement}
 use Rattle.shape.proofs.nodes_sound.Tie as tie
 
 abbrev Inv-loop : tie.InvT-loop
-Inv-loop part n title i₀ i = (i ≤ n) × (nodesBelow (withZeros part) title i ≡ true)
+Inv-loop sheet part n title i₀ i = (i ≤ n) × (nodesBelow sheet (withZeros sheet part) title i ≡ true)
 
 abbrev μ-loop : tie.MeasureT-loop
-μ-loop part n title i₀ i = n - i
+μ-loop sheet part n title i₀ i = n - i
 
 loop-holds : tie.Need-loop-holds Inv-loop μ-loop
-loop-holds c = (omega arith, nodes-none _ _)
+loop-holds c = (omega arith, nodes-none _ _ _)
 
 add-node-sound : tie.Need-add-node-sound Inv-loop μ-loop
 add-node-sound c = omega arith

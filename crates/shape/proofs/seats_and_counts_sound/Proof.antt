@@ -8,13 +8,13 @@ use Rattle.shape.proofs.seats_and_counts_sound.Statement.{statement}
 use Rattle.shape.proofs.seats_and_counts_sound.Tie as tie
 
 abbrev Inv-loop : tie.InvT-loop
-Inv-loop part seats n count readers writers reading₀ writing₀ s₀ reading writing s = (s ≤ count) × (reading ≤ s) × (writing ≤ s) × Counted (withZeros part) seats s reading writing
+Inv-loop sheet part seats n count readers writers reading₀ writing₀ s₀ reading writing s = (s ≤ count) × (reading ≤ s) × (writing ≤ s) × Counted sheet (withZeros sheet part) seats s reading writing
 
 abbrev μ-loop : tie.MeasureT-loop
-μ-loop part seats n count readers writers reading₀ writing₀ s₀ reading writing s = count - s
+μ-loop sheet part seats n count readers writers reading₀ writing₀ s₀ reading writing s = count - s
 
 loop-holds : tie.Need-loop-holds Inv-loop μ-loop
-loop-holds c = (omega arith, omega arith, omega arith, counted-none _ _)
+loop-holds c = (omega arith, omega arith, omega arith, counted-none _ _ _)
 
 seat-sound-requires : tie.Need-seat-sound-requires Inv-loop μ-loop
 seat-sound-requires c κs = search needs
@@ -23,7 +23,7 @@ returns : tie.Need-returns Inv-loop μ-loop
 returns c = search seat-fails
 
 held-kind-requires : tie.Need-held-kind-requires Inv-loop μ-loop
-held-kind-requires c κs = (search needs, search seat-fits)
+held-kind-requires c κs = (search needs, seat-fits _ _ _ _ _ (c .before .seat-sound .ensures) (c .if1 .left))
 
 add-s : tie.Need-add-s Inv-loop μ-loop
 add-s c = omega arith

@@ -9,13 +9,13 @@ node-count-requires : tie.Need-node-count-requires
 node-count-requires c κs = search needs
 
 cast-n : tie.Need-cast-n
-cast-n c = omega (arith, few-nodes _ _ _ (c .node-count .ensures) (c .before .before .before .pre))
+cast-n c = omega (arith, few-nodes _ _ _ _ (c .node-count .ensures) (c .before .before .before .pre))
 
 seat-count-requires : tie.Need-seat-count-requires
 seat-count-requires c κs = search needs
 
 cast-count : tie.Need-cast-count
-cast-count c = omega (arith, few-seats _ _ _ (c .seat-count .ensures) (c .before .before .before .before .pre))
+cast-count c = omega (arith, few-seats _ _ _ _ (c .seat-count .ensures) (c .before .before .before .before .pre))
 
 link-requires : tie.Need-link-requires
 link-requires c κs = search needs
