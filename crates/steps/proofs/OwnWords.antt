@@ -14,6 +14,7 @@ use Rattle.rules.specs.Comparison.{claimOf, reads, compare, byComparison}
 use Rattle.rules.specs.Answers.{answerOf}
 use Rattle.rules.specs.Steps.{entering, moveTo, joined, unlink, pass, linkIn, startValidating, lookAgain, insert, kindOf, hold, withdraw, leave, walking, waitingToEnter, readerValidating, writerValidating, validating, readerWaiting}
 use Rattle.rules.proofs.Laws.Words.{put-seat-length, seat-within}
+use Rattle.words.proofs.Places.{seats-within}
 
 -- ---- lists
 set-behind : (x l : List ℕ) (i v : ℕ) → set (x ++ l) (length x + i) v ≡ x ++ set l i v
@@ -22,63 +23,65 @@ set-behind (a ∷ x) l i v =
     let e : length (a ∷ x) + i ≡ suc (length x + i) = omega arith in
     ap (λ k. set (a ∷ (x ++ l)) k v) e ∙ ap (λ r. a ∷ r) (set-behind x l i v)
 
-module _ (before behind : List ℕ) (s : ℕ) (at-seat : length before ≡ seatWidth * s) where
+module _ (before behind : List ℕ) (s : ℕ) where
   abbrev whole : List ℕ → List ℕ
   whole l = before ++ (l ++ behind)
 
   -- with the seat's words in their place
   abbrev pub placed : Tables → Tables
-  placed u = tables (u .nodes) (whole (u .seats))
+  placed u = tables (u .sheet) (u .nodes) (whole (u .seats))
 
   pub record Placed (t u : Tables) : Type 0 where
     pub same : t ≡ placed u
 
-  -- all of the seat's words are there
+  -- that place is the seat's, and all of its words are there
   abbrev pub Full : Tables → Type 0
-  Full u = seatWidth ≤ length (u .seats)
+  Full u = (length before ≡ seatWidth (u .sheet) * s) × (seatWidth (u .sheet) ≤ length (u .seats))
 
   -- ---- reads and stores
-  read : (u : Tables) → Full u → (f : ℕ) → f < seatWidth → seatWord (whole (u .seats)) s f ≡ seatWord (u .seats) 0 f
+  read : (u : Tables) → Full u → (f : ℕ) → f < seatWidth (u .sheet) → seatWord (u .sheet) (whole (u .seats)) s f ≡ seatWord (u .sheet) (u .seats) 0 f
   unfolding seatWord
-  read u h f i =
+  read u (at-seat, long) f i =
       let l = u .seats in
-      let e : f ≡ seatWidth * 0 + f = omega arith in
+      let e : f ≡ seatWidth (u .sheet) * 0 + f = omega arith in
       ap (λ k. getD (whole l) (k + f) 0) (sym at-seat) ∙ getD-append-add before (l ++ behind) f 0 ∙ List·getD-append l behind 0 f (omega arith)
       ∙ ap (λ k. getD l k 0) e
 
-  put : (l : List ℕ) → seatWidth ≤ length l → (f v : ℕ) → f < seatWidth → putSeat (whole l) s f v ≡ whole (putSeat l 0 f v)
+  put : (u : Tables) → Full u → (f v : ℕ) → f < seatWidth (u .sheet) → putSeat (u .sheet) (whole (u .seats)) s f v ≡ whole (putSeat (u .sheet) (u .seats) 0 f v)
   unfolding putSeat
-  put l h f v i =
-      let e : f ≡ seatWidth * 0 + f = omega arith in
+  put u (at-seat, long) f v i =
+      let l = u .seats in
+      let e : f ≡ seatWidth (u .sheet) * 0 + f = omega arith in
       ap (λ k. set (whole l) (k + f) v) (sym at-seat) ∙ set-behind before (l ++ behind) f v ∙ ap (λ r. before ++ r) (set-append-left l behind f v (omega arith))
       ∙ ap (λ k. whole (set l k v)) e
 
-  still : (l : List ℕ) (f v : ℕ) → seatWidth ≤ length l → seatWidth ≤ length (putSeat l 0 f v)
-  still l f v h = rw (put-seat-length l 0 f v) h
+  still : (u : Tables) → Full u → (f v : ℕ) → Full (tables (u .sheet) (u .nodes) (putSeat (u .sheet) (u .seats) 0 f v))
+  still u (at-seat, long) f v = (at-seat, rw (put-seat-length (u .sheet) (u .seats) 0 f v) long)
 
   -- ---- the seat alone
   phase-same : (u : Tables) → Full u → (p : ℕ) → setPhase (placed u) s p ≡ placed (setPhase u 0 p)
-  phase-same u h p = rw (put (u .seats) h phaseAt p (omega arith))
+  phase-same u h p = rw (put u h phaseAt p (omega arith))
 
   cur-same : (u : Tables) → Full u → (c : ℕ) → setCur (placed u) s c ≡ placed (setCur u 0 c)
-  cur-same u h c = rw (put (u .seats) h curAt c (omega arith))
+  cur-same u h c = rw (put u h curAt c (omega arith))
 
   place-same : (u : Tables) → Full u → (q c : ℕ) → setCur (setPrev (placed u) s q) s c ≡ placed (setCur (setPrev u 0 q) 0 c)
-  place-same u h q c =
-      rw (put (u .seats) h prevAt q (omega arith), put (putSeat (u .seats) 0 prevAt q) (still (u .seats) prevAt q h) curAt c (omega arith))
+  place-same u h q c = rw (put u h prevAt q (omega arith), put (setPrev u 0 q) (still u h prevAt q) curAt c (omega arith))
 
   move-same : (u : Tables) → Full u → (p q c : ℕ) → moveTo (placed u) s p q c ≡ placed (moveTo u 0 p q c)
-  move-same u h p q c =
-      rw (put (u .seats) h phaseAt p (omega arith)) (place-same (setPhase u 0 p) (still (u .seats) phaseAt p h) q c)
+  move-same u h p q c = rw (put u h phaseAt p (omega arith)) (place-same (setPhase u 0 p) (still u h phaseAt p) q c)
 
-  clear-same : (l : List ℕ) → seatWidth ≤ length l → (n : ℕ) → n ≤ seatWidth → clearWords n (whole l) s ≡ whole (clearWords n l 0)
+  clear-same : (u : Tables) → Full u → (n : ℕ) → n ≤ seatWidth (u .sheet) → clearWords (u .sheet) n (whole (u .seats)) s ≡ whole (clearWords (u .sheet) n (u .seats) 0)
   unfolding clearWords
-  clear-same l h zero i = refl
-  clear-same l h (suc n) i = rw (clear-same l h n (omega arith)) (put (clearWords n l 0) (full-still n) n 0 (omega arith))
+  clear-same u h zero i = refl
+  clear-same u h (suc n) i = rw (clear-same u h n (omega arith)) (put (cleared n) (full-still n) n 0 (omega arith))
     where
-      full-still : (n : ℕ) → seatWidth ≤ length (clearWords n l 0)
+      cleared : ℕ → Tables
+      cleared n = tables (u .sheet) (u .nodes) (clearWords (u .sheet) n (u .seats) 0)
+
+      full-still : (n : ℕ) → Full (cleared n)
       full-still zero = h
-      full-still (suc n) = still (clearWords n l 0) n 0 (full-still n)
+      full-still (suc n) = still (cleared n) (full-still n) n 0
 
   -- ---- either way
   if-placed : (b : Bool) {t u x y : Tables} → Placed t x → Placed u y → Placed (if b then t else u) (if b then x else y)
@@ -139,7 +142,7 @@ module _ (before behind : List ℕ) (s : ℕ) (at-seat : length before ≡ seatW
 
     pub leave-placed : Placed (leave (placed u) s) (leave u 0)
     unfolding leave
-    leave-placed = record { same = rw (read-own, clear-same (u .seats) h seatWidth (omega arith)) }
+    leave-placed = record { same = rw (read-own, clear-same u h (seatWidth (u .sheet)) (omega arith)) }
 
   module _ (u : Tables) (h : Full u) where
     unlink-placed : Placed (unlink (placed u) s) (unlink u 0)
@@ -198,7 +201,7 @@ module _ (before behind : List ℕ) (s : ℕ) (at-seat : length before ≡ seatW
     pub entering-placed : Placed (entering (placed u) s) (entering u 0)
     unfolding entering
     entering-placed =
-        record { same = ap (λ t. setCur t s (head u)) (phase-same u h 1) ∙ cur-same (setPhase u 0 1) (still (u .seats) phaseAt 1 h) (head u) }
+        record { same = ap (λ t. setCur t s (head u)) (phase-same u h 1) ∙ cur-same (setPhase u 0 1) (still u h phaseAt 1) (head u) }
 
     pub answer-placed : answerOf (placed u) s ≡ answerOf u 0
     unfolding answerOf
@@ -211,7 +214,7 @@ part t a e = take (e - a) (drop a t)
 abbrev pub back : List ℕ → ℕ → ℕ → List ℕ → List ℕ
 back t a e words = take a t ++ (words ++ drop (e - a) (drop a t))
 
-module _ (t : List ℕ) (s a e : ℕ) (starts : a ≡ seatWidth * s) (ends : e ≡ seatWidth * s + seatWidth) (is-seat : s < seatCountOf t) where
+module _ (sheet : Bool) (t : List ℕ) (s a e : ℕ) (starts : a ≡ seatWidth sheet * s) (ends : e ≡ seatWidth sheet * s + seatWidth sheet) (is-seat : s < seatCountOf sheet t) where
   abbrev front : List ℕ
   front = take a t
 
@@ -219,13 +222,15 @@ module _ (t : List ℕ) (s a e : ℕ) (starts : a ≡ seatWidth * s) (ends : e �
   rear = drop (e - a) (drop a t)
 
   pub part-within : e ≤ length t
-  unfolding seatCountOf
-  part-within = let b = seat-within s (seatCountOf t) is-seat in omega arith
+  part-within =
+      let b = seat-within sheet s (seatCountOf sheet t) is-seat in
+      let w = seats-within sheet t (seatCountOf sheet t) (seatWidth sheet) refl refl in
+      omega arith
 
-  front-long : length front ≡ seatWidth * s
+  front-long : length front ≡ seatWidth sheet * s
   front-long = length-take-le a t (let h = part-within in omega arith) ∙ starts
 
-  pub part-full : seatWidth ≤ length (part t a e)
+  pub part-full : seatWidth sheet ≤ length (part t a e)
   part-full =
       let h = part-within in
       let d = length-drop a t in
@@ -237,36 +242,36 @@ module _ (t : List ℕ) (s a e : ℕ) (starts : a ≡ seatWidth * s) (ends : e �
 
   -- what a rule does to the part, it does to the whole
   as-whole : (rule : Tables → ℕ → Tables)
-      → ((u : Tables) → seatWidth ≤ length (u .seats) → Placed front rear s front-long (rule (placed front rear s front-long u) s) (rule u 0))
-      → (n n′ l′ : List ℕ) → tables n′ l′ ≡ rule (tables n (part t a e)) 0 → tables n′ (back t a e l′) ≡ rule (tables n t) s
+      → ((u : Tables) → Full front rear s u → Placed front rear s (rule (placed front rear s u) s) (rule u 0))
+      → (n n′ l′ : List ℕ) → tables sheet n′ l′ ≡ rule (tables sheet n (part t a e)) 0 → tables sheet n′ (back t a e l′) ≡ rule (tables sheet n t) s
   as-whole rule in-place n n′ l′ w =
-      ap (λ (u : Tables). tables (u .nodes) (back t a e (u .seats))) w ∙ sym (in-place (tables n (part t a e)) part-full .same) ∙ ap (λ l. rule (tables n l) s) together
+      ap (λ (u : Tables). tables (u .sheet) (u .nodes) (back t a e (u .seats))) w ∙ sym (in-place (tables sheet n (part t a e)) (front-long, part-full) .same) ∙ ap (λ l. rule (tables sheet n l) s) together
 
   module _ (n n′ l′ : List ℕ) where
-    pub walks : tables n′ l′ ≡ walking (tables n (part t a e)) 0 → tables n′ (back t a e l′) ≡ walking (tables n t) s
-    walks = as-whole walking (walking-placed front rear s front-long) n n′ l′
+    pub walks : tables sheet n′ l′ ≡ walking (tables sheet n (part t a e)) 0 → tables sheet n′ (back t a e l′) ≡ walking (tables sheet n t) s
+    walks = as-whole walking (walking-placed front rear s) n n′ l′
 
-    pub waits-to-enter : tables n′ l′ ≡ waitingToEnter (tables n (part t a e)) 0 → tables n′ (back t a e l′) ≡ waitingToEnter (tables n t) s
-    waits-to-enter = as-whole waitingToEnter (waiting-placed front rear s front-long) n n′ l′
+    pub waits-to-enter : tables sheet n′ l′ ≡ waitingToEnter (tables sheet n (part t a e)) 0 → tables sheet n′ (back t a e l′) ≡ waitingToEnter (tables sheet n t) s
+    waits-to-enter = as-whole waitingToEnter (waiting-placed front rear s) n n′ l′
 
-    pub validates : tables n′ l′ ≡ validating (tables n (part t a e)) 0 → tables n′ (back t a e l′) ≡ validating (tables n t) s
-    validates = as-whole validating (validating-placed front rear s front-long) n n′ l′
+    pub validates : tables sheet n′ l′ ≡ validating (tables sheet n (part t a e)) 0 → tables sheet n′ (back t a e l′) ≡ validating (tables sheet n t) s
+    validates = as-whole validating (validating-placed front rear s) n n′ l′
 
-    pub waits-as-reader : tables n′ l′ ≡ readerWaiting (tables n (part t a e)) 0 → tables n′ (back t a e l′) ≡ readerWaiting (tables n t) s
-    waits-as-reader = as-whole readerWaiting (reader-waiting-placed front rear s front-long) n n′ l′
+    pub waits-as-reader : tables sheet n′ l′ ≡ readerWaiting (tables sheet n (part t a e)) 0 → tables sheet n′ (back t a e l′) ≡ readerWaiting (tables sheet n t) s
+    waits-as-reader = as-whole readerWaiting (reader-waiting-placed front rear s) n n′ l′
 
-    pub enters : tables n′ l′ ≡ entering (tables n (part t a e)) 0 → tables n′ (back t a e l′) ≡ entering (tables n t) s
-    enters = as-whole entering (entering-placed front rear s front-long) n n′ l′
+    pub enters : tables sheet n′ l′ ≡ entering (tables sheet n (part t a e)) 0 → tables sheet n′ (back t a e l′) ≡ entering (tables sheet n t) s
+    enters = as-whole entering (entering-placed front rear s) n n′ l′
 
-    pub leaves : tables n′ l′ ≡ leave (tables n (part t a e)) 0 → tables n′ (back t a e l′) ≡ leave (tables n t) s
-    leaves = as-whole leave (leave-placed front rear s front-long) n n′ l′
+    pub leaves : tables sheet n′ l′ ≡ leave (tables sheet n (part t a e)) 0 → tables sheet n′ (back t a e l′) ≡ leave (tables sheet n t) s
+    leaves = as-whole leave (leave-placed front rear s) n n′ l′
 
   -- what is read of the part, is read of the whole
-  pub same-answer : (n : List ℕ) → answerOf (tables n (part t a e)) 0 ≡ answerOf (tables n t) s
+  pub same-answer : (n : List ℕ) → answerOf (tables sheet n (part t a e)) 0 ≡ answerOf (tables sheet n t) s
   same-answer n =
-      sym (answer-placed front rear s front-long (tables n (part t a e)) part-full) ∙ ap (λ l. answerOf (tables n l) s) together
+      sym (answer-placed front rear s (tables sheet n (part t a e)) (front-long, part-full)) ∙ ap (λ l. answerOf (tables sheet n l) s) together
 
-  pub same-kind : (n : List ℕ) → kindOf (tables n (part t a e)) 0 ≡ kindOf (tables n t) s
+  pub same-kind : (n : List ℕ) → kindOf (tables sheet n (part t a e)) 0 ≡ kindOf (tables sheet n t) s
   same-kind n =
-      ap (λ o. kind (tables n []) o)
-      (sym (read-own front rear s front-long (tables n (part t a e)) part-full) ∙ ap (λ l. own (tables n l) s) together)
+      ap (λ o. kind (tables sheet n []) o)
+      (sym (read-own front rear s (tables sheet n (part t a e)) (front-long, part-full)) ∙ ap (λ l. own (tables sheet n l) s) together)

@@ -42,7 +42,7 @@ returns-2 c =
     let e = k .before .before in
     let m = e .before in
     let u = m .before .before in
-    read-reader _ _ _ _ _ (u .field .ensures) _ (m .node-word .ensures) _ (k .node-word2 .ensures) (p .pass .ensures) (i .if2 .taken) (e .if1 .left)
+    read-reader _ _ _ _ _ _ (u .field .ensures) _ (m .node-word .ensures) _ (k .node-word2 .ensures) (p .pass .ensures) (i .if2 .taken) (e .if1 .left)
 
 put-field-requires : tie.Need-put-field-requires
 put-field-requires c κs = search needs
@@ -61,7 +61,7 @@ returns-3 c =
     let e = k .before .before in
     let m = e .before in
     let u = m .before .before in
-    read-writer _ _ _ _ _ (u .field .ensures) _ (m .node-word .ensures) _ (k .node-word2 .ensures) (p .put-field .ensures) (i .if2 .left) (e .if1 .left)
+    read-writer _ _ _ _ _ _ (u .field .ensures) _ (m .node-word .ensures) _ (k .node-word2 .ensures) (p .put-field .ensures) (i .if2 .left) (e .if1 .left)
 
 pub read-on-spec : {M : Type 1} → statement M
 read-on-spec =

@@ -42,7 +42,7 @@ returns-2 c =
     let e = b .before .before .before in
     let m = e .before in
     let u = m .before .before in
-    write-past _ _ _ _ _ (u .field .ensures) _ (m .node-word .ensures) _ (b .ends-before .ensures) (p .pass .ensures) (i .if2 .taken) (e .if1 .left)
+    write-past _ _ _ _ _ _ (u .field .ensures) _ (m .node-word .ensures) _ (b .ends-before .ensures) (p .pass .ensures) (i .if2 .taken) (e .if1 .left)
 
 withdraw-requires : tie.Need-withdraw-requires
 withdraw-requires c κs = search needs
