@@ -9,14 +9,14 @@ use native.Mathlib.Omega.{arith}
 use lib.ListN.{length}
 use borrow.Author.Tests.{eq-eqb, ne-eqb, eqb-true, eqb-false}
 use Rattle.rules.specs.Notation.{_is_}
-use Rattle.rules.specs.Tables.{Tables, beforeNodes, nodeWidth, nodeCount, seatCount, link, next, head, mark, marked, own, prev, cur, setLink}
+use Rattle.rules.specs.Tables.{Tables, beforeNodes, nodeWidth, nodeCount, seatCount, linkWord, link, next, head, mark, marked, own, prev, cur, setLink}
 use Rattle.rules.specs.Reach.{met, listed, free}
 use Rattle.rules.specs.Fetch.{keptFrom, kept, linkThrough, takenOut}
 use Rattle.rules.proofs.Ground.Logic.{either, or-left, or-right, or-case, or-neither, neither, clash, not-of}
 use Rattle.rules.proofs.Ground.Pigeonhole.{Off, off-none, off-more}
 use Rattle.rules.proofs.Laws.Words.{put-link-length, same-node-count, same-seat-count, link-put-same, link-put-other, link-put-at-most}
 use Rattle.rules.proofs.Laws.Shape.{Sound}
-use Rattle.rules.proofs.Laws.NodesAlone.{taken-out-seats}
+use Rattle.rules.proofs.Laws.NodesAlone.{taken-out-profile, taken-out-seats}
 use Rattle.rules.proofs.Laws.Kept.{kept-end, kept-in, kept-out, kept-away, kept-off, at-end, prev-not-cur, prev-behind}
 use Rattle.nodesets.specs.Set.{has, none, add}
 use Rattle.nodesets.proofs.Set.{has-none, none-length, has-add, add-length}
@@ -85,7 +85,7 @@ kept-met (suc h) t a x =
     ∙ ⊎-elim (λ y. or-left (a is x) (met h t b x) y) (λ y. or-right (a is x) (met h t b x) (kept-met h t b x y)) (or-case (a is x) (isIn (keptFrom h t b) x) (sym (in-more a x (keptFrom h t b)) ∙ e)))
     (λ z e. met-next h t a x z ∙ or-right (a is x) (met h t b x) (kept-met h t b x e))
 
-met-within : (h : ℕ) (t : Tables) (a x : ℕ) → Links (t .nodes) → a ≤ nodeCount t → met h t a x ≡ true → (x ≢ 0) × (x ≤ nodeCount t)
+met-within : (h : ℕ) (t : Tables) (a x : ℕ) → Links (t .sheet) (t .nodes) → a ≤ nodeCount t → met h t a x ≡ true → (x ≢ 0) × (x ≤ nodeCount t)
 met-within zero t a x s b e = absurd (clash (met 0 t a x) e (met-none t a x))
 met-within (suc h) t a x s b e =
     let w = met-case h t a x e in
@@ -94,26 +94,26 @@ met-within (suc h) t a x s b e =
 -- ---- the tables afterwards, by their links
 through-length : (ks : List ℕ) (t : Tables) (p : ℕ) → length (linkThrough t p ks .nodes) ≡ length (t .nodes)
 unfolding linkThrough
-through-length [] t p = put-link-length (t .nodes) p 0
-through-length (a ∷ ks) t p = through-length ks (setLink t p a) a ∙ put-link-length (t .nodes) p a
+through-length [] t p = put-link-length (t .sheet) (t .nodes) p 0
+through-length (a ∷ ks) t p = through-length ks (setLink t p a) a ∙ put-link-length (t .sheet) (t .nodes) p a
 
 through-other : (ks : List ℕ) (t : Tables) (p b : ℕ) → p ≢ b → isIn ks b ≡ false → link (linkThrough t p ks) b ≡ link t b
 unfolding linkThrough
-through-other [] t p b d e = link-put-other (t .nodes) p b 0 d
+through-other [] t p b d e = link-put-other (t .sheet) (t .nodes) p b 0 d
 through-other (a ∷ ks) t p b d e =
     let w = or-neither (a is b) (isIn ks b) (sym (in-more a b ks) ∙ e) in
-    through-other ks (setLink t p a) a b (eqb-false a b (w .0)) (w .1) ∙ link-put-other (t .nodes) p b a d
+    through-other ks (setLink t p a) a b (eqb-false a b (w .0)) (w .1) ∙ link-put-other (t .sheet) (t .nodes) p b a d
 
 -- ---- tables of n nodes whose links are 0 or one of them
 pub record Sized (t : Tables) (n : ℕ) : Type 0 where
-  pub long : length (t .nodes) ≡ beforeNodes + nodeWidth * n
+  pub long : length (t .nodes) ≡ beforeNodes (t .sheet) + nodeWidth * n
   pub small : (b : ℕ) → link t b ≤ n
 
 sized-put : (t : Tables) (p v n : ℕ) → Sized t n → v ≤ n → Sized (setLink t p v) n
 sized-put t p v n s w =
     record {
-      long = put-link-length (t .nodes) p v ∙ s .long;
-      small = λ b. link-put-at-most (t .nodes) p b v n w (s .small b);
+      long = put-link-length (t .sheet) (t .nodes) p v ∙ s .long;
+      small = λ b. link-put-at-most (t .sheet) (t .nodes) p b v n w (s .small b);
     }
 
 sized-through : (ks : List ℕ) (t : Tables) (p n : ℕ) → Sized t n → Within ks n → Sized (linkThrough t p ks) n
@@ -125,7 +125,7 @@ sized-through (a ∷ ks) t p n s w =
 -- ---- the list from p on, once it is relinked, is the unmarked nodes met from a
 relinked-end : (h g : ℕ) (whole t : Tables) (p a n x : ℕ) → Sized t n → p ≤ n → Going whole t h p a → a ≡ 0 → met g whole (link whole p) x ≡ isIn (keptFrom h t a) x
 relinked-end h g whole t p a n x s l w e =
-    let q : link whole p ≡ 0 = ap (λ (u : Tables). link u p) (sym (going-end whole t p a h w e)) ∙ link-put-same (t .nodes) p 0 (omega (arith, s .long)) in
+    let q : link whole p ≡ 0 = ap (λ (u : Tables). link u p) (sym (going-end whole t p a h w e)) ∙ link-put-same (t .sheet) (t .nodes) p 0 (omega (arith, s .long)) in
     met-zero g whole (link whole p) x q ∙ sym (ap (λ (ks : List ℕ). isIn ks x) (kept-end h t a e) ∙ in-none x)
 
 relinked-is-kept : (h g : ℕ) (whole t : Tables) (p a n x : ℕ) → Sized t n → p ≤ n → a ≤ n → h ≤ g → Going whole t h p a → met g whole (link whole p) x ≡ isIn (keptFrom h t a) x
@@ -147,7 +147,7 @@ relinked-is-kept (suc h) (suc g) whole t p a n x s l b o w =
     let gone : isIn (keptFrom h u (next t a)) p ≡ false = rw same (off-out p (kept-off h t p (next t a) far)) in
     let first : link whole p ≡ a =
     ap (λ (v : Tables). link v p) (sym (k .rest)) ∙ through-other (keptFrom h u (next t a)) u a p (λ q. prev-not-cur (w .stands) z (sym q)) gone
-    ∙ link-put-same (t .nodes) p a (omega (arith, s .long)) in
+    ∙ link-put-same (t .sheet) (t .nodes) p a (omega (arith, s .long)) in
     rw first (met-next g whole a x z
     ∙ ap (λ (c : Bool). a is x || c) (relinked-is-kept h g whole u a (next t a) n x (sized-put t p a n s b) b (s .small a) (omega arith) k ∙ ap (λ (ks : List ℕ). isIn ks x) same)
     ∙ sym (ap (λ (ks : List ℕ). isIn ks x) (kept-in h t a z m) ∙ in-more a x (keptFrom h t (next t a)))))
@@ -173,12 +173,13 @@ record Over (ks ws : List ℕ) : Type 0 where
   four : length ws ≡ 4
   holds : (a : ℕ) → isIn ks a ≡ true → has ws a ≡ true
 
-module _ (ks : List ℕ) (t u : Tables) (s : Named t) (seats : u .seats ≡ t .seats) (alike : (a : ℕ) → a ≢ 0 → isIn ks a ≡ false → link u a ≡ link t a) where
+module _ (ks : List ℕ) (t u : Tables) (s : Named t) (profile : u .sheet ≡ t .sheet) (seats : u .seats ≡ t .seats)
+    (alike : (a : ℕ) → a ≢ 0 → isIn ks a ≡ false → link u a ≡ link t a) where
   -- the sets of the two walks
   abbrev Alike : List ℕ → List ℕ → Type 0
   Alike ws vs = (ws ≡ vs) × Over ks ws
 
-  walk-same : (h : ℕ) (ws : List ℕ) (a : ℕ) → a ≤ nodeCount t → Over ks ws → Alike (reachFrom h (t .nodes) ws a) (reachFrom h (u .nodes) ws a)
+  walk-same : (h : ℕ) (ws : List ℕ) (a : ℕ) → a ≤ nodeCount t → Over ks ws → Alike (reachFrom (t .sheet) h (t .nodes) ws a) (reachFrom (t .sheet) h (u .nodes) ws a)
   unfolding reachFrom
   walk-same zero ws a b o = (refl, o)
   walk-same (suc h) ws a b o =
@@ -187,18 +188,19 @@ module _ (ks : List ℕ) (t u : Tables) (s : Named t) (seats : u .seats ≡ t .s
       (λ z. let y = outside ws a z in
       let n : isIn ks a ≡ false = not-of (isIn ks a) (λ i. clash (has ws a) (o .holds a i) (y .1)) in
       let m : a ≤ 256 = omega (arith, s .links .few) in
-      rw (z, alike a (y .0) n)
+      let l : linkWord (t .sheet) (u .nodes) a ≡ link t a = rw profile at (alike a (y .0) n) in
+      rw (z, l)
       (walk-same h (add ws a) (next t a) (s .links .small a)
       (record { four = add-length ws a ∙ o .four; holds = λ x e. add-keeps ws a (o .four) (y .0) m x (o .holds x e) })))
       (either (inside ws a))
 
-  walk-alike : (h : ℕ) (ws vs : List ℕ) (a : ℕ) → a ≤ nodeCount t → Alike ws vs → Alike (reachFrom h (t .nodes) ws a) (reachFrom h (u .nodes) vs a)
+  walk-alike : (h : ℕ) (ws vs : List ℕ) (a : ℕ) → a ≤ nodeCount t → Alike ws vs → Alike (reachFrom (t .sheet) h (t .nodes) ws a) (reachFrom (t .sheet) h (u .nodes) vs a)
   walk-alike h ws vs a b p = rw (← p .0) (walk-same h ws a b (p .1))
 
   seat-alike : (h : ℕ) (ws vs : List ℕ) (r : ℕ) → Alike ws vs → Alike (reachSeat h t ws r) (reachSeat h u vs r)
   unfolding reachSeat
   seat-alike h ws vs r p =
-      rw seats
+      rw (profile, seats)
       (walk-alike h _ _ (cur t r) (s .cur-small r) (walk-alike h _ _ (prev t r) (s .prev-small r) (walk-alike h ws vs (own t r) (s .own-small r) p)))
 
   seats-alike : (h q : ℕ) (ws : List ℕ) (r : ℕ) → Over ks ws → Alike (reachSeats h t q ws r) (reachSeats h u q ws r)
@@ -225,18 +227,18 @@ module _ (t : Tables) (w : Sound t) where
   after-sized = sized-through (kept t) t 0 (nodeCount t) sized kept-within
 
   pub after-count : nodeCount (takenOut t) ≡ nodeCount t
-  after-count = same-node-count t (takenOut t) (after-sized .long ∙ sym (sized .long))
+  after-count = same-node-count t (takenOut t) (taken-out-profile t) (after-sized .long ∙ ap (λ sheet. beforeNodes sheet + nodeWidth * nodeCount t) (taken-out-profile t) ∙ sym (sized .long))
 
   after-seat-count : seatCount (takenOut t) ≡ seatCount t
-  after-seat-count = same-seat-count t (takenOut t) (ap length (taken-out-seats t))
+  after-seat-count = same-seat-count t (takenOut t) (taken-out-profile t) (ap length (taken-out-seats t))
 
   after-named : Named (takenOut t)
   after-named =
       record {
         links = record { few = rw after-count (w .few-nodes); small = λ a. rw after-count (after-sized .small a) };
-        own-small = λ r. rw (after-count, taken-out-seats t) (named .own-small r);
-        prev-small = λ r. rw (after-count, taken-out-seats t) (named .prev-small r);
-        cur-small = λ r. rw (after-count, taken-out-seats t) (named .cur-small r);
+        own-small = λ r. rw (after-count, taken-out-profile t, taken-out-seats t) (named .own-small r);
+        prev-small = λ r. rw (after-count, taken-out-profile t, taken-out-seats t) (named .prev-small r);
+        cur-small = λ r. rw (after-count, taken-out-profile t, taken-out-seats t) (named .cur-small r);
       }
 
   -- off the unmarked listed nodes no link changes
@@ -268,7 +270,7 @@ module _ (t : Tables) (w : Sound t) where
   unfolding reachOthers
   others-same s =
       rw (after-count, after-seat-count)
-      (seats-alike (kept t) t (takenOut t) named (taken-out-seats t) after-link (nodeCount t) s (addAll none (kept t)) (seatCount t)
+      (seats-alike (kept t) t (takenOut t) named (taken-out-profile t) (taken-out-seats t) after-link (nodeCount t) s (addAll none (kept t)) (seatCount t)
       (record { four = kept-grown .four; holds = λ a e. kept-has a ∙ listed-after a ∙ e }) .0)
 
   pub after-free : (s x : ℕ) → not (has (reachOthers t s (addAll none (kept t))) x) ≡ free (takenOut t) s x

@@ -40,7 +40,7 @@ joins-then t us vs ws p q j k =
 
 -- ---- every name in the tables is 0 or one of the N nodes
 pub record Named (t : Tables) : Type 0 where
-  pub links : Links (t .nodes)
+  pub links : Links (t .sheet) (t .nodes)
   pub own-small : (r : ℕ) → own t r ≤ nodeCount t
   pub prev-small : (r : ℕ) → prev t r ≤ nodeCount t
   pub cur-small : (r : ℕ) → cur t r ≤ nodeCount t
@@ -55,10 +55,10 @@ sound-named t w =
     }
 
 module _ (t : Tables) (n : Named t) where
-  pub joins-walk : (ws : List ℕ) (a : ℕ) → a ≤ nodeCount t → Grown t ws → Joins t ws (reachFrom (nodeCount t) (t .nodes) ws a) (met (nodeCount t) t a)
+  pub joins-walk : (ws : List ℕ) (a : ℕ) → a ≤ nodeCount t → Grown t ws → Joins t ws (reachFrom (t .sheet) (nodeCount t) (t .nodes) ws a) (met (nodeCount t) t a)
   joins-walk ws a h g =
       record {
-        grown = record { four = reach-length (nodeCount t) (t .nodes) ws a ∙ g .four; closed = reach-closed t (n .links) ws a (g .four) h (g .closed) };
+        grown = record { four = reach-length (t .sheet) (nodeCount t) (t .nodes) ws a ∙ g .four; closed = reach-closed t (n .links) ws a (g .four) h (g .closed) };
         members = λ x. reach-has t (n .links) (nodeCount t) ws a x (g .four) h (closed-nearly t ws a (g .closed));
       }
 
@@ -83,11 +83,11 @@ module _ (t : Tables) (n : Named t) where
   unfolding reachOthers othersReach
   joins-others ws s g = joins-seats ws s (seatCount t) g
 
-  pub joins-list : Joins t none (reachFrom (nodeCount t) (t .nodes) none (head t)) (listed t)
+  pub joins-list : Joins t none (reachFrom (t .sheet) (nodeCount t) (t .nodes) none (head t)) (listed t)
   unfolding listed
   joins-list = joins-walk none (head t) (n .links .small 0) (none-grown t)
 
-  pub used-free : (s x : ℕ) → not (has (reachOthers t s (reachFrom (nodeCount t) (t .nodes) none (head t))) x) ≡ free t s x
+  pub used-free : (s x : ℕ) → not (has (reachOthers t s (reachFrom (t .sheet) (nodeCount t) (t .nodes) none (head t))) x) ≡ free t s x
   unfolding free
   used-free s x =
       let j = joins-then t _ _ _ _ _ joins-list (joins-others _ s (joins-list .grown)) in

@@ -111,14 +111,14 @@ swap true true c = refl
 swap true false c = refl
 swap false b c = refl
 
-module _ (t : Tables) (s : Links (t .nodes)) where
+module _ (t : Tables) (s : Links (t .sheet) (t .nodes)) where
   absorb : (a b : Bool) → (b ≡ true → a ≡ true) → a ≡ (a || b)
   absorb true b h = refl
   absorb false true h = h refl
   absorb false false h = refl
 
   -- stopping loses nothing
-  pub reach-has : (h : ℕ) (ws : List ℕ) (a x : ℕ) → length ws ≡ 4 → a ≤ nodeCount t → Nearly t ws a → has (reachFrom h (t .nodes) ws a) x ≡ (has ws x || met h t a x)
+  pub reach-has : (h : ℕ) (ws : List ℕ) (a x : ℕ) → length ws ≡ 4 → a ≤ nodeCount t → Nearly t ws a → has (reachFrom (t .sheet) h (t .nodes) ws a) x ≡ (has ws x || met h t a x)
   unfolding reachFrom
   reach-has zero ws a x f b n = rw (met-none t a x) (sym (or-false (has ws x)))
   reach-has (suc h) ws a x f b n =
@@ -139,7 +139,7 @@ module _ (t : Tables) (s : Links (t .nodes)) where
       at (suc m) h = or-right (suc m is 0) (has ws (suc m)) (rw (add-one m) at (count-full (nodeCount t) (λ m. has ws (m + 1)) m f (omega arith)))
 
   -- each hop adds a node, so that with N hops the set is closed in the end
-  reach-closes : (h : ℕ) (ws : List ℕ) (a : ℕ) → length ws ≡ 4 → a ≤ nodeCount t → Nearly t ws a → nodeCount t ≤ h + members ws (nodeCount t) → Closed t (reachFrom h (t .nodes) ws a)
+  reach-closes : (h : ℕ) (ws : List ℕ) (a : ℕ) → length ws ≡ 4 → a ≤ nodeCount t → Nearly t ws a → nodeCount t ≤ h + members ws (nodeCount t) → Closed t (reachFrom (t .sheet) h (t .nodes) ws a)
   unfolding reachFrom
   reach-closes zero ws a f b n g = full-closed ws (omega arith)
   reach-closes (suc h) ws a f b n g =
@@ -151,10 +151,10 @@ module _ (t : Tables) (s : Links (t .nodes)) where
       rw z (reach-closes h (add ws a) (next t a) (add-length ws a ∙ f) (s .small a) (nearly-add ws a f (y .0) w t n) (omega arith)))
       (either (inside ws a))
 
-  pub reach-closed : (ws : List ℕ) (a : ℕ) → length ws ≡ 4 → a ≤ nodeCount t → Closed t ws → Closed t (reachFrom (nodeCount t) (t .nodes) ws a)
+  pub reach-closed : (ws : List ℕ) (a : ℕ) → length ws ≡ 4 → a ≤ nodeCount t → Closed t ws → Closed t (reachFrom (t .sheet) (nodeCount t) (t .nodes) ws a)
   reach-closed ws a f b c = reach-closes (nodeCount t) ws a f b (closed-nearly t ws a c) (omega arith)
 
-pub reach-length : (h : ℕ) (nodes ws : List ℕ) (a : ℕ) → length (reachFrom h nodes ws a) ≡ length ws
+pub reach-length : (sheet : Bool) (h : ℕ) (nodes ws : List ℕ) (a : ℕ) → length (reachFrom sheet h nodes ws a) ≡ length ws
 unfolding reachFrom
-reach-length zero nodes ws a = refl
-reach-length (suc h) nodes ws a = ⊎-elim (λ z. rw z) (λ z. rw z (reach-length h nodes (add ws a) _ ∙ add-length ws a)) (either (inside ws a))
+reach-length sheet zero nodes ws a = refl
+reach-length sheet (suc h) nodes ws a = ⊎-elim (λ z. rw z) (λ z. rw z (reach-length sheet h nodes (add ws a) _ ∙ add-length ws a)) (either (inside ws a))

@@ -28,52 +28,52 @@ use Rattle.rules.proofs.Laws.NodesAlone.{kept-alone}
 use Rattle.reach.proofs.After.{after-count, after-free}
 
 -- ---- reach
-pub next-small : (nodes : List ℕ) (a x : ℕ) → Links nodes → x ≡ linkWord nodes a → x ≤ nodeCountOf nodes
-next-small nodes a x s e = rw e (s .small a)
+pub next-small : (sheet : Bool) (nodes : List ℕ) (a x : ℕ) → Links sheet nodes → x ≡ linkWord sheet nodes a → x ≤ nodeCountOf sheet nodes
+next-small sheet nodes a x s e = rw e (s .small a)
 
 pub hops-left : (h : ℕ) → h ≢ 0 → h ≢ 1 → h - 1 ≢ 0
 hops-left zero n l e = n refl
 hops-left (suc zero) n l e = l refl
 hops-left (suc (suc h)) n l e = omega arith
 
-pub node-within : (nodes : List ℕ) (a : ℕ) → Links nodes → a ≤ nodeCountOf nodes → a ≤ 256
-node-within nodes a s h = omega (arith, s .few)
+pub node-within : (sheet : Bool) (nodes : List ℕ) (a : ℕ) → Links sheet nodes → a ≤ nodeCountOf sheet nodes → a ≤ 256
+node-within sheet nodes a s h = omega (arith, s .few)
 
-module _ (nodes ws : List ℕ) (a : ℕ) where
-  pub reach-end : (h : ℕ) → a ≡ 0 → ws ≡ reachFrom h nodes ws a
+module _ (sheet : Bool) (nodes ws : List ℕ) (a : ℕ) where
+  pub reach-end : (h : ℕ) → a ≡ 0 → ws ≡ reachFrom sheet h nodes ws a
   unfolding reachFrom
   reach-end zero e = refl
   reach-end (suc h) e = rw (eq-eqb a 0 e)
 
-  pub reach-stop : (h : ℕ) (b : Bool) (vs : List ℕ) → (b ≡ has ws a) × (vs ≡ add ws a) → b ≡ true → vs ≡ reachFrom h nodes ws a
+  pub reach-stop : (h : ℕ) (b : Bool) (vs : List ℕ) → (b ≡ has ws a) × (vs ≡ add ws a) → b ≡ true → vs ≡ reachFrom sheet h nodes ws a
   unfolding reachFrom
   reach-stop zero b vs p q = p .1 ∙ add-again ws a (sym (p .0) ∙ q)
   reach-stop (suc h) b vs p q = let i : has ws a ≡ true = sym (p .0) ∙ q in p .1 ∙ add-again ws a i ∙ rw (i, or-true (a is 0))
 
-  pub reach-last : (h : ℕ) (b : Bool) (vs : List ℕ) → (b ≡ has ws a) × (vs ≡ add ws a) → b ≡ false → a ≢ 0 → h ≡ 1 → vs ≡ reachFrom h nodes ws a
+  pub reach-last : (h : ℕ) (b : Bool) (vs : List ℕ) → (b ≡ has ws a) × (vs ≡ add ws a) → b ≡ false → a ≢ 0 → h ≡ 1 → vs ≡ reachFrom sheet h nodes ws a
   unfolding reachFrom
   reach-last h b vs p q z e = rw (e, ne-eqb a 0 z, ← p .0, q) (p .1)
 
-  pub reach-on : (h x : ℕ) (vs r : List ℕ) (b : Bool) → r ≡ reachFrom (h - 1) nodes vs x → x ≡ linkWord nodes a → (b ≡ has ws a) × (vs ≡ add ws a) → b ≡ false → h ≢ 0 → a ≢ 0 → r ≡ reachFrom h nodes ws a
+  pub reach-on : (h x : ℕ) (vs r : List ℕ) (b : Bool) → r ≡ reachFrom sheet (h - 1) nodes vs x → x ≡ linkWord sheet nodes a → (b ≡ has ws a) × (vs ≡ add ws a) → b ≡ false → h ≢ 0 → a ≢ 0 → r ≡ reachFrom sheet h nodes ws a
   unfolding reachFrom
   reach-on zero x vs r b p e q j n z = absurd (n refl)
   reach-on (suc h) x vs r b p e q j n z = let y : suc h - 1 ≡ h = omega arith in rw (ne-eqb a 0 z, ← q .0, j, ← q .1, ← e) (rw y at p)
 
 -- ---- the seats
-pub seat-reached : (h r o p u : ℕ) (nodes seats us vs ws xs : List ℕ) → xs ≡ reachFrom h nodes ws u → ws ≡ reachFrom h nodes vs p → vs ≡ reachFrom h nodes us o
-    → o ≡ seatWord seats r ownAt → p ≡ seatWord seats r prevAt → u ≡ seatWord seats r curAt → xs ≡ reachSeat h (tables nodes seats) us r
+pub seat-reached : (sheet : Bool) (h r o p u : ℕ) (nodes seats us vs ws xs : List ℕ) → xs ≡ reachFrom sheet h nodes ws u → ws ≡ reachFrom sheet h nodes vs p → vs ≡ reachFrom sheet h nodes us o
+    → o ≡ seatWord sheet seats r ownAt → p ≡ seatWord sheet seats r prevAt → u ≡ seatWord sheet seats r curAt → xs ≡ reachSeat h (tables sheet nodes seats) us r
 unfolding reachSeat
-seat-reached h r o p u nodes seats us vs ws xs a b c d e f = rw (a, b, c, d, e, f)
+seat-reached sheet h r o p u nodes seats us vs ws xs a b c d e f = rw (a, b, c, d, e, f)
 
 -- a seat that holds or has withdrawn stands nowhere
-pub seat-resting : (h r o p u : ℕ) (nodes seats us vs : List ℕ) → vs ≡ reachFrom h nodes us o → o ≡ seatWord seats r ownAt → p ≡ seatWord seats r prevAt → u ≡ seatWord seats r curAt → (eqb p 0 && eqb u 0) ≡ true → vs ≡ reachSeat h (tables nodes seats) us r
-seat-resting h r o p u nodes seats us vs a b c d e =
+pub seat-resting : (sheet : Bool) (h r o p u : ℕ) (nodes seats us vs : List ℕ) → vs ≡ reachFrom sheet h nodes us o → o ≡ seatWord sheet seats r ownAt → p ≡ seatWord sheet seats r prevAt → u ≡ seatWord sheet seats r curAt → (eqb p 0 && eqb u 0) ≡ true → vs ≡ reachSeat h (tables sheet nodes seats) us r
+seat-resting sheet h r o p u nodes seats us vs a b c d e =
     let w = both (eqb p 0) (eqb u 0) e in
-    let q = reach-end nodes vs p h (eqb-true p 0 (w .0)) in
-    seat-reached h r o p u nodes seats us vs vs vs (reach-end nodes vs u h (eqb-true u 0 (w .1))) q a b c d
+    let q = reach-end sheet nodes vs p h (eqb-true p 0 (w .0)) in
+    seat-reached sheet h r o p u nodes seats us vs vs vs (reach-end sheet nodes vs u h (eqb-true u 0 (w .1))) q a b c d
 
-pub seat-within : (seats : List ℕ) (r c : ℕ) → r < c → c ≡ seatCountOf seats → r < seatCountOf seats
-seat-within seats r c h e = rw e at h
+pub seat-within : (sheet : Bool) (seats : List ℕ) (r c : ℕ) → r < c → c ≡ seatCountOf sheet seats → r < seatCountOf sheet seats
+seat-within sheet seats r c h e = rw e at h
 
 module _ (h s : ℕ) (t : Tables) (ws : List ℕ) where
   pub seats-start : ws ≡ reachSeats h t s ws 0
@@ -106,58 +106,58 @@ module _ (t : Tables) (ws whole : List ℕ) where
   unfolding addAll keptFrom
   kept-spent h a g e = rw e at g
 
-  pub kept-skip : (h a x m : ℕ) → addAll ws (keptFrom h t a) ≡ whole → h ≢ 0 → a ≢ 0 → x ≡ next t a → m ≡ nodeWord (t .nodes) a markAt → m ≡ 1 → addAll ws (keptFrom (h - 1) t x) ≡ whole
+  pub kept-skip : (h a x m : ℕ) → addAll ws (keptFrom h t a) ≡ whole → h ≢ 0 → a ≢ 0 → x ≡ next t a → m ≡ nodeWord (t .sheet) (t .nodes) a markAt → m ≡ 1 → addAll ws (keptFrom (h - 1) t x) ≡ whole
   kept-skip zero a x m g n z p q e = absurd (n refl)
   kept-skip (suc h) a x m g n z p q e = let y : suc h - 1 ≡ h = omega arith in rw (y, p) (rw (kept-out h t a z (sym q ∙ e)) at g)
 
-  pub kept-join : (h a x m : ℕ) (vs : List ℕ) → addAll ws (keptFrom h t a) ≡ whole → vs ≡ add ws a → h ≢ 0 → a ≢ 0 → x ≡ next t a → m ≡ nodeWord (t .nodes) a markAt → m ≢ 1 → addAll vs (keptFrom (h - 1) t x) ≡ whole
+  pub kept-join : (h a x m : ℕ) (vs : List ℕ) → addAll ws (keptFrom h t a) ≡ whole → vs ≡ add ws a → h ≢ 0 → a ≢ 0 → x ≡ next t a → m ≡ nodeWord (t .sheet) (t .nodes) a markAt → m ≢ 1 → addAll vs (keptFrom (h - 1) t x) ≡ whole
   unfolding addAll
   kept-join zero a x m vs g v n z p q e = absurd (n refl)
   kept-join (suc h) a x m vs g v n z p q e = let y : suc h - 1 ≡ h = omega arith in rw (y, p, v) (rw (kept-in h t a z (λ i. e (q ∙ i))) at g)
 
 -- ---- the free set of sound tables, and what is read off it
-module _ (nodes seats : List ℕ) (ok : sound (tables nodes seats) ≡ true) where
+module _ (sheet : Bool) (nodes seats : List ℕ) (ok : sound (tables sheet nodes seats) ≡ true) where
   abbrev whole : Tables
-  whole = tables nodes seats
+  whole = tables sheet nodes seats
 
   named : Named whole
   named = sound-named whole (is-sound whole ok)
 
-  pub links-within : Links nodes
+  pub links-within : Links sheet nodes
   links-within = named .links
 
-  pub own-within : (r x : ℕ) → x ≡ seatWord seats r ownAt → x ≤ nodeCountOf nodes
+  pub own-within : (r x : ℕ) → x ≡ seatWord sheet seats r ownAt → x ≤ nodeCountOf sheet nodes
   own-within r x e = rw e (named .own-small r)
 
-  pub prev-within : (r x : ℕ) → x ≡ seatWord seats r prevAt → x ≤ nodeCountOf nodes
+  pub prev-within : (r x : ℕ) → x ≡ seatWord sheet seats r prevAt → x ≤ nodeCountOf sheet nodes
   prev-within r x e = rw e (named .prev-small r)
 
-  pub cur-within : (r x : ℕ) → x ≡ seatWord seats r curAt → x ≤ nodeCountOf nodes
+  pub cur-within : (r x : ℕ) → x ≡ seatWord sheet seats r curAt → x ≤ nodeCountOf sheet nodes
   cur-within r x e = rw e (named .cur-small r)
 
-  pub head-within : (x : ℕ) → x ≡ linkWord nodes 0 → x ≤ nodeCountOf nodes
+  pub head-within : (x : ℕ) → x ≡ linkWord sheet nodes 0 → x ≤ nodeCountOf sheet nodes
   head-within x e = rw e (named .links .small 0)
 
-  pub some-hops : (n : ℕ) → n ≡ nodeCountOf nodes → n ≢ 0
+  pub some-hops : (n : ℕ) → n ≡ nodeCountOf sheet nodes → n ≢ 0
   some-hops n e z = omega (arith, is-sound whole ok .some-nodes)
 
-  pub few-seats : (c : ℕ) → c ≡ seatCountOf seats → c ≤ 64
+  pub few-seats : (c : ℕ) → c ≡ seatCountOf sheet seats → c ≤ 64
   few-seats c e = omega (arith, is-sound whole ok .few-seats)
 
-  pub seats-fit : (c : ℕ) → c ≡ seatCountOf seats → Fits w32 c
+  pub seats-fit : (c : ℕ) → c ≡ seatCountOf sheet seats → Fits w32 c
   seats-fit c e = let h = few-seats c e in omega arith
 
-  pub free-now : (ws us vs es : List ℕ) (n a s : ℕ) → ((m : ℕ) → m < 256 → has ws (m + 1) ≡ (m <? n && not (has us (m + 1)))) → us ≡ reachOthers whole s vs → vs ≡ reachFrom n nodes es a → es ≡ none → n ≡ nodeCountOf nodes → a ≡ linkWord nodes 0 → IsFreeSet ws whole s
+  pub free-now : (ws us vs es : List ℕ) (n a s : ℕ) → ((m : ℕ) → m < 256 → has ws (m + 1) ≡ (m <? n && not (has us (m + 1)))) → us ≡ reachOthers whole s vs → vs ≡ reachFrom sheet n nodes es a → es ≡ none → n ≡ nodeCountOf sheet nodes → a ≡ linkWord sheet nodes 0 → IsFreeSet ws whole s
   free-now ws us vs es n a s f p q e b d =
       let w = is-sound whole ok in
       record { few = w .few-nodes; free-nodes = λ m h. f m h ∙ rw (p, q, e, b, d, used-free whole (sound-named whole w) s (m + 1)) }
 
-  pub free-after : (ws us vs : List ℕ) (n s : ℕ) → ((m : ℕ) → m < 256 → has ws (m + 1) ≡ (m <? n && not (has us (m + 1)))) → us ≡ reachOthers whole s vs → vs ≡ addAll none (kept (tables nodes [])) → n ≡ nodeCountOf nodes → IsFreeSet ws (takenOut whole) s
+  pub free-after : (ws us vs : List ℕ) (n s : ℕ) → ((m : ℕ) → m < 256 → has ws (m + 1) ≡ (m <? n && not (has us (m + 1)))) → us ≡ reachOthers whole s vs → vs ≡ addAll none (kept (tables sheet nodes [])) → n ≡ nodeCountOf sheet nodes → IsFreeSet ws (takenOut whole) s
   free-after ws us vs n s f p q b =
       let w = is-sound whole ok in
       record {
         few = rw (after-count whole w) (w .few-nodes);
-        free-nodes = λ m h. f m h ∙ rw (p, q, b, kept-alone nodes seats, after-free whole w s (m + 1), after-count whole w);
+        free-nodes = λ m h. f m h ∙ rw (p, q, b, kept-alone sheet nodes seats, after-free whole w s (m + 1), after-count whole w);
       }
 
 pub lowest-read : (ws : List ℕ) (t : Tables) (s r : ℕ) → r ≡ lowest 256 (has ws) → IsFreeSet ws t s → r ≡ lowestFree t s

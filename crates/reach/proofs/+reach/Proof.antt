@@ -14,7 +14,7 @@ use Rattle.reach.proofs.+reach.{statement}
 use Rattle.reach.proofs.+reach.Tie.{close}
 
 abbrev μ-reach : Measures 3 reach-kinds.ps ℕ
-μ-reach κs a = a .1 .1 .0
+μ-reach κs a = a .1 .1 .1 .0
 
 abbrev reach-at : ℕ → In 3 reach-kinds.ps
 reach-at t = and 3 reach-kinds.ps (is 3 reach-kinds.ps μ-reach t) reach.Pre

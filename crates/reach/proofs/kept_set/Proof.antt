@@ -13,10 +13,10 @@ use Rattle.reach.proofs.kept_set.Statement.{statement}
 use Rattle.reach.proofs.kept_set.Tie as tie
 
 abbrev Inv-loop : tie.InvT-loop
-Inv-loop nodes ws₀ left₀ cur₀ ws left cur = (cur ≤ nodeCountOf nodes) × (addAll ws (keptFrom left (tables nodes []) cur) ≡ addAll none (kept (tables nodes [])))
+Inv-loop sheet nodes ws₀ left₀ cur₀ ws left cur = (cur ≤ nodeCountOf sheet nodes) × (addAll ws (keptFrom left (tables sheet nodes []) cur) ≡ addAll none (kept (tables sheet nodes [])))
 
 abbrev μ-loop : tie.MeasureT-loop
-μ-loop nodes ws₀ left₀ cur₀ ws left cur = left
+μ-loop sheet nodes ws₀ left₀ cur₀ ws left cur = left
 
 empty-requires : tie.Need-empty-requires Inv-loop μ-loop
 empty-requires c κs = search needs

@@ -10,10 +10,10 @@ use Rattle.reach.proofs.reach_others.Statement.{statement}
 use Rattle.reach.proofs.reach_others.Tie as tie
 
 abbrev Inv-loop : tie.InvT-loop
-Inv-loop nodes seats ws₀ hops s count r₀ ws r = (count ≤ 64) × (r ≤ count) × (ws ≡ reachSeats hops (tables nodes seats) s ws₀ r)
+Inv-loop sheet nodes seats ws₀ hops s count r₀ ws r = (count ≤ 64) × (r ≤ count) × (ws ≡ reachSeats hops (tables sheet nodes seats) s ws₀ r)
 
 abbrev μ-loop : tie.MeasureT-loop
-μ-loop nodes seats ws₀ hops s count r₀ ws r = count - r
+μ-loop sheet nodes seats ws₀ hops s count r₀ ws r = count - r
 
 seat-count-requires : tie.Need-seat-count-requires Inv-loop μ-loop
 seat-count-requires c κs = search needs

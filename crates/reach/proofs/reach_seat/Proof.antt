@@ -14,19 +14,19 @@ seat-word-within-requires-3 : tie.Need-seat-word-within-requires-3
 seat-word-within-requires-3 c κs = search needs
 
 reach-requires : tie.Need-reach-requires
-reach-requires c κs = search (links-within, own-within, prev-within, cur-within)
+reach-requires c κs = search (links-within, own-within)
 
 returns : tie.Need-returns
 returns c = search seat-resting
 
 reach-requires-2 : tie.Need-reach-requires-2
-reach-requires-2 c κs = search (links-within, own-within, prev-within, cur-within)
+reach-requires-2 c κs = search (links-within, prev-within)
 
 reach-requires-3 : tie.Need-reach-requires-3
-reach-requires-3 c κs = search (links-within, own-within, prev-within, cur-within)
+reach-requires-3 c κs = search (links-within, cur-within)
 
 returns-2 : tie.Need-returns-2
-returns-2 c = seat-reached _ _ _ _ _ _ _ _ _ _ _ (c .reach3 .ensures) (c .before .before .before .reach2 .ensures) (c .before .before .before .before .before .before .before .reach .ensures) (c .before .before .before .before .before .before .before .before .before .before .before .before .seat-word-within .ensures) (c .before .before .before .before .before .before .before .before .before .before .before .seat-word-within2 .ensures) (c .before .before .before .before .before .before .before .before .before .before .seat-word-within3 .ensures)
+returns-2 c = seat-reached _ _ _ _ _ _ _ _ _ _ _ _ (c .reach3 .ensures) (c .before .before .before .reach2 .ensures) (c .before .before .before .before .before .before .before .reach .ensures) (c .before .before .before .before .before .before .before .before .before .before .before .before .seat-word-within .ensures) (c .before .before .before .before .before .before .before .before .before .before .before .seat-word-within2 .ensures) (c .before .before .before .before .before .before .before .before .before .before .seat-word-within3 .ensures)
 
 pub reach-seat-spec : {M : Type 1} → statement M
 reach-seat-spec =
