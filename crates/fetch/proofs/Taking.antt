@@ -2,6 +2,7 @@
 -- tables as they stand are those from prev on.
 use Prim.Native.Nat.{ℕ, zero, suc, _-_, _<_, _≤_}
 use mathlib.Core.Path.{_≡_, refl, sym, ap, _∙_}
+use mathlib.Core.Bool.{Bool}
 use mathlib.Core.List.{List, [], _∷_}
 use mathlib.Core.Logic.{_≢_}
 use native.Mathlib.Omega.{arith}
@@ -16,10 +17,10 @@ use Rattle.reach.specs.Walks.{Links}
 use Rattle.reach.proofs.TakingOut.{Going, going-start, going-end, going-left, going-skip, going-keep}
 
 -- ---- one store, the first that is left
-pub first-stored : (nodes nodes′ : List ℕ) (whose value : ℕ) → nodes′ ≡ putLink nodes whose value → ListEnds (tables nodes [])
-    → stores (tables nodes []) ≡ store whose value ∷ drop 1 (stores (tables nodes []))
-    → (nodes′ ≡ putLink nodes whose value) × (stores (tables nodes′ []) ≡ drop 1 (stores (tables nodes [])))
-first-stored nodes nodes′ whose value p e q = (p, ap (λ (l : List ℕ). stores (tables l [])) p ∙ others-left (tables nodes []) e q)
+pub first-stored : (sheet : Bool) (nodes nodes′ : List ℕ) (whose value : ℕ) → nodes′ ≡ putLink sheet nodes whose value → ListEnds (tables sheet nodes [])
+    → stores (tables sheet nodes []) ≡ store whose value ∷ drop 1 (stores (tables sheet nodes []))
+    → (nodes′ ≡ putLink sheet nodes whose value) × (stores (tables sheet nodes′ []) ≡ drop 1 (stores (tables sheet nodes [])))
+first-stored sheet nodes nodes′ whose value p e q = (p, ap (λ (l : List ℕ). stores (tables sheet l [])) p ∙ others-left (tables sheet nodes []) e q)
 
 -- ---- how far the walk has come
 pub record Taking (whole t : Tables) (h prev at-prev cur : ℕ) : Type 0 where
@@ -27,10 +28,10 @@ pub record Taking (whole t : Tables) (h prev at-prev cur : ℕ) : Type 0 where
   pub left : stores t ≡ storesAlong t prev (keptFrom h t cur)
   pub ends : ListEnds t
   pub as-it-stands : at-prev ≡ link t prev
-  pub links : Links (t .nodes)
+  pub links : Links (t .sheet) (t .nodes)
   pub inside : cur ≤ nodeCount t
 
-pub taking-start : (t : Tables) (n a : ℕ) → n ≡ nodeCount t → a ≡ head t → ListEnds t → Links (t .nodes) → Taking (takenOut t) t n 0 a a
+pub taking-start : (t : Tables) (n a : ℕ) → n ≡ nodeCount t → a ≡ head t → ListEnds t → Links (t .sheet) (t .nodes) → Taking (takenOut t) t n 0 a a
 unfolding stores kept
 taking-start t n a q p e l =
     rw (p, q) (record { going = going-start t e; left = refl; ends = e; as-it-stands = refl; links = l; inside = l .small 0 })
@@ -80,14 +81,14 @@ module _ {whole t : Tables} {prev at-prev cur : ℕ} where
       let p = taking-next h g z m d in
       let w = g .going .stands in
       let off = kept-off h t prev (next t cur) (prev-behind w z) in
-      let same : nodeCount (setLink t prev cur) ≡ nodeCount t = same-node-count t (setLink t prev cur) (put-link-length (t .nodes) prev cur) in
+      let same : nodeCount (setLink t prev cur) ≡ nodeCount t = same-node-count t (setLink t prev cur) refl (put-link-length (t .sheet) (t .nodes) prev cur) in
       record {
         going = going-keep whole t prev cur h (g .going) z m;
         left = others-left t (g .ends) p ∙ sym (along-off prev t cur cur (keptFrom h t (next t cur)) (prev-not-cur w z) off)
             ∙ ap (storesAlong (setLink t prev cur) cur) (sym (kept-stored w z) ∙ ap (keptFrom h (setLink t prev cur)) (stored-next w z cur));
         ends = still-ends t (g .ends) p;
         as-it-stands = sym (stored-next w z cur);
-        links = record { few = rw same (g .links .few); small = λ b. rw same (link-put-at-most (t .nodes) prev b cur (nodeCount t) (g .inside) (g .links .small b)) };
+        links = record { few = rw same (g .links .few); small = λ b. rw same (link-put-at-most (t .sheet) (t .nodes) prev b cur (nodeCount t) (g .inside) (g .links .small b)) };
         inside = rw same (g .links .small cur);
       }
 
@@ -111,11 +112,11 @@ less (suc k) P l f = let y : suc k - 1 ≡ k = omega arith in rw y (f k refl)
 reserves : {x : Store} {xs ys : List Store} → xs ≡ x ∷ ys → xs ≡ x ∷ drop 1 xs
 reserves e = rw e
 
-module _ {whole : Tables} {nodes : List ℕ} {h prev at-prev cur : ℕ} (g : Taking whole (tables nodes []) h prev at-prev cur) where
+module _ {sheet : Bool} {whole : Tables} {nodes : List ℕ} {h prev at-prev cur : ℕ} (g : Taking whole (tables sheet nodes []) h prev at-prev cur) where
   abbrev t : Tables
-  t = tables nodes []
+  t = tables sheet nodes []
 
-  module _ {x m : ℕ} (z : cur ≢ 0) (p : x ≡ linkWord nodes cur) (q : m ≡ nodeWord nodes cur markAt) where
+  module _ {x m : ℕ} (z : cur ≢ 0) (p : x ≡ linkWord sheet nodes cur) (q : m ≡ nodeWord sheet nodes cur markAt) where
     pub read-skip : m ≡ 1 → Taking whole t (h - 1) prev at-prev x
     read-skip e =
         less h (λ k. Taking whole t k prev at-prev x) (taking-left h g z)
@@ -125,13 +126,13 @@ module _ {whole : Tables} {nodes : List ℕ} {h prev at-prev cur : ℕ} (g : Tak
       unmarked : mark t cur ≢ 1
       unmarked i = e (q ∙ i)
 
-      pub read-on : {nodes′ : List ℕ} → at-prev ≡ cur → nodes′ ≡ nodes → Taking whole (tables nodes′ []) (h - 1) cur x x
+      pub read-on : {nodes′ : List ℕ} → at-prev ≡ cur → nodes′ ≡ nodes → Taking whole (tables sheet nodes′ []) (h - 1) cur x x
       read-on i same =
           rw same
           (less h (λ k. Taking whole t k cur x x) (taking-left h g z)
           (λ k y. rw p (taking-on k (rw y at g) z unmarked i)))
 
-      pub read-stored : {nodes′ : List ℕ} → at-prev ≢ cur → nodes′ ≡ putLink nodes prev cur → Taking whole (tables nodes′ []) (h - 1) cur x x
+      pub read-stored : {nodes′ : List ℕ} → at-prev ≢ cur → nodes′ ≡ putLink sheet nodes prev cur → Taking whole (tables sheet nodes′ []) (h - 1) cur x x
       read-stored d stored =
           rw stored
           (less h (λ k. Taking whole (setLink t prev cur) k cur x x) (taking-left h g z)
@@ -150,7 +151,7 @@ module _ {whole : Tables} {nodes : List ℕ} {h prev at-prev cur : ℕ} (g : Tak
   pub read-ended : cur ≡ 0 → at-prev ≡ 0 → (nodes ≡ whole .nodes) × (stores t ≡ [])
   read-ended z i = let w = taking-ended h g z i in (ap (λ (u : Tables). u .nodes) (w .0), w .1)
 
-  pub read-end : {nodes′ : List ℕ} → cur ≡ 0 → at-prev ≢ 0 → nodes′ ≡ putLink nodes prev 0 → stores (tables nodes′ []) ≡ drop 1 (stores t)
-      → (nodes′ ≡ whole .nodes) × (stores (tables nodes′ []) ≡ [])
+  pub read-end : {nodes′ : List ℕ} → cur ≡ 0 → at-prev ≢ 0 → nodes′ ≡ putLink sheet nodes prev 0 → stores (tables sheet nodes′ []) ≡ drop 1 (stores t)
+      → (nodes′ ≡ whole .nodes) × (stores (tables sheet nodes′ []) ≡ [])
   read-end z d stored left =
       (stored ∙ ap (λ (u : Tables). u .nodes) (going-end whole t prev cur h (g .going) z), left ∙ ap (drop 1) (taking-last h g z d))

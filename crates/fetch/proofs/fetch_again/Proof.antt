@@ -28,7 +28,7 @@ same-length-4 : tie.Need-same-length-4
 same-length-4 c = search needs
 
 returns-2 : tie.Need-returns-2
-returns-2 c = again-taken _ _ _ _ _ _ _ _ (c .before .before .before .before .take-node .ensures) (c .before .before .before .before .before .before .before .before .before .take-out .ensures .0) (c .before .before .before .before .before .before .before .before .before .before .before .before .lowest-free-after .ensures) (c .before .before .before .before .before .before .before .before .before .before .before .if1 .left)
+returns-2 c = again-taken _ _ _ _ _ _ _ _ _ (c .before .before .before .before .take-node .ensures) (c .before .before .before .before .before .before .before .before .before .take-out .ensures .0) (c .before .before .before .before .before .before .before .before .before .before .before .before .lowest-free-after .ensures) (c .before .before .before .before .before .before .before .before .before .before .before .if1 .left)
 
 pub fetch-again-spec : {M : Type 1} → statement M
 fetch-again-spec =

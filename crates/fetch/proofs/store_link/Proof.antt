@@ -11,7 +11,7 @@ same-length : tie.Need-same-length
 same-length c = search needs
 
 returns : tie.Need-returns
-returns c = first-stored _ _ _ _ (c .before .before .put-link .ensures) (c .before .before .before .before .before .pre .0) (c .before .before .before .before .before .pre .1)
+returns c = first-stored _ _ _ _ _ (c .before .before .put-link .ensures) (c .before .before .before .before .before .pre .0) (c .before .before .before .before .before .pre .1)
 
 pub store-link-spec : {M : Type 1} → statement M
 store-link-spec = tie.close (tie.spec put-link-requires same-length returns)

@@ -12,10 +12,10 @@ use Rattle.fetch.proofs.take_out.Statement.{statement}
 use Rattle.fetch.proofs.take_out.Tie as tie
 
 abbrev Inv-loop : tie.InvT-loop
-Inv-loop nodes₀ left₀ link₀ cur₀ prev₀ nodes left link cur prev = (length nodes ≡ length nodes₀) × Taking (takenOut (tables nodes₀ [])) (tables nodes []) left prev link cur
+Inv-loop sheet nodes₀ left₀ link₀ cur₀ prev₀ nodes left link cur prev = (length nodes ≡ length nodes₀) × Taking (takenOut (tables sheet nodes₀ [])) (tables sheet nodes []) left prev link cur
 
 abbrev μ-loop : tie.MeasureT-loop
-μ-loop nodes₀ left₀ link₀ cur₀ prev₀ nodes left link cur prev = left
+μ-loop sheet nodes₀ left₀ link₀ cur₀ prev₀ nodes left link cur prev = left
 
 node-count-requires : tie.Need-node-count-requires Inv-loop μ-loop
 node-count-requires c κs = search needs
@@ -72,7 +72,7 @@ loop-again-2 c =
     let came = head .loop .inv in
     ⊎-elim
     (λ w. (
-      ap length (w .5) ∙ w .2 .kept .0 ∙ came .0,
+      ap length (w .5) ∙ w .2 .kept .1 .0 ∙ came .0,
       read-stored (came .1) (turn .loop-test .taken) (next .next-within .ensures) (mark .node-word-within .ensures) (stays .if1 .left) (w .0 .taken)
           (w .5 ∙ w .2 .ensures .0),
     ))
