@@ -89,6 +89,13 @@ one-reply promised r r′ t t′ p q =
     let w = one-result promised (means r) (means r′) t t′ p q in
     (sym (read-back r) ∙ ap replyOf (w .0) ∙ read-back r′, w .1)
 
+-- what a call leaves is the words of both tables, where their profile is among its arguments
+abbrev pub both : List ℕ → List ℕ → List ℕ × List ℕ
+both nodes seats = (nodes, seats)
+
+pub their-words : {A : Type 0} {a b : A} {t u : Tables} → (a ≡ b) × (t ≡ u) → (a ≡ b) × (both (t .nodes) (t .seats) ≡ both (u .nodes) (u .seats))
+their-words w = (w .0, ap (λ (v : Tables). both (v .nodes) (v .seats)) (w .1))
+
 pub one-count : (promised : Counted) (r r′ : CountReply) → meansCount r ≡ promised → meansCount r′ ≡ promised → r ≡ r′
 one-count promised r r′ p q = sym (count-back r) ∙ ap countOf (p ∙ sym q) ∙ count-back r′
 
