@@ -1,7 +1,7 @@
 -- The step rules as one law for each way through the code: n and t are the node and the seat table before, n′ and t′ after. The
 -- premises are what the code learned on its way, the last first.
 use Prim.Native.Nat.{ℕ, _+_, _-_, _≤_, _<_}
-use mathlib.Core.Path.{_≡_, sym, ap, _∙_}
+use mathlib.Core.Path.{_≡_, sym, ap, subst, _∙_}
 use mathlib.Core.Bool.{Bool, true, false, not, _&&_, _||_}
 use mathlib.Core.List.{List, []}
 use mathlib.Core.Logic.{_≢_, _⊎_, inl, inr}
@@ -12,11 +12,13 @@ use mir.Syntax.{w32}
 use mir.Val.{Fits, ofZ, toZ}
 use native.Mathlib.Omega.{arith}
 use borrow.Author.Tests.{eq-eqb, ne-eqb}
-use Rattle.rules.specs.Tables.{tables, seatWidth, nodeWord, putNode, linkWord, seatWord, putSeat, clearWords, kindAt, markAt, startAt, endAt, phaseAt, ownAt, prevAt, curAt, countWord, setCount}
+use Rattle.rules.specs.Tables.{Tables, tables, seatWidth, nodeWord, putNode, linkWord, seatWord, putSeat, clearWords, kindAt, markAt, startAt, endAt, phaseAt, ownAt, prevAt, curAt, countAt, countWord, setCount}
 use Rattle.rules.specs.Comparison.{claimOf, compare, shared}
 use Rattle.rules.specs.Answers.{Answer, on, wait, held, back, waiting, answerOf}
-use Rattle.rules.specs.Steps.{entering, moveTo, joined, unlink, pass, linkIn, startValidating, lookAgain, insert, kindOf, hold, withdraw, leave, walking, waitingToEnter, readerValidating, writerValidating, validating, readerWaiting}
+use Rattle.rules.specs.Steps.{entering, moveTo, joined, unlink, pass, linkIn, startValidating, onceLinked, lookAgain, insert, kindOf, hold, withdraw, leave, walking, waitingToEnter, readerValidating, writerValidating, validating, readerWaiting}
 use Rattle.rules.specs.declared.SharedRun.{SharedRun}
+use Rattle.rules.proofs.Laws.Words.{count-low, count-not-head}
+use Rattle.rules.proofs.Frames.NodeFrames.{linking-in, linked-kind}
 use Rattle.rules.proofs.Laws.Answers.{answers-wait, answers-held, answers-back}
 use Rattle.comparison.proofs.Signs.{compare-fits, at-zero, below-zero, above-zero}
 use Rattle.steps.specs.Parts.{skip, skipAndLink, walkByComparison, wakeTo, isPast, readOn, endsBefore, writeOn, countOfKind, markAndClear}
@@ -62,6 +64,23 @@ pub leave-is : (sheet : Bool) (n n₁ n′ t t′ : List ℕ) (s k x : ℕ) → 
 unfolding leave
 leave-is sheet n n₁ n′ t t′ s k x p q e i = rw (p, e, i) (ap (λ u. setCount u (kindOf (tables sheet n t) s) (countWord (tables sheet n t) (kindOf (tables sheet n t) s) - 1)) q)
 
+-- ---- by the profile, once own is linked in
+module _ (sheet : Bool) (n t t′ : List ℕ) (s : ℕ) where
+  pub linked-holds : (n′ : List ℕ) → tables sheet n′ t′ ≡ hold (tables sheet n t) s → sheet ≡ true → tables sheet n′ t′ ≡ onceLinked (tables sheet n t) s
+  unfolding onceLinked
+  linked-holds n′ w e = w ∙ sym (rw e)
+
+  pub linked-validates : tables sheet n t′ ≡ startValidating (tables sheet n t) s → sheet ≡ false → tables sheet n t′ ≡ onceLinked (tables sheet n t) s
+  unfolding onceLinked
+  linked-validates w e = w ∙ sym (rw e)
+
+-- linking in changes no claim and no count
+pub linked-count : (sheet : Bool) (n n₁ t : List ℕ) (s : ℕ) → tables sheet n₁ t ≡ linkIn (tables sheet n t) s → countOfKind (tables sheet n t) s < 4294967295 → countOfKind (tables sheet n₁ t) s < 4294967295
+linked-count sheet n n₁ t s l h =
+    let u = tables sheet n t in
+    let word = linking-in u s .word-at (countAt (kindOf u s)) (count-low sheet (kindOf u s)) (count-not-head (kindOf u s)) (λ z. z) in
+    subst (λ (v : Tables). countOfKind v s < 4294967295) (sym l) (rw (linked-kind u s, word) h)
+
 -- ---- by whether prev is joined to cur
 module _ (sheet : Bool) (n t t′ : List ℕ) (s : ℕ) (b : Bool) (isJoined : b ≡ joined (tables sheet n t) s) where
   pub unlink-joined : (n′ : List ℕ) → tables sheet n′ t′ ≡ skipAndLink (tables sheet n t) s → b ≡ true → tables sheet n′ t′ ≡ unlink (tables sheet n t) s
@@ -72,9 +91,9 @@ module _ (sheet : Bool) (n t t′ : List ℕ) (s : ℕ) (b : Bool) (isJoined : b
   unfolding unlink
   unlink-not w e = rw (sym isJoined ∙ e) w
 
-  pub insert-joined : (n′ : List ℕ) → tables sheet n′ t′ ≡ startValidating (tables sheet n′ t) s → tables sheet n′ t ≡ linkIn (tables sheet n t) s → b ≡ true → tables sheet n′ t′ ≡ insert (tables sheet n t) s
+  pub insert-joined : (n₁ n′ : List ℕ) → tables sheet n′ t′ ≡ onceLinked (tables sheet n₁ t) s → tables sheet n₁ t ≡ linkIn (tables sheet n t) s → b ≡ true → tables sheet n′ t′ ≡ insert (tables sheet n t) s
   unfolding insert
-  insert-joined n′ w l e = rw (sym isJoined ∙ e, ← l) w
+  insert-joined n₁ n′ w l e = rw (sym isJoined ∙ e, ← l) w
 
   pub insert-not : tables sheet n t′ ≡ lookAgain (tables sheet n t) s → b ≡ false → tables sheet n t′ ≡ insert (tables sheet n t) s
   unfolding insert

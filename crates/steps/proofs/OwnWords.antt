@@ -12,7 +12,7 @@ use Rattle.rules.specs.Notation.{if_then_else_, _is_, _≤?_}
 use Rattle.rules.specs.Tables.{Tables, tables, seatWidth, phaseAt, ownAt, prevAt, curAt, seatWord, putSeat, clearWords, seatCountOf, kind, start, end, marked, link, next, head, own, prev, cur, setLink, setMark, setPhase, setPrev, setCur, countWord, setCount}
 use Rattle.rules.specs.Comparison.{claimOf, reads, compare, byComparison}
 use Rattle.rules.specs.Answers.{answerOf}
-use Rattle.rules.specs.Steps.{entering, moveTo, joined, unlink, pass, linkIn, startValidating, lookAgain, insert, kindOf, hold, withdraw, leave, walking, waitingToEnter, readerValidating, writerValidating, validating, readerWaiting}
+use Rattle.rules.specs.Steps.{entering, moveTo, joined, unlink, pass, linkIn, startValidating, onceLinked, lookAgain, insert, kindOf, hold, withdraw, leave, walking, waitingToEnter, readerValidating, writerValidating, validating, readerWaiting}
 use Rattle.rules.proofs.Laws.Words.{put-seat-length, seat-within}
 use Rattle.words.proofs.Places.{seats-within}
 
@@ -155,18 +155,23 @@ module _ (before behind : List ℕ) (s : ℕ) where
     unfolding withdraw
     withdraw-placed = rw (read-own u h) (move-placed (setMark u (own u 0) 1) h 6 0 0)
 
+    once-placed : Placed (onceLinked (placed u) s) (onceLinked u 0)
+    unfolding onceLinked
+    once-placed = if-placed (u .sheet) (hold-placed u h) (start-placed u h)
+
+  module _ (u : Tables) (h : Full u) where
     insert-placed : Placed (insert (placed u) s) (insert u 0)
     unfolding insert linkIn
     insert-placed =
         rw (joined-same u h)
-        (if-placed (joined u 0) (rw (link-in-same u h) (start-placed (linkIn u 0) h)) (again-placed u h))
+        (if-placed (joined u 0) (rw (link-in-same u h) (once-placed (linkIn u 0) h)) (again-placed u h))
 
     reader-placed : Placed (readerValidating (placed u) s) (readerValidating u 0)
     unfolding readerValidating
     reader-placed =
         rw (read-cur u h, read-own u h)
         (if-placed (cur u 0 is 0 || end u (own u 0) ≤? start u (cur u 0)) (hold-placed u h)
-        (if-placed (marked u (cur u 0)) unlink-placed
+        (if-placed (marked u (cur u 0)) (unlink-placed u h)
         (if-placed (reads (claimOf u (cur u 0))) (pass-placed u h) (phase-placed u h 4))))
 
     writer-placed : Placed (writerValidating (placed u) s) (writerValidating u 0)
@@ -174,16 +179,16 @@ module _ (before behind : List ℕ) (s : ℕ) where
     writer-placed =
         rw (read-cur u h, read-own u h)
         (if-placed (cur u 0 is own u 0) (hold-placed u h)
-        (if-placed (cur u 0 is 0) withdraw-placed
-        (if-placed (marked u (cur u 0)) unlink-placed
-        (if-placed (end u (cur u 0) ≤? start u (own u 0)) (pass-placed u h) withdraw-placed))))
+        (if-placed (cur u 0 is 0) (withdraw-placed u h)
+        (if-placed (marked u (cur u 0)) (unlink-placed u h)
+        (if-placed (end u (cur u 0) ≤? start u (own u 0)) (pass-placed u h) (withdraw-placed u h)))))
 
     pub walking-placed : Placed (walking (placed u) s) (walking u 0)
     unfolding walking
     walking-placed =
         rw (read-cur u h, read-own u h)
         (if-placed (cur u 0 is 0) insert-placed
-        (if-placed (marked u (cur u 0)) unlink-placed
+        (if-placed (marked u (cur u 0)) (unlink-placed u h)
         (comparison-placed (compare (claimOf u (cur u 0)) (claimOf u (own u 0))) (pass-placed u h) (phase-placed u h 2) insert-placed)))
 
     pub waiting-placed : Placed (waitingToEnter (placed u) s) (waitingToEnter u 0)

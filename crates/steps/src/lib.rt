@@ -117,6 +117,18 @@ fn start_validating(sheet: bool, nodes: &[u32], seat: &mut [u32])
     move_to(sheet, seat, 3, 0, head);
 }
 
+// validation starts; on a sheet the claim holds at once
+fn once_linked(sheet: bool, nodes: &mut [u32], seat: &mut [u32])
+    requires { ⌜ part.countOfKind (tables sheet (now nodes) (now seat)) 0 < 4294967295 ⌝ }
+    ensures { λ r. ⌜ tables sheet (now (nodes .exit)) (now (seat .exit)) ≡ rule.onceLinked (tables sheet (now (nodes .entry)) (now (seat .entry))) 0 ⌝ }
+{
+    if sheet {
+        hold(sheet, nodes, seat);
+        return;
+    }
+    start_validating(sheet, nodes, seat);
+}
+
 fn look_again(sheet: bool, nodes: &[u32], seat: &mut [u32])
     ensures { λ r. ⌜ tables sheet (now (nodes .entry)) (now (seat .exit)) ≡ rule.lookAgain (tables sheet (now (nodes .entry)) (now (seat .entry))) 0 ⌝ }
 {
@@ -132,11 +144,12 @@ fn look_again(sheet: bool, nodes: &[u32], seat: &mut [u32])
 }
 
 fn insert(sheet: bool, nodes: &mut [u32], seat: &mut [u32])
+    requires { ⌜ part.countOfKind (tables sheet (now nodes) (now seat)) 0 < 4294967295 ⌝ }
     ensures { λ r. ⌜ tables sheet (now (nodes .exit)) (now (seat .exit)) ≡ rule.insert (tables sheet (now (nodes .entry)) (now (seat .entry))) 0 ⌝ }
 {
     if is_joined(sheet, nodes, seat) {
         link_in(sheet, nodes, seat);
-        start_validating(sheet, nodes, seat);
+        once_linked(sheet, nodes, seat);
         return;
     }
     look_again(sheet, nodes, seat);
@@ -145,6 +158,7 @@ fn insert(sheet: bool, nodes: &mut [u32], seat: &mut [u32])
 // ---- phase 1
 
 fn walk_by_comparison(sheet: bool, nodes: &mut [u32], seat: &mut [u32])
+    requires { ⌜ part.countOfKind (tables sheet (now nodes) (now seat)) 0 < 4294967295 ⌝ }
     ensures { λ r. ⌜ tables sheet (now (nodes .exit)) (now (seat .exit)) ≡ part.walkByComparison (tables sheet (now (nodes .entry)) (now (seat .entry))) 0 ⌝ }
 {
     let own = words::field(sheet, seat, words::OWN);
@@ -162,6 +176,7 @@ fn walk_by_comparison(sheet: bool, nodes: &mut [u32], seat: &mut [u32])
 }
 
 pub fn walk(sheet: bool, nodes: &mut [u32], seat: &mut [u32])
+    requires { ⌜ part.countOfKind (tables sheet (now nodes) (now seat)) 0 < 4294967295 ⌝ }
     ensures { λ r. ⌜ tables sheet (now (nodes .exit)) (now (seat .exit)) ≡ rule.walking (tables sheet (now (nodes .entry)) (now (seat .entry))) 0 ⌝ }
 {
     let cur = words::field(sheet, seat, words::CUR);

@@ -27,7 +27,7 @@ part-walk-end : tie.Need-part-walk-end
 part-walk-end c = search part-within
 
 walk-requires : tie.Need-walk-requires
-walk-requires c κs = search needs
+walk-requires c κs = search room-to-count
 
 mul-wait-to-enter : tie.Need-mul-wait-to-enter
 mul-wait-to-enter c = search needs

@@ -1,5 +1,5 @@
 -- `steps::insert` meets its promise.
-use Rattle.steps.proofs.Arms.{insert-joined, insert-not}
+use Rattle.steps.proofs.Arms.{linked-count, insert-joined, insert-not}
 use borrow.Author.Needs.{needs}
 use Rattle.steps.proofs.insert.Statement.{statement}
 use Rattle.steps.proofs.insert.Tie as tie
@@ -10,8 +10,8 @@ is-joined-requires c κs = search needs
 link-in-requires : tie.Need-link-in-requires
 link-in-requires c κs = search needs
 
-start-validating-requires : tie.Need-start-validating-requires
-start-validating-requires c κs = search needs
+once-linked-requires : tie.Need-once-linked-requires
+once-linked-requires c κs = linked-count _ _ _ _ _ (c .before .before .before .before .link-in .ensures) (search needs)
 
 same-length : tie.Need-same-length
 same-length c = search needs
@@ -40,7 +40,7 @@ insert-spec =
     (tie.spec
     is-joined-requires
     link-in-requires
-    start-validating-requires
+    once-linked-requires
     same-length
     same-length-2
     returns
