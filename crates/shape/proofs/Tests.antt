@@ -11,20 +11,58 @@ use lib.ListN.{length, drop}
 use borrow.Author.Tests.{not-true, not-false, eq-eqb, ne-eqb, eqb-true, eqb-false, ltb-true, ltb-false, le-leb, lt-leb}
 use Rattle.rules.specs.Notation.{_≤?_, all}
 use Rattle.rules.specs.Tables.{Tables, tables, beforeNodes, seatWidth, title, countWord, nodeWord, linkWord, seatWord, nodeCountOf, seatCountOf, startAt, endAt, kindAt, markAt, phaseAt, ownAt, prevAt, curAt}
-use Rattle.rules.specs.Shape.{nodesFit, seatsFit, lengthsFit, isKind, zeroNode, claimNode, names, nodeSound, isPhase, zeroSeat, idleOrOwning, restingAtZero, waitingAtCur, seatSound, countsFit, endsBy, titleFits, endsWithin, nodesSound, seatsSound, sound}
-use Rattle.rules.proofs.Ground.Logic.{or-case, or-neither, and-left, all-fails, all-and}
+use Rattle.rules.specs.Shape.{nodesFit, seatsFit, lengthsFit, isKind, mayClaim, zeroNode, claimNode, names, nodeSound, mayBeIn, isPhase, zeroSeat, idleOrOwning, restingAtZero, waitingAtCur, seatSound, countsFit, endsBy, titleFits, endsWithin, nodesSound, seatsSound, sound}
+use Rattle.rules.proofs.Ground.Logic.{clash, not-of, or-case, or-neither, and-left, all-fails, all-and}
 use Rattle.rules.proofs.Laws.Words.{link-past}
-use Rattle.rules.proofs.Laws.Shape.{nodes-fit, named, name-of, name-small, lengths-fit}
+use Rattle.rules.proofs.Laws.Shape.{MayBeIn, NoneOfSheet, phase-allowed, allowed-phase, nodes-fit, named, name-of, name-small, lengths-fit}
 use Rattle.rules.proofs.Laws.NodesAlone.{ends-alone, nodes-alone, ends-by-alone}
 use Rattle.words.specs.Parts.{withZeros}
 use Rattle.words.proofs.Places.{same-count}
 use Rattle.shape.proofs.Part.{same-names, same-nodes, same-ends, same-seats, same-holders}
-use Rattle.shape.specs.Parts.{nodeSoundBy, nodesSoundBy, busySound, waitingSound, restingSound, seatsAndCountsSound, listEnds}
+use Rattle.shape.specs.Parts.{leastKind, lacksPhase, nodeSoundBy, nodesSoundBy, busySound, waitingSound, restingSound, seatsAndCountsSound, listEnds}
 use Rattle.rules.proofs.Ground.Deciding.{if-same}
 
 pub lengths-is : (sheet : Bool) (l t : List ℕ) (u v : Bool) → u ≡ nodesFit (tables sheet l []) → v ≡ seatsFit (tables sheet [] t) → (u && v) ≡ lengthsFit (tables sheet l t)
 unfolding lengthsFit nodesFit seatsFit
 lengths-is sheet l t u v p q = rw (p, q)
+
+-- ---- the profile: what the code tests of it
+or-same : (b : Bool) → (b || b) ≡ b
+or-same true = refl
+or-same false = refl
+
+pub may-claim-is : (sheet : Bool) (k x : ℕ) → x ≡ leastKind sheet → (eqb k x || eqb k 2) ≡ mayClaim sheet k
+unfolding mayClaim isKind
+may-claim-is true k x e = rw e (or-same (eqb k 2))
+may-claim-is false k x e = rw e
+
+-- no claim is of kind 0, and every seat may be idle
+no-claim-of-0 : (sheet : Bool) → mayClaim sheet 0 ≡ false
+unfolding mayClaim isKind
+no-claim-of-0 true = refl
+no-claim-of-0 false = refl
+
+may-be-idle : (sheet : Bool) → mayBeIn sheet 0 ≡ true
+unfolding mayBeIn
+may-be-idle true = refl
+may-be-idle false = refl
+
+not-lacked : (sheet : Bool) (p : ℕ) → lacksPhase sheet p ≡ false → NoneOfSheet sheet p
+not-lacked true p e q =
+    let n = or-neither (eqb p 3 || eqb p 4) (eqb p 6) e in
+    let m = or-neither (eqb p 3) (eqb p 4) (n .0) in
+    (eqb-false p 3 (m .0), eqb-false p 4 (m .1), eqb-false p 6 (n .1))
+not-lacked false p e q = absurd (clash false q refl)
+
+lacked : (sheet : Bool) (p : ℕ) → lacksPhase sheet p ≡ true → NoneOfSheet sheet p → ⊥
+lacked true p e n = elim (or-case (eqb p 3 || eqb p 4) (eqb p 6) e) [
+  | inl w ↦ elim (or-case (eqb p 3) (eqb p 4) w) [ inl z ↦ n refl .0 (eqb-true p 3 z) | inr z ↦ n refl .1 (eqb-true p 4 z) ]
+  | inr w ↦ n refl .2 (eqb-true p 6 w)
+]
+lacked false p e n = clash false e refl
+
+none-allowed : (sheet : Bool) (p : ℕ) → (MayBeIn sheet p → ⊥) → mayBeIn sheet p ≡ false
+none-allowed sheet p f = not-of (mayBeIn sheet p) (λ e. f (phase-allowed sheet p e))
 
 -- ---- a name
 module _ (sheet : Bool) (l : List ℕ) (n a : ℕ) (isCount : n ≡ nodeCountOf sheet l) where
@@ -36,7 +74,7 @@ module _ (sheet : Bool) (l : List ℕ) (n a : ℕ) (isCount : n ≡ nodeCountOf 
   unfolding names
   names-past h d = rw (ne-eqb a 0 d, ← isCount, lt-leb a n h)
 
-  pub names-kind : (k : ℕ) (b : Bool) → b ≡ isKind k → k ≡ nodeWord sheet l a kindAt → a ≤ n → a ≢ 0 → b ≡ names (tables sheet l []) a
+  pub names-kind : (k : ℕ) (b : Bool) → b ≡ mayClaim sheet k → k ≡ nodeWord sheet l a kindAt → a ≤ n → a ≢ 0 → b ≡ names (tables sheet l []) a
   unfolding names
   names-kind k b p q h d = rw (ne-eqb a 0 d, ← isCount, le-leb a n h, ← q) p
 
@@ -77,10 +115,10 @@ no-zero false b c d = refl
 module _ (sheet : Bool) (l : List ℕ) (frames a x y k next m : ℕ) (isMark : m ≡ nodeWord sheet l a markAt) (isNext : next ≡ linkWord sheet l a) (isKindOf : k ≡ nodeWord sheet l a kindAt)
     (isEnd : y ≡ nodeWord sheet l a endAt) (isStart : x ≡ nodeWord sheet l a startAt) where
   zero-sound : k ≡ 0 → (eqb x 0 && eqb y 0 && eqb next 0 && eqb m 0) ≡ nodeSound (tables sheet l []) a
-  unfolding nodeSound zeroNode claimNode isKind
+  unfolding nodeSound zeroNode claimNode
   zero-sound e =
       let q : nodeWord sheet l a kindAt ≡ 0 = sym isKindOf ∙ e in
-      rw (isMark, isNext, isEnd, isStart, q)
+      rw (isMark, isNext, isEnd, isStart, q, no-claim-of-0 sheet)
       (zero-case (eqb (nodeWord sheet l a startAt) 0) (eqb (nodeWord sheet l a endAt) 0) (eqb (linkWord sheet l a) 0) (eqb (nodeWord sheet l a markAt) 0) (names (tables sheet l []) (linkWord sheet l a))
       (λ z. sym (names-zero sheet l (nodeCountOf sheet l) (linkWord sheet l a) refl (eqb-true (linkWord sheet l a) 0 z))))
 
@@ -96,7 +134,7 @@ module _ (sheet : Bool) (l : List ℕ) (frames a x y k next m : ℕ) (isMark : m
         let q : names (tables sheet l []) (linkWord sheet l a) ≡ false = rw isNext at (sym isNamed ∙ not-true v e) in
         rw (q, and-false (zeroNode (tables sheet l []) a || claimNode (tables sheet l []) a)) (sym (and-false (nodeWord sheet l a endAt ≤? frames)))
 
-    pub node-claim : (u : Bool) → u ≡ isKind k → not v ≡ false → (u && ltb x y && leb y frames && leb m 1) ≡ nodeSoundBy (tables sheet l []) frames a
+    pub node-claim : (u : Bool) → u ≡ mayClaim sheet k → not v ≡ false → (u && ltb x y && leb y frames && leb m 1) ≡ nodeSoundBy (tables sheet l []) frames a
     unfolding nodeSound zeroNode claimNode
     node-claim u q e =
         let w : names (tables sheet l []) (linkWord sheet l a) ≡ true = rw isNext at (sym isNamed ∙ not-false v e) in
@@ -111,7 +149,7 @@ module _ (sheet : Bool) (l : List ℕ) (frames a x y k next m : ℕ) (isMark : m
           ne-eqb (nodeWord sheet l a kindAt) 0 (λ z. some (isKindOf ∙ z)),
           no-zero (eqb (nodeWord sheet l a startAt) 0) (eqb (nodeWord sheet l a endAt) 0) (eqb (linkWord sheet l a) 0) (eqb (nodeWord sheet l a markAt) 0),
         )
-        (claim-case (isKind (nodeWord sheet l a kindAt)) (ltb (nodeWord sheet l a startAt) (nodeWord sheet l a endAt)) (leb (nodeWord sheet l a endAt) frames) (leb (nodeWord sheet l a markAt) 1))
+        (claim-case (mayClaim sheet (nodeWord sheet l a kindAt)) (ltb (nodeWord sheet l a startAt) (nodeWord sheet l a endAt)) (leb (nodeWord sheet l a endAt) frames) (leb (nodeWord sheet l a markAt) 1))
 
 -- ---- every node
 unfoldable pub nodesBelow : Bool → List ℕ → ℕ → ℕ → Bool
@@ -216,48 +254,52 @@ module _ (sheet : Bool) (l t : List ℕ) (s p o v c : ℕ) (isCur : c ≡ seatWo
   pub seat-idle : p ≡ 0 → (eqb o 0 && eqb v 0 && eqb c 0) ≡ seatSound (tables sheet l t) s
   unfolding seatSound isPhase zeroSeat idleOrOwning restingAtZero waitingAtCur names
   seat-idle e =
-      rw (four-words sheet t s, ← isPhaseOf, ← isCur, ← isPrev, ← isOwn, e)
+      rw (four-words sheet t s, ← isPhaseOf, ← isCur, ← isPrev, ← isOwn, e, may-be-idle sheet)
       (idle-case (eqb o 0) (eqb v 0) (eqb c 0) (names (tables sheet l []) o) (names (tables sheet l []) v) (names (tables sheet l []) c) (zero-named o) (zero-named v) (zero-named c))
 
   -- what each clause says of a seat in a phase from 1 to 7
   clauses : Bool → Bool → Bool
   clauses resting waiting = not (eqb o 0) && resting && waiting && names (tables sheet l []) o && names (tables sheet l []) v && names (tables sheet l []) c
 
-  in-phase : (P : ℕ) → p ≡ P → P ≢ 0 → P ≤ 7 → clauses (not (eqb P 5 || eqb P 6 || eqb P 7) || eqb v 0 && eqb c 0) (not (eqb P 2 || eqb P 4) || not (eqb c 0)) ≡ seatSound (tables sheet l t) s
+  in-phase : lacksPhase sheet p ≡ false → (P : ℕ) → p ≡ P → P ≢ 0 → P ≤ 7 → clauses (not (eqb P 5 || eqb P 6 || eqb P 7) || eqb v 0 && eqb c 0) (not (eqb P 2 || eqb P 4) || not (eqb c 0)) ≡ seatSound (tables sheet l t) s
   unfolding seatSound isPhase idleOrOwning restingAtZero waitingAtCur names clauses
-  in-phase P e d h = rw (← isPhaseOf, ← isCur, ← isPrev, ← isOwn, e, ne-eqb P 0 d, le-leb P 7 h)
+  in-phase n P e d h = rw (← isPhaseOf, ← isCur, ← isPrev, ← isOwn, e, ne-eqb P 0 d, allowed-phase sheet P (h, not-lacked sheet P (rw e at n)))
 
-  pub seat-on-foot : (w : Bool) → w ≡ busySound (tables sheet l []) o v c → (p ≡ 1) ⊎ (p ≡ 3) → w ≡ seatSound (tables sheet l t) s
+  pub seat-on-foot : (w : Bool) → w ≡ busySound (tables sheet l []) o v c → (p ≡ 1) ⊎ (p ≡ 3) → (b : Bool) → b ≡ lacksPhase sheet p → b ≡ false → w ≡ seatSound (tables sheet l t) s
   unfolding clauses
-  seat-on-foot w h (inl e) = h ∙ foot-case (not (eqb o 0)) (names (tables sheet l []) o) (names (tables sheet l []) v) (names (tables sheet l []) c) ∙ in-phase 1 e (omega arith) (omega arith)
-  seat-on-foot w h (inr e) = h ∙ foot-case (not (eqb o 0)) (names (tables sheet l []) o) (names (tables sheet l []) v) (names (tables sheet l []) c) ∙ in-phase 3 e (omega arith) (omega arith)
+  seat-on-foot w h (inl e) b q n = h ∙ foot-case (not (eqb o 0)) (names (tables sheet l []) o) (names (tables sheet l []) v) (names (tables sheet l []) c) ∙ in-phase (sym q ∙ n) 1 e (omega arith) (omega arith)
+  seat-on-foot w h (inr e) b q n = h ∙ foot-case (not (eqb o 0)) (names (tables sheet l []) o) (names (tables sheet l []) v) (names (tables sheet l []) c) ∙ in-phase (sym q ∙ n) 3 e (omega arith) (omega arith)
 
-  pub seat-waiting : (w : Bool) → w ≡ waitingSound (tables sheet l []) o v c → (p ≡ 2) ⊎ (p ≡ 4) → w ≡ seatSound (tables sheet l t) s
+  pub seat-waiting : (w : Bool) → w ≡ waitingSound (tables sheet l []) o v c → (p ≡ 2) ⊎ (p ≡ 4) → (b : Bool) → b ≡ lacksPhase sheet p → b ≡ false → w ≡ seatSound (tables sheet l t) s
   unfolding clauses
-  seat-waiting w h (inl e) =
-      h ∙ waiting-case (not (eqb o 0)) (not (eqb c 0)) (names (tables sheet l []) o) (names (tables sheet l []) v) (names (tables sheet l []) c) ∙ in-phase 2 e (omega arith) (omega arith)
-  seat-waiting w h (inr e) =
-      h ∙ waiting-case (not (eqb o 0)) (not (eqb c 0)) (names (tables sheet l []) o) (names (tables sheet l []) v) (names (tables sheet l []) c) ∙ in-phase 4 e (omega arith) (omega arith)
+  seat-waiting w h (inl e) b q n =
+      h ∙ waiting-case (not (eqb o 0)) (not (eqb c 0)) (names (tables sheet l []) o) (names (tables sheet l []) v) (names (tables sheet l []) c) ∙ in-phase (sym q ∙ n) 2 e (omega arith) (omega arith)
+  seat-waiting w h (inr e) b q n =
+      h ∙ waiting-case (not (eqb o 0)) (not (eqb c 0)) (names (tables sheet l []) o) (names (tables sheet l []) v) (names (tables sheet l []) c) ∙ in-phase (sym q ∙ n) 4 e (omega arith) (omega arith)
 
   rested : restingSound (tables sheet l []) o v c ≡ clauses (eqb v 0 && eqb c 0) true
   unfolding clauses
   rested = resting-case (not (eqb o 0)) (eqb v 0) (eqb c 0) (names (tables sheet l []) o) (names (tables sheet l []) v) (names (tables sheet l []) c) (zero-named v) (zero-named c)
 
   -- 5, 6 or 7 is what is left below 8
-  pub seat-resting : (w : Bool) → w ≡ restingSound (tables sheet l []) o v c → p ≢ 0 → ((p ≡ 1) ⊎ (p ≡ 3) → ⊥) → ((p ≡ 2) ⊎ (p ≡ 4) → ⊥) → p < 8 → w ≡ seatSound (tables sheet l t) s
-  seat-resting w h z f g small =
+  pub seat-resting : (w : Bool) → w ≡ restingSound (tables sheet l []) o v c → p ≢ 0 → ((p ≡ 1) ⊎ (p ≡ 3) → ⊥) → ((p ≡ 2) ⊎ (p ≡ 4) → ⊥) → p < 8 → (b : Bool) → b ≡ lacksPhase sheet p → b ≡ false → w ≡ seatSound (tables sheet l t) s
+  seat-resting w h z f g small b q n =
       let no-1 : p ≢ 1 = λ e. f (inl e) in
       let no-2 : p ≢ 2 = λ e. g (inl e) in
       let no-3 : p ≢ 3 = λ e. f (inr e) in
       let no-4 : p ≢ 4 = λ e. g (inr e) in
       let large : 5 ≤ p = omega arith in
-      if-same p 5 (λ e. h ∙ rested ∙ in-phase 5 e (omega arith) (omega arith)) (λ d.
-      if-same p 6 (λ e. h ∙ rested ∙ in-phase 6 e (omega arith) (omega arith)) (λ d′.
-      h ∙ rested ∙ in-phase 7 (seven large small d d′) (omega arith) (omega arith)))
+      if-same p 5 (λ e. h ∙ rested ∙ in-phase (sym q ∙ n) 5 e (omega arith) (omega arith)) (λ d.
+      if-same p 6 (λ e. h ∙ rested ∙ in-phase (sym q ∙ n) 6 e (omega arith) (omega arith)) (λ d′.
+      h ∙ rested ∙ in-phase (sym q ∙ n) 7 (seven large small d d′) (omega arith) (omega arith)))
 
   pub seat-no-phase : 8 ≤ p → false ≡ seatSound (tables sheet l t) s
   unfolding seatSound isPhase
-  seat-no-phase h = rw (← isPhaseOf, lt-leb p 7 (omega arith))
+  seat-no-phase h = rw (← isPhaseOf, none-allowed sheet p (λ w. let l = w .0 in omega arith))
+
+  pub seat-lacks : (b : Bool) → b ≡ lacksPhase sheet p → b ≡ true → false ≡ seatSound (tables sheet l t) s
+  unfolding seatSound isPhase
+  seat-lacks b q e = rw (← isPhaseOf, none-allowed sheet p (λ w. lacked sheet p (sym q ∙ e) (w .1)))
 
 -- ---- the walk along next: what is left gives the whole
 ends-zero : (t : Tables) (left a : ℕ) → a ≡ 0 → endsWithin left t a ≡ true

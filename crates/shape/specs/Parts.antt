@@ -1,10 +1,19 @@
--- Parts of sound shape: its two clauses on the nodes together, what it asks of a seat's own, prev and cur by the seat's phase, its two clauses on
+-- Parts of sound shape: what it leaves out by the profile, its two clauses on the nodes together, what it asks of a seat's own, prev and cur by the seat's phase, its two clauses on
 -- the seats together, and its last clause alone.
 use Prim.Native.Nat.{ℕ}
-use mathlib.Core.Bool.{Bool, not, _&&_}
+use mathlib.Core.Bool.{Bool, true, false, not, _&&_, _||_}
 use Rattle.rules.specs.Notation.{if_then_else_, _is_, _≤?_}
 use Rattle.rules.specs.Tables.{Tables, nodeCount, end, kind, head, phase, own}
 use Rattle.rules.specs.Shape.{names, nodeSound, nodesSound, seatsSound, holdersOfKind, endsBy, endsWithin}
+
+-- the least kind that a claim may have; 2 is the largest
+abbrev pub leastKind : Bool → ℕ
+leastKind true = 2
+leastKind false = 1
+
+-- a phase that a sheet lacks
+abbrev pub lacksPhase : Bool → ℕ → Bool
+lacksPhase sheet p = sheet && (p is 3 || p is 4 || p is 6)
 
 -- a node ends by so many frames and is sound, and each node does and is
 abbrev pub nodeSoundBy : Tables → ℕ → ℕ → Bool

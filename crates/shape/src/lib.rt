@@ -6,9 +6,9 @@ ghost use mathlib.Core.List.{[]};
 ghost use Prim.Native.Nat.{_<_, _≤_};
 ghost use Rattle.rules.specs.Notation.{_is_};
 ghost use Rattle.rules.specs.Tables.{tables, nodeCountOf, seatCountOf, phase};
-ghost use Rattle.rules.specs.Shape.{nodesFit, lengthsFit, isKind, names, seatSound, sound};
+ghost use Rattle.rules.specs.Shape.{nodesFit, lengthsFit, mayClaim, names, seatSound, sound};
 ghost use Rattle.words.specs.Parts.{withZeros};
-ghost use Rattle.shape.specs.Parts.{nodeSoundBy, nodesSoundBy, busySound, waitingSound, restingSound, heldKind, seatsAndCountsSound, listEnds};
+ghost use Rattle.shape.specs.Parts.{leastKind, lacksPhase, nodeSoundBy, nodesSoundBy, busySound, waitingSound, restingSound, heldKind, seatsAndCountsSound, listEnds};
 
 pub fn lengths_fit(sheet: bool, nodes: &[u32], seats: &[u32]) -> bool
     ensures { λ r. ⌜ r ≡ lengthsFit (tables sheet (now (nodes .entry)) (now (seats .entry))) ⌝ }
@@ -18,15 +18,31 @@ pub fn lengths_fit(sheet: bool, nodes: &[u32], seats: &[u32]) -> bool
     a & b
 }
 
-pub fn is_kind(k: u32) -> bool
-    ensures { λ r. ⌜ r ≡ isKind k ⌝ }
+// ---- what the profile allows
+
+fn least_kind(sheet: bool) -> u32
+    ensures { λ r. ⌜ r ≡ leastKind sheet ⌝ }
 {
-    (k == 1) | (k == 2)
+    if sheet { 2 } else { 1 }
+}
+
+// A claim reads or writes, and on a sheet it writes. The least kind is a chosen number, so that the test is the same for both.
+pub fn may_claim(sheet: bool, k: u32) -> bool
+    ensures { λ r. ⌜ r ≡ mayClaim sheet k ⌝ }
+{
+    (k == least_kind(sheet)) | (k == 2)
+}
+
+// phases 3, 4 and 6, of a sheet
+fn lacks_phase(sheet: bool, phase: u32) -> bool
+    ensures { λ r. ⌜ r ≡ lacksPhase sheet phase ⌝ }
+{
+    sheet & ((phase == 3) | (phase == 4) | (phase == 6))
 }
 
 // ---- the nodes, in that part, and the seats beside it; n is N
 
-// 0, or a node of kind 1 or 2
+// 0, or a node of a kind that a claim may have
 fn names_node(sheet: bool, part: &[u32], n: u32, a: u32) -> bool
     requires { ⌜ n ≡ nodeCountOf sheet (withZeros sheet (now part)) ⌝ }
     ensures { λ r. ⌜ r ≡ names (tables sheet (withZeros sheet (now (part .entry))) []) a ⌝ }
@@ -38,7 +54,7 @@ fn names_node(sheet: bool, part: &[u32], n: u32, a: u32) -> bool
         return false;
     }
     let kind = words::part_word(sheet, part, a, words::KIND);
-    is_kind(kind)
+    may_claim(sheet, kind)
 }
 
 // A node of kind 0 is all zeros, and so ends within any title; any other is a claim.
@@ -59,7 +75,7 @@ fn node_sound(sheet: bool, part: &[u32], n: u32, title: u32, a: u32) -> bool
     if !names_node(sheet, part, n, next) {
         return false;
     }
-    let claim = is_kind(kind);
+    let claim = may_claim(sheet, kind);
     claim & (start < end) & (end <= title) & (mark <= 1)
 }
 
@@ -127,6 +143,9 @@ fn seat_sound(sheet: bool, part: &[u32], seats: &[u32], n: u32, s: u32) -> bool
     let own = words::seat_word_within(sheet, seats, s, words::OWN);
     let prev = words::seat_word_within(sheet, seats, s, words::PREV);
     let cur = words::seat_word_within(sheet, seats, s, words::CUR);
+    if lacks_phase(sheet, phase) {
+        return false;
+    }
     match phase {
         0 => (own == 0) & (prev == 0) & (cur == 0),
         1 | 3 => busy_sound(sheet, part, n, own, prev, cur),

@@ -133,7 +133,7 @@ NoneOfSheet sheet P = sheet ≡ true → (P ≢ 3) × (P ≢ 4) × (P ≢ 6)
 abbrev pub MayBeIn : Bool → ℕ → Type 0
 MayBeIn sheet P = (P ≤ 7) × NoneOfSheet sheet P
 
-phase-allowed : (sheet : Bool) (p : ℕ) → mayBeIn sheet p ≡ true → MayBeIn sheet p
+pub phase-allowed : (sheet : Bool) (p : ℕ) → mayBeIn sheet p ≡ true → MayBeIn sheet p
 unfolding mayBeIn
 phase-allowed true p e =
     if-same p 0 (λ q. (omega arith, λ x. (omega arith, omega arith, omega arith))) (λ d₀.
@@ -150,7 +150,7 @@ below p n l d = omega arith
 at-zero : (p : ℕ) → p ≤ 0 → p ≡ 0
 at-zero p l = omega arith
 
-allowed-phase : (sheet : Bool) (p : ℕ) → MayBeIn sheet p → mayBeIn sheet p ≡ true
+pub allowed-phase : (sheet : Bool) (p : ℕ) → MayBeIn sheet p → mayBeIn sheet p ≡ true
 unfolding mayBeIn
 allowed-phase true p w =
     if-same p 0 (λ q. rw q) (λ d₀.

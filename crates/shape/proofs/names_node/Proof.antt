@@ -13,12 +13,12 @@ returns-2 c = search names-past
 part-word-requires : tie.Need-part-word-requires
 part-word-requires c κs = search needs
 
-is-kind-requires : tie.Need-is-kind-requires
-is-kind-requires c κs = search needs
+may-claim-requires : tie.Need-may-claim-requires
+may-claim-requires c κs = search needs
 
 returns-3 : tie.Need-returns-3
 returns-3 c = search names-kind
 
 pub names-node-spec : {M : Type 1} → statement M
 names-node-spec =
-    tie.close (tie.spec returns returns-2 part-word-requires is-kind-requires returns-3)
+    tie.close (tie.spec returns returns-2 part-word-requires may-claim-requires returns-3)

@@ -28,8 +28,8 @@ names-node-requires c κs = search needs
 returns-2 : tie.Need-returns-2
 returns-2 c = search node-lost
 
-is-kind-requires : tie.Need-is-kind-requires
-is-kind-requires c κs = search needs
+may-claim-requires : tie.Need-may-claim-requires
+may-claim-requires c κs = search needs
 
 returns-3 : tie.Need-returns-3
 returns-3 c = search node-claim
@@ -46,5 +46,5 @@ node-sound-spec =
     returns
     names-node-requires
     returns-2
-    is-kind-requires
+    may-claim-requires
     returns-3)
