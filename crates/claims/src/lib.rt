@@ -29,10 +29,10 @@ fn fill_with_zeros(table: &mut [u32])
 }
 
 // 0, or the refusal; `title` is the title's frame count
-pub fn clear(nodes: &mut [u32], seats: &mut [u32], title: u32) -> u32
-    ensures { λ r. ⌜ done r (tables (now (nodes .exit)) (now (seats .exit))) ≡ call.clear (tables (now (nodes .entry)) (now (seats .entry))) title ⌝ }
+pub fn clear(sheet: bool, nodes: &mut [u32], seats: &mut [u32], title: u32) -> u32
+    ensures { λ r. ⌜ done r (tables sheet (now (nodes .exit)) (now (seats .exit))) ≡ call.clear (tables sheet (now (nodes .entry)) (now (seats .entry))) title ⌝ }
 {
-    let fits = shape::lengths_fit(nodes, seats);
+    let fits = shape::lengths_fit(sheet, nodes, seats);
     if !fits {
         return 1;
     }
@@ -49,6 +49,7 @@ pub fn clear(nodes: &mut [u32], seats: &mut [u32], title: u32) -> u32
 
 // of an idle seat
 fn reserve_fetching(
+    sheet: bool,
     nodes: &mut [u32],
     seats: &mut [u32],
     s: u32,
@@ -56,11 +57,11 @@ fn reserve_fetching(
     end: u32,
     kind: u32,
 ) -> Reply
-    requires { ⌜ sound (tables (now nodes) (now seats)) ≡ true ⌝ }
-    requires { ⌜ phase (tables (now nodes) (now seats)) s ≡ 0 ⌝ }
-    ensures { λ r. ⌜ done (means r) (tables (now (nodes .exit)) (now (seats .exit))) ≡ part.reserveFetching (tables (now (nodes .entry)) (now (seats .entry))) s (claim start end kind) ⌝ }
+    requires { ⌜ sound (tables sheet (now nodes) (now seats)) ≡ true ⌝ }
+    requires { ⌜ phase (tables sheet (now nodes) (now seats)) s ≡ 0 ⌝ }
+    ensures { λ r. ⌜ done (means r) (tables sheet (now (nodes .exit)) (now (seats .exit))) ≡ part.reserveFetching (tables sheet (now (nodes .entry)) (now (seats .entry))) s (claim start end kind) ⌝ }
 {
-    let a = fetch::fetch(nodes, seats, s, start, end, kind);
+    let a = fetch::fetch(sheet, nodes, seats, s, start, end, kind);
     if a == 0 {
         return Reply::Refused(8);
     }
@@ -68,6 +69,7 @@ fn reserve_fetching(
 }
 
 fn reserve_claim(
+    sheet: bool,
     nodes: &mut [u32],
     seats: &mut [u32],
     s: u32,
@@ -75,11 +77,11 @@ fn reserve_claim(
     end: u32,
     kind: u32,
 ) -> Reply
-    requires { ⌜ sound (tables (now nodes) (now seats)) ≡ true ⌝ }
-    ensures { λ r. ⌜ done (means r) (tables (now (nodes .exit)) (now (seats .exit))) ≡ part.reserveClaim (tables (now (nodes .entry)) (now (seats .entry))) s (claim start end kind) ⌝ }
+    requires { ⌜ sound (tables sheet (now nodes) (now seats)) ≡ true ⌝ }
+    ensures { λ r. ⌜ done (means r) (tables sheet (now (nodes .exit)) (now (seats .exit))) ≡ part.reserveClaim (tables sheet (now (nodes .entry)) (now (seats .entry))) s (claim start end kind) ⌝ }
 {
     // 3, then 11, then 4: what they look at is read first, so that each is one test, and their order is that of the lines
-    let title = words::title(nodes);
+    let title = words::title(sheet, nodes);
     let known = shape::is_kind(kind);
     if end <= start {
         return Reply::Refused(3);
@@ -90,14 +92,15 @@ fn reserve_claim(
     if !known {
         return Reply::Refused(4);
     }
-    let phase = words::seat_word(seats, s, words::PHASE);
+    let phase = words::seat_word(sheet, seats, s, words::PHASE);
     match phase {
-        0 => reserve_fetching(nodes, seats, s, start, end, kind),
+        0 => reserve_fetching(sheet, nodes, seats, s, start, end, kind),
         1..=4294967295 => Reply::Refused(5),
     }
 }
 
 pub fn reserve(
+    sheet: bool,
     nodes: &mut [u32],
     seats: &mut [u32],
     s: u32,
@@ -105,11 +108,11 @@ pub fn reserve(
     end: u32,
     kind: u32,
 ) -> Reply
-    ensures { λ r. ⌜ done (means r) (tables (now (nodes .exit)) (now (seats .exit))) ≡ call.reserve (tables (now (nodes .entry)) (now (seats .entry))) s (claim start end kind) ⌝ }
+    ensures { λ r. ⌜ done (means r) (tables sheet (now (nodes .exit)) (now (seats .exit))) ≡ call.reserve (tables sheet (now (nodes .entry)) (now (seats .entry))) s (claim start end kind) ⌝ }
 {
-    if shape::is_sound(nodes, seats) {
-        if (s as usize) < words::seat_count(seats) {
-            return reserve_claim(nodes, seats, s, start, end, kind);
+    if shape::is_sound(sheet, nodes, seats) {
+        if (s as usize) < words::seat_count(sheet, seats) {
+            return reserve_claim(sheet, nodes, seats, s, start, end, kind);
         }
         return Reply::Refused(2);
     }
@@ -118,28 +121,28 @@ pub fn reserve(
 
 // ---- enter
 
-fn enter_seat(nodes: &[u32], seats: &mut [u32], s: u32) -> Reply
-    requires { ⌜ s < seatCountOf (now seats) ⌝ }
-    ensures { λ r. ⌜ done (means r) (tables (now (nodes .entry)) (now (seats .exit))) ≡ part.enterSeat (tables (now (nodes .entry)) (now (seats .entry))) s ⌝ }
+fn enter_seat(sheet: bool, nodes: &[u32], seats: &mut [u32], s: u32) -> Reply
+    requires { ⌜ s < seatCountOf sheet (now seats) ⌝ }
+    ensures { λ r. ⌜ done (means r) (tables sheet (now (nodes .entry)) (now (seats .exit))) ≡ part.enterSeat (tables sheet (now (nodes .entry)) (now (seats .entry))) s ⌝ }
 {
-    let phase = words::seat_word_within(seats, s, words::PHASE);
-    let start = words::seat_start(s);
-    let end = words::seat_end(s);
+    let phase = words::seat_word_within(sheet, seats, s, words::PHASE);
+    let start = words::seat_start(sheet, s);
+    let end = words::seat_end(sheet, s);
     match phase {
         7 => {
-            steps::enter(nodes, &mut seats[start..end]);
+            steps::enter(sheet, nodes, &mut seats[start..end]);
             Reply::On
         }
         0..=6 | 8..=4294967295 => Reply::Refused(14),
     }
 }
 
-pub fn enter(nodes: &[u32], seats: &mut [u32], s: u32) -> Reply
-    ensures { λ r. ⌜ done (means r) (tables (now (nodes .entry)) (now (seats .exit))) ≡ call.enter (tables (now (nodes .entry)) (now (seats .entry))) s ⌝ }
+pub fn enter(sheet: bool, nodes: &[u32], seats: &mut [u32], s: u32) -> Reply
+    ensures { λ r. ⌜ done (means r) (tables sheet (now (nodes .entry)) (now (seats .exit))) ≡ call.enter (tables sheet (now (nodes .entry)) (now (seats .entry))) s ⌝ }
 {
-    if shape::is_sound(nodes, seats) {
-        if (s as usize) < words::seat_count(seats) {
-            return enter_seat(nodes, seats, s);
+    if shape::is_sound(sheet, nodes, seats) {
+        if (s as usize) < words::seat_count(sheet, seats) {
+            return enter_seat(sheet, nodes, seats, s);
         }
         return Reply::Refused(2);
     }
@@ -149,53 +152,53 @@ pub fn enter(nodes: &[u32], seats: &mut [u32], s: u32) -> Reply
 // ---- step
 
 // the step, and the answer from the seat's new phase
-fn step_and_answer(nodes: &mut [u32], seats: &mut [u32], s: u32) -> Reply
-    requires { ⌜ sound (tables (now nodes) (now seats)) ≡ true ⌝ }
-    ensures { λ r. ⌜ done (means r) (tables (now (nodes .exit)) (now (seats .exit))) ≡ call.step (tables (now (nodes .entry)) (now (seats .entry))) s ⌝ }
+fn step_and_answer(sheet: bool, nodes: &mut [u32], seats: &mut [u32], s: u32) -> Reply
+    requires { ⌜ sound (tables sheet (now nodes) (now seats)) ≡ true ⌝ }
+    ensures { λ r. ⌜ done (means r) (tables sheet (now (nodes .exit)) (now (seats .exit))) ≡ call.step (tables sheet (now (nodes .entry)) (now (seats .entry))) s ⌝ }
 {
-    let refusal = phases::step_known(nodes, seats, s);
+    let refusal = phases::step_known(sheet, nodes, seats, s);
     if refusal == 0 {
-        let start = words::seat_start(s);
-        let end = words::seat_end(s);
-        return steps::answer(nodes, &seats[start..end]);
+        let start = words::seat_start(sheet, s);
+        let end = words::seat_end(sheet, s);
+        return steps::answer(sheet, nodes, &seats[start..end]);
     }
     Reply::Refused(refusal)
 }
 
-pub fn step(nodes: &mut [u32], seats: &mut [u32], s: u32) -> Reply
-    ensures { λ r. ⌜ done (means r) (tables (now (nodes .exit)) (now (seats .exit))) ≡ call.step (tables (now (nodes .entry)) (now (seats .entry))) s ⌝ }
+pub fn step(sheet: bool, nodes: &mut [u32], seats: &mut [u32], s: u32) -> Reply
+    ensures { λ r. ⌜ done (means r) (tables sheet (now (nodes .exit)) (now (seats .exit))) ≡ call.step (tables sheet (now (nodes .entry)) (now (seats .entry))) s ⌝ }
 {
-    if shape::is_sound(nodes, seats) {
-        return step_and_answer(nodes, seats, s);
+    if shape::is_sound(sheet, nodes, seats) {
+        return step_and_answer(sheet, nodes, seats, s);
     }
     Reply::Refused(1)
 }
 
 // ---- release
 
-fn release_seat(nodes: &mut [u32], seats: &mut [u32], s: u32) -> Reply
-    requires { ⌜ sound (tables (now nodes) (now seats)) ≡ true ⌝ }
-    requires { ⌜ s < seatCountOf (now seats) ⌝ }
-    ensures { λ r. ⌜ done (means r) (tables (now (nodes .exit)) (now (seats .exit))) ≡ part.releaseSeat (tables (now (nodes .entry)) (now (seats .entry))) s ⌝ }
+fn release_seat(sheet: bool, nodes: &mut [u32], seats: &mut [u32], s: u32) -> Reply
+    requires { ⌜ sound (tables sheet (now nodes) (now seats)) ≡ true ⌝ }
+    requires { ⌜ s < seatCountOf sheet (now seats) ⌝ }
+    ensures { λ r. ⌜ done (means r) (tables sheet (now (nodes .exit)) (now (seats .exit))) ≡ part.releaseSeat (tables sheet (now (nodes .entry)) (now (seats .entry))) s ⌝ }
 {
-    let phase = words::seat_word_within(seats, s, words::PHASE);
-    let start = words::seat_start(s);
-    let end = words::seat_end(s);
+    let phase = words::seat_word_within(sheet, seats, s, words::PHASE);
+    let start = words::seat_start(sheet, s);
+    let end = words::seat_end(sheet, s);
     match phase {
         5 => {
-            steps::leave(nodes, &mut seats[start..end]);
+            steps::leave(sheet, nodes, &mut seats[start..end]);
             Reply::Out
         }
         0..=4 | 6..=4294967295 => Reply::Refused(7),
     }
 }
 
-pub fn release(nodes: &mut [u32], seats: &mut [u32], s: u32) -> Reply
-    ensures { λ r. ⌜ done (means r) (tables (now (nodes .exit)) (now (seats .exit))) ≡ call.release (tables (now (nodes .entry)) (now (seats .entry))) s ⌝ }
+pub fn release(sheet: bool, nodes: &mut [u32], seats: &mut [u32], s: u32) -> Reply
+    ensures { λ r. ⌜ done (means r) (tables sheet (now (nodes .exit)) (now (seats .exit))) ≡ call.release (tables sheet (now (nodes .entry)) (now (seats .entry))) s ⌝ }
 {
-    if shape::is_sound(nodes, seats) {
-        if (s as usize) < words::seat_count(seats) {
-            return release_seat(nodes, seats, s);
+    if shape::is_sound(sheet, nodes, seats) {
+        if (s as usize) < words::seat_count(sheet, seats) {
+            return release_seat(sheet, nodes, seats, s);
         }
         return Reply::Refused(2);
     }
@@ -204,11 +207,11 @@ pub fn release(nodes: &mut [u32], seats: &mut [u32], s: u32) -> Reply
 
 // ---- free count
 
-pub fn free_count(nodes: &[u32], seats: &[u32]) -> CountReply
-    ensures { λ r. ⌜ meansCount r ≡ count.freeCount (tables (now (nodes .entry)) (now (seats .entry))) ⌝ }
+pub fn free_count(sheet: bool, nodes: &[u32], seats: &[u32]) -> CountReply
+    ensures { λ r. ⌜ meansCount r ≡ count.freeCount (tables sheet (now (nodes .entry)) (now (seats .entry))) ⌝ }
 {
-    if shape::is_sound(nodes, seats) {
-        let free = fetch::free_count(nodes, seats);
+    if shape::is_sound(sheet, nodes, seats) {
+        let free = fetch::free_count(sheet, nodes, seats);
         return CountReply::Count(free);
     }
     CountReply::Refused(1)

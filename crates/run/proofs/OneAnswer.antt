@@ -6,5 +6,5 @@ use Rattle.rules.proofs.Laws.OneAnswer.{Settles, one-result}
 use Rattle.run.proofs.run.Reads as run
 use Rattle.run.proofs.run.Kinds as kinds
 
-pub one-run : Settles kinds.ps kinds.r run.Post (λ κs s. tables (now (s .0)) (now (s .1 .0)))
-one-run κs args a b s t = one-result _ a b _ _
+pub one-run : Settles kinds.ps kinds.r run.Post (λ κs s. both (now (s .1 .0)) (now (s .1 .1 .0)))
+one-run κs args a b s t p q = their-words (one-result _ a b _ _ p q)
