@@ -38,12 +38,12 @@ plus-none : (k refusal : ℕ) (t : Tables) → done (ran k refusal) t ≡ plus k
 plus-none k refusal t = let e : 0 + k ≡ k = omega arith in rw e
 
 -- ---- one entry: a seat that there is
-module _ (t : List ℕ) (s c : ℕ) (isCount : c ≡ seatCountOf t) (there : s < c) where
-  pub seat-there : s < seatCountOf t
+module _ (sheet : Bool) (t : List ℕ) (s c : ℕ) (isCount : c ≡ seatCountOf sheet t) (there : s < c) where
+  pub seat-there : s < seatCountOf sheet t
   seat-there = rw (← isCount) there
 
-  pub still-there : (t′ : List ℕ) → length t′ ≡ length t → s < seatCountOf t′
-  still-there t′ e = rw (same-seat-count (tables [] t) (tables [] t′) e) seat-there
+  pub still-there : (t′ : List ℕ) → length t′ ≡ length t → s < seatCountOf sheet t′
+  still-there t′ e = rw (same-seat-count (tables sheet [] t) (tables sheet [] t′) refl e) seat-there
 
 -- ---- the loop
 accepted : (b : ℕ) (t : Tables) (s : ℕ) (rest : List ℕ) → refusalOf (step t s .answer) ≡ 0 → runSteps (suc b) t (s ∷ rest) ≡ oneMore (runSteps b (step t s .after) rest)
@@ -67,61 +67,61 @@ budget-used : (t : Tables) (schedule : List ℕ) → runSteps 0 t schedule ≡ d
 unfolding runSteps
 budget-used t schedule = refl
 
-module _ (schedule : List ℕ) (budget : ℕ) (whole : Done Ran) (n t : List ℕ) where
+module _ (sheet : Bool) (schedule : List ℕ) (budget : ℕ) (whole : Done Ran) (n t : List ℕ) where
   -- after k accepted steps, with the tables n and t
   abbrev pub Left : ℕ → Type 0
-  Left k = plus k (runSteps (budget - k) (tables n t) (drop k schedule)) ≡ whole
+  Left k = plus k (runSteps (budget - k) (tables sheet n t) (drop k schedule)) ≡ whole
 
   -- an entry is left, and so is some of the budget
   here : (k : ℕ) → k < budget → k < length schedule
-      → runSteps (budget - k) (tables n t) (drop k schedule) ≡ runSteps (suc (budget - (k + 1))) (tables n t) (getD schedule k 0 ∷ drop (k + 1) schedule)
+      → runSteps (budget - k) (tables sheet n t) (drop k schedule) ≡ runSteps (suc (budget - (k + 1))) (tables sheet n t) (getD schedule k 0 ∷ drop (k + 1) schedule)
   here k h i =
       let e : budget - k ≡ suc (budget - (k + 1)) = omega arith in
       rw (e, drop-cons schedule k 0 i, ← add-one k)
 
   -- the entry is stepped
-  module _ (n′ t′ : List ℕ) (k s r : ℕ) (left : Left k) (stepped : done r (tables n′ t′) ≡ unanswered (step (tables n t) s))
+  module _ (n′ t′ : List ℕ) (k s r : ℕ) (left : Left k) (stepped : done r (tables sheet n′ t′) ≡ unanswered (step (tables sheet n t) s))
       (isEntry : s ≡ getD schedule k 0) (h : k < budget) (i : k < length schedule) where
-    refusal : r ≡ refusalOf (step (tables n t) s .answer)
-    refusal = its-refusal (step (tables n t) s) r (tables n′ t′) stepped
+    refusal : r ≡ refusalOf (step (tables sheet n t) s .answer)
+    refusal = its-refusal (step (tables sheet n t) s) r (tables sheet n′ t′) stepped
 
-    after : tables n′ t′ ≡ step (tables n t) s .after
-    after = its-tables (step (tables n t) s) r (tables n′ t′) stepped
+    after : tables sheet n′ t′ ≡ step (tables sheet n t) s .after
+    after = its-tables (step (tables sheet n t) s) r (tables sheet n′ t′) stepped
 
-    pub left-again : r ≡ 0 → plus (k + 1) (runSteps (budget - (k + 1)) (tables n′ t′) (drop (k + 1) schedule)) ≡ whole
+    pub left-again : r ≡ 0 → plus (k + 1) (runSteps (budget - (k + 1)) (tables sheet n′ t′) (drop (k + 1) schedule)) ≡ whole
     left-again e =
-        let z : refusalOf (step (tables n t) s .answer) ≡ 0 = sym refusal ∙ e in
-        rw (after, isEntry) (sym (plus-more k (runSteps (budget - (k + 1)) (step (tables n t) (getD schedule k 0) .after) (drop (k + 1) schedule)))
-        ∙ ap (plus k) (sym (here k h i ∙ accepted (budget - (k + 1)) (tables n t) (getD schedule k 0) (drop (k + 1) schedule) (rw isEntry at z)))
+        let z : refusalOf (step (tables sheet n t) s .answer) ≡ 0 = sym refusal ∙ e in
+        rw (after, isEntry) (sym (plus-more k (runSteps (budget - (k + 1)) (step (tables sheet n t) (getD schedule k 0) .after) (drop (k + 1) schedule)))
+        ∙ ap (plus k) (sym (here k h i ∙ accepted (budget - (k + 1)) (tables sheet n t) (getD schedule k 0) (drop (k + 1) schedule) (rw isEntry at z)))
         ∙ left)
 
-    pub left-refused : r ≢ 0 → done (ran k r) (tables n′ t′) ≡ whole
+    pub left-refused : r ≢ 0 → done (ran k r) (tables sheet n′ t′) ≡ whole
     left-refused d =
-        let z : refusalOf (step (tables n t) s .answer) ≢ 0 = λ e. d (refusal ∙ e) in
-        rw (refusal, after ∙ refused-step-keeps (tables n t) s z)
-        (plus-none k (refusalOf (step (tables n t) s .answer)) (tables n t)
-        ∙ ap (plus k) (rw isEntry (sym (here k h i ∙ turned-away (budget - (k + 1)) (tables n t) (getD schedule k 0) (drop (k + 1) schedule) (rw isEntry at z))))
+        let z : refusalOf (step (tables sheet n t) s .answer) ≢ 0 = λ e. d (refusal ∙ e) in
+        rw (refusal, after ∙ refused-step-keeps (tables sheet n t) s z)
+        (plus-none k (refusalOf (step (tables sheet n t) s .answer)) (tables sheet n t)
+        ∙ ap (plus k) (rw isEntry (sym (here k h i ∙ turned-away (budget - (k + 1)) (tables sheet n t) (getD schedule k 0) (drop (k + 1) schedule) (rw isEntry at z))))
         ∙ left)
 
   -- there is no such seat
-  pub left-past : (k s c : ℕ) → Left k → sound (tables n t) ≡ true → c ≡ seatCountOf t → c ≤ s → s ≡ getD schedule k 0 → k < budget → k < length schedule
-      → done (ran k 2) (tables n t) ≡ whole
-  left-past k s c l e p h q i j = left-refused n t k s 2 l (step-past n t s c p e h) q i j (omega arith)
+  pub left-past : (k s c : ℕ) → Left k → sound (tables sheet n t) ≡ true → c ≡ seatCountOf sheet t → c ≤ s → s ≡ getD schedule k 0 → k < budget → k < length schedule
+      → done (ran k 2) (tables sheet n t) ≡ whole
+  left-past k s c l e p h q i j = left-refused n t k s 2 l (step-past sheet n t s c p e h) q i j (omega arith)
 
-  pub left-budget : (k : ℕ) → Left k → k ≡ budget → done (ran k 0) (tables n t) ≡ whole
+  pub left-budget : (k : ℕ) → Left k → k ≡ budget → done (ran k 0) (tables sheet n t) ≡ whole
   left-budget k l e =
       let z : budget - k ≡ 0 = omega arith in
-      plus-none k 0 (tables n t) ∙ ap (plus k) (rw z (sym (budget-used (tables n t) (drop k schedule)))) ∙ l
+      plus-none k 0 (tables sheet n t) ∙ ap (plus k) (rw z (sym (budget-used (tables sheet n t) (drop k schedule)))) ∙ l
 
-  pub left-end : (k : ℕ) → Left k → length schedule ≤ k → k ≤ length schedule → done (ran k 0) (tables n t) ≡ whole
+  pub left-end : (k : ℕ) → Left k → length schedule ≤ k → k ≤ length schedule → done (ran k 0) (tables sheet n t) ≡ whole
   left-end k l h i =
       let z : k ≡ length schedule = omega arith in
-      plus-none k 0 (tables n t) ∙ ap (plus k) (rw (z, drop-length schedule) (sym (nothing-left (budget - length schedule) (tables n t)))) ∙ l
+      plus-none k 0 (tables sheet n t) ∙ ap (plus k) (rw (z, drop-length schedule) (sym (nothing-left (budget - length schedule) (tables sheet n t)))) ∙ l
 
   -- the tables are damaged: an entry that is left is refused 1
-  left-damaged : (k : ℕ) → Left k → sound (tables n t) ≡ false → k ≤ budget → k ≤ length schedule → done (stopAtDamage k (length schedule) budget) (tables n t) ≡ whole
+  left-damaged : (k : ℕ) → Left k → sound (tables sheet n t) ≡ false → k ≤ budget → k ≤ length schedule → done (stopAtDamage k (length schedule) budget) (tables sheet n t) ≡ whole
   left-damaged k l e h i =
-      branch (λ r. done r (tables n t) ≡ whole) (eqb k budget || leb (length schedule) k)
+      branch (λ r. done r (tables sheet n t) ≡ whole) (eqb k budget || leb (length schedule) k)
       (λ z. elim (or-case (eqb k budget) (leb (length schedule) k) z) [
         | inl q ↦ left-budget k l (eqb-true k budget q)
         | inr q ↦ left-end k l (leb-true (length schedule) k q) i
@@ -131,13 +131,13 @@ module _ (schedule : List ℕ) (budget : ℕ) (whole : Done Ran) (n t : List ℕ
       let used = eqb-false k budget (y .0) in
       let more = leb-false (length schedule) k (y .1) in
       let s = getD schedule k 0 in
-      let one : refusalOf (step (tables n t) s .answer) ≡ 1 = rw (step-damaged (tables n t) s e) in
-      plus-none k 1 (tables n t)
-      ∙ ap (plus k) (rw one at (sym (here k (omega arith) more ∙ turned-away (budget - (k + 1)) (tables n t) s (drop (k + 1) schedule) (λ q. absurd (omega arith)))))
+      let one : refusalOf (step (tables sheet n t) s .answer) ≡ 1 = rw (step-damaged (tables sheet n t) s e) in
+      plus-none k 1 (tables sheet n t)
+      ∙ ap (plus k) (rw one at (sym (here k (omega arith) more ∙ turned-away (budget - (k + 1)) (tables sheet n t) s (drop (k + 1) schedule) (λ q. absurd (omega arith)))))
       ∙ l)
 
-  pub left-stopped : (k : ℕ) (r : Ran) → Left k → r ≡ stopAtDamage k (length schedule) budget → sound (tables n t) ≡ false → k ≤ budget → k ≤ length schedule
-      → done r (tables n t) ≡ whole
+  pub left-stopped : (k : ℕ) (r : Ran) → Left k → r ≡ stopAtDamage k (length schedule) budget → sound (tables sheet n t) ≡ false → k ≤ budget → k ≤ length schedule
+      → done r (tables sheet n t) ≡ whole
   left-stopped k r l q e h i = rw q (left-damaged k l e h i)
 
 pub left-all : (schedule : List ℕ) (budget : ℕ) (t : Tables) → plus 0 (runSteps (budget - 0) t (drop 0 schedule)) ≡ runSteps budget t schedule
@@ -147,48 +147,48 @@ left-all schedule budget t =
     rw (e, f)
 
 -- ---- the call
-pub run-sound : (n n′ t t′ schedule : List ℕ) (budget : ℕ) (b : Bool) (r : Ran) → done r (tables n′ t′) ≡ runSteps budget (tables n t) schedule → b ≡ sound (tables n t) → b ≡ true
-    → done r (tables n′ t′) ≡ run (tables n t) schedule budget
+pub run-sound : (sheet : Bool) (n n′ t t′ schedule : List ℕ) (budget : ℕ) (b : Bool) (r : Ran) → done r (tables sheet n′ t′) ≡ runSteps budget (tables sheet n t) schedule → b ≡ sound (tables sheet n t) → b ≡ true
+    → done r (tables sheet n′ t′) ≡ run (tables sheet n t) schedule budget
 unfolding run
-run-sound n n′ t t′ schedule budget b r w p e = rw (sym p ∙ e) w
+run-sound sheet n n′ t t′ schedule budget b r w p e = rw (sym p ∙ e) w
 
-pub run-damaged : (n t schedule : List ℕ) (budget : ℕ) (b : Bool) → b ≡ sound (tables n t) → b ≡ false → done (ran 0 1) (tables n t) ≡ run (tables n t) schedule budget
+pub run-damaged : (sheet : Bool) (n t schedule : List ℕ) (budget : ℕ) (b : Bool) → b ≡ sound (tables sheet n t) → b ≡ false → done (ran 0 1) (tables sheet n t) ≡ run (tables sheet n t) schedule budget
 unfolding run
-run-damaged n t schedule budget b p e = rw (sym p ∙ e)
+run-damaged sheet n t schedule budget b p e = rw (sym p ∙ e)
 
 -- ---- whether the tables are still sound
-pub kept-linked : (n : List ℕ) (before after : ℕ) (r : Bool) → r ≡ listEnds (tables n []) → (eqb before 1 && eqb after 3) ≡ true → r ≡ keptSound (tables n []) before after
-kept-linked n before after r p e = rw e p
+pub kept-linked : (sheet : Bool) (n : List ℕ) (before after : ℕ) (r : Bool) → r ≡ listEnds (tables sheet n []) → (eqb before 1 && eqb after 3) ≡ true → r ≡ keptSound (tables sheet n []) before after
+kept-linked sheet n before after r p e = rw e p
 
-pub kept-other : (n : List ℕ) (before after : ℕ) → (eqb before 1 && eqb after 3) ≡ false → true ≡ keptSound (tables n []) before after
-kept-other n before after e = rw e
+pub kept-other : (sheet : Bool) (n : List ℕ) (before after : ℕ) → (eqb before 1 && eqb after 3) ≡ false → true ≡ keptSound (tables sheet n []) before after
+kept-other sheet n before after e = rw e
 
 -- a step keeps the lengths
-pub still-fit : (n n′ t : List ℕ) → sound (tables n t) ≡ true → length n′ ≡ length n → nodesFit (tables n′ []) ≡ true
+pub still-fit : (sheet : Bool) (n n′ t : List ℕ) → sound (tables sheet n t) ≡ true → length n′ ≡ length n → nodesFit (tables sheet n′ []) ≡ true
 unfolding lengthsFit nodesFit
-still-fit n n′ t e l =
-    rw (l, same-node-count (tables n t) (tables n′ []) l)
-    (and-left (nodesFit (tables n t)) (seatsFit (tables n t)) (lengths-fit-is (tables n t) (is-sound (tables n t) e)))
+still-fit sheet n n′ t e l =
+    rw (l, same-node-count (tables sheet n t) (tables sheet n′ []) refl l)
+    (and-left (nodesFit (tables sheet n t)) (seatsFit (tables sheet n t)) (lengths-fit-is (tables sheet n t) (is-sound (tables sheet n t) e)))
 
 -- of the tables after a step on sound ones
-module _ (n n′ t t′ : List ℕ) (s before after r : ℕ) (k : Bool) (stepped : done r (tables n′ t′) ≡ unanswered (step (tables n t) s)) (isBefore : before ≡ seatWord t s phaseAt)
-    (isAfter : after ≡ seatWord t′ s phaseAt) (isKept : k ≡ keptSound (tables n′ []) before after) where
-  alone : listEnds (tables n′ []) ≡ listEnds (tables n′ t′)
-  alone = ends-alone (nodeCountOf n′) n′ t′ (linkWord n′ 0)
+module _ (sheet : Bool) (n n′ t t′ : List ℕ) (s before after r : ℕ) (k : Bool) (stepped : done r (tables sheet n′ t′) ≡ unanswered (step (tables sheet n t) s)) (isBefore : before ≡ seatWord sheet t s phaseAt)
+    (isAfter : after ≡ seatWord sheet t′ s phaseAt) (isKept : k ≡ keptSound (tables sheet n′ []) before after) where
+  alone : listEnds (tables sheet n′ []) ≡ listEnds (tables sheet n′ t′)
+  alone = ends-alone sheet (nodeCountOf sheet n′) n′ t′ (linkWord sheet n′ 0)
 
-  pub still-sound : not k ≡ false → sound (tables n t) ≡ true → sound (tables n′ t′) ≡ true
+  pub still-sound : not k ≡ false → sound (tables sheet n t) ≡ true → sound (tables sheet n′ t′) ≡ true
   still-sound e was =
-      let u : tables n′ t′ ≡ step (tables n t) s .after = its-tables (step (tables n t) s) r (tables n′ t′) stepped in
-      let new : after ≡ phase (step (tables n t) s .after) s = isAfter ∙ ap (λ (x : Tables). phase x s) u in
-      rw u (step-keeps-sound (tables n t) s was (λ x y.
-      let linked : keptSound (tables n′ []) before after ≡ listEnds (tables n′ []) = rw (eq-eqb before 1 (isBefore ∙ x), eq-eqb after 3 (new ∙ y)) in
+      let u : tables sheet n′ t′ ≡ step (tables sheet n t) s .after = its-tables (step (tables sheet n t) s) r (tables sheet n′ t′) stepped in
+      let new : after ≡ phase (step (tables sheet n t) s .after) s = isAfter ∙ ap (λ (x : Tables). phase x s) u in
+      rw u (step-keeps-sound (tables sheet n t) s was (λ x y.
+      let linked : keptSound (tables sheet n′ []) before after ≡ listEnds (tables sheet n′ []) = rw (eq-eqb before 1 (isBefore ∙ x), eq-eqb after 3 (new ∙ y)) in
       rw (← u) (sym alone ∙ sym linked ∙ sym isKept ∙ not-false k e)))
 
-  pub now-damaged : not k ≡ true → sound (tables n′ t′) ≡ false
+  pub now-damaged : not k ≡ true → sound (tables sheet n′ t′) ≡ false
   now-damaged e =
-      not-of (sound (tables n′ t′)) (λ yes-sound.
-      let ends : listEnds (tables n′ []) ≡ true = alone ∙ is-sound (tables n′ t′) yes-sound .ends in
-      clash (keptSound (tables n′ []) before after)
+      not-of (sound (tables sheet n′ t′)) (λ yes-sound.
+      let ends : listEnds (tables sheet n′ []) ≡ true = alone ∙ is-sound (tables sheet n′ t′) yes-sound .ends in
+      clash (keptSound (tables sheet n′ []) before after)
       (branch (λ b. b ≡ true) (eqb before 1 && eqb after 3) (λ q. ends) (λ q. refl))
       (sym isKept ∙ not-true k e))
 

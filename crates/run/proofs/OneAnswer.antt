@@ -1,8 +1,7 @@
 -- Run's promise settles its count, its refusal and both tables: two results that meet it on the same arguments are equal. It is the
 -- promise itself that is cited, as the checker reads it from the source.
 use denote.Ref.{now}
-use Rattle.rules.specs.Tables.{tables}
-use Rattle.rules.proofs.Laws.OneAnswer.{Settles, one-result}
+use Rattle.rules.proofs.Laws.OneAnswer.{Settles, one-result, both, their-words}
 use Rattle.run.proofs.run.Reads as run
 use Rattle.run.proofs.run.Kinds as kinds
 

@@ -12,12 +12,12 @@ use rules::Ran;
 
 // After an accepted step by which a seat's phase changed from one to the other. Only the step that links own in, from phase 1 to 3, can
 // leave sound tables damaged, and then it is their list that does not end: no other word is looked at again.
-fn is_kept_sound(nodes: &[u32], before: u32, after: u32) -> bool
-    requires { ⌜ nodesFit (tables (now nodes) []) ≡ true ⌝ }
-    ensures { λ r. ⌜ r ≡ part.keptSound (tables (now (nodes .entry)) []) before after ⌝ }
+fn is_kept_sound(sheet: bool, nodes: &[u32], before: u32, after: u32) -> bool
+    requires { ⌜ nodesFit (tables sheet (now nodes) []) ≡ true ⌝ }
+    ensures { λ r. ⌜ r ≡ part.keptSound (tables sheet (now (nodes .entry)) []) before after ⌝ }
 {
     if (before == 1) & (after == 3) {
-        return shape::list_ends(nodes);
+        return shape::list_ends(sheet, nodes);
     }
     true
 }
@@ -40,9 +40,15 @@ fn stop_at_damage(steps: u32, entries: usize, budget: u32) -> Ran
 
 // The tables are sound whenever an entry is stepped, so that none tests them. Whether there is such a seat is asked here, so that its phase
 // can be read before and after the step.
-fn run_steps(nodes: &mut [u32], seats: &mut [u32], schedule: &[u32], budget: u32) -> Ran
-    requires { ⌜ sound (tables (now nodes) (now seats)) ≡ true ⌝ }
-    ensures { λ r. ⌜ done r (tables (now (nodes .exit)) (now (seats .exit))) ≡ rule.runSteps budget (tables (now (nodes .entry)) (now (seats .entry))) (now (schedule .entry)) ⌝ }
+fn run_steps(
+    sheet: bool,
+    nodes: &mut [u32],
+    seats: &mut [u32],
+    schedule: &[u32],
+    budget: u32,
+) -> Ran
+    requires { ⌜ sound (tables sheet (now nodes) (now seats)) ≡ true ⌝ }
+    ensures { λ r. ⌜ done r (tables sheet (now (nodes .exit)) (now (seats .exit))) ≡ rule.runSteps budget (tables sheet (now (nodes .entry)) (now (seats .entry))) (now (schedule .entry)) ⌝ }
 {
     let mut steps: u32 = 0;
     loop {
@@ -59,34 +65,34 @@ fn run_steps(nodes: &mut [u32], seats: &mut [u32], schedule: &[u32], budget: u32
             };
         }
         let s = schedule[steps as usize];
-        let count = words::seat_count(seats) as u32;
+        let count = words::seat_count(sheet, seats) as u32;
         if count <= s {
             break Ran {
                 steps: steps,
                 refusal: 2,
             };
         }
-        let before = words::seat_word_within(seats, s, words::PHASE);
-        let refusal = phases::step_known(nodes, seats, s);
+        let before = words::seat_word_within(sheet, seats, s, words::PHASE);
+        let refusal = phases::step_known(sheet, nodes, seats, s);
         if refusal != 0 {
             break Ran {
                 steps: steps,
                 refusal: refusal,
             };
         }
-        let after = words::seat_word_within(seats, s, words::PHASE);
+        let after = words::seat_word_within(sheet, seats, s, words::PHASE);
         steps += 1;
-        if !is_kept_sound(nodes, before, after) {
+        if !is_kept_sound(sheet, nodes, before, after) {
             break stop_at_damage(steps, schedule.len(), budget);
         }
     }
 }
 
-pub fn run(nodes: &mut [u32], seats: &mut [u32], schedule: &[u32], budget: u32) -> Ran
-    ensures { λ r. ⌜ done r (tables (now (nodes .exit)) (now (seats .exit))) ≡ rule.run (tables (now (nodes .entry)) (now (seats .entry))) (now (schedule .entry)) budget ⌝ }
+pub fn run(sheet: bool, nodes: &mut [u32], seats: &mut [u32], schedule: &[u32], budget: u32) -> Ran
+    ensures { λ r. ⌜ done r (tables sheet (now (nodes .exit)) (now (seats .exit))) ≡ rule.run (tables sheet (now (nodes .entry)) (now (seats .entry))) (now (schedule .entry)) budget ⌝ }
 {
-    if shape::is_sound(nodes, seats) {
-        return run_steps(nodes, seats, schedule, budget);
+    if shape::is_sound(sheet, nodes, seats) {
+        return run_steps(sheet, nodes, seats, schedule, budget);
     }
     Ran {
         steps: 0,

@@ -14,12 +14,12 @@ use Rattle.run.proofs.run_steps.Statement.{statement}
 use Rattle.run.proofs.run_steps.Tie as tie
 
 abbrev Inv-loop : tie.InvT-loop
-Inv-loop nodes₀ seats₀ schedule budget steps₀ nodes seats steps =
-    (length nodes ≡ length nodes₀) × (length seats ≡ length seats₀) × (steps ≤ budget) × (steps ≤ length schedule) × (sound (tables nodes seats) ≡ true)
-    × (plus steps (runSteps (budget - steps) (tables nodes seats) (drop steps schedule)) ≡ runSteps budget (tables nodes₀ seats₀) schedule)
+Inv-loop sheet nodes₀ seats₀ schedule budget steps₀ nodes seats steps =
+    (length nodes ≡ length nodes₀) × (length seats ≡ length seats₀) × (steps ≤ budget) × (steps ≤ length schedule) × (sound (tables sheet nodes seats) ≡ true)
+    × (plus steps (runSteps (budget - steps) (tables sheet nodes seats) (drop steps schedule)) ≡ runSteps budget (tables sheet nodes₀ seats₀) schedule)
 
 abbrev μ-loop : tie.MeasureT-loop
-μ-loop nodes₀ seats₀ schedule budget steps₀ nodes seats steps = budget - steps
+μ-loop sheet nodes₀ seats₀ schedule budget steps₀ nodes seats steps = budget - steps
 
 loop-holds : tie.Need-loop-holds Inv-loop μ-loop
 loop-holds c = (refl, refl, omega arith, omega arith, search needs, left-all _ _ _)
@@ -40,12 +40,12 @@ seat-count-requires : tie.Need-seat-count-requires Inv-loop μ-loop
 seat-count-requires c κs = search needs
 
 cast-count : tie.Need-cast-count Inv-loop μ-loop
-cast-count c = omega (arith, seats-few _ _ _ (c .seat-count .ensures) (c .before .before .before .before .before .loop .inv .4))
+cast-count c = omega (arith, seats-few _ _ _ _ (c .seat-count .ensures) (c .before .before .before .before .before .loop .inv .4))
 
 seat-word-within-requires : tie.Need-seat-word-within-requires Inv-loop μ-loop
 seat-word-within-requires c κs =
     let seat = c .before in
-    (seat-there _ _ _ (seat .before .seat-count .ensures) (seat .if3 .left), search needs)
+    (seat-there _ _ _ _ (seat .before .seat-count .ensures) (seat .if3 .left), search needs)
 
 step-known-requires : tie.Need-step-known-requires Inv-loop μ-loop
 step-known-requires c κs = search needs
@@ -53,7 +53,7 @@ step-known-requires c κs = search needs
 seat-word-within-requires-2 : tie.Need-seat-word-within-requires-2 Inv-loop μ-loop
 seat-word-within-requires-2 c κs =
     let seat = c .before .before .before .before .before .before .before .before .before .before .before in
-    (still-there _ _ _ (seat .before .seat-count .ensures) (seat .if3 .left) _ (search needs), search needs)
+    (still-there _ _ _ _ (seat .before .seat-count .ensures) (seat .if3 .left) _ (search needs), search needs)
 
 add-steps : tie.Need-add-steps Inv-loop μ-loop
 add-steps c = omega arith
@@ -85,8 +85,8 @@ loop-again c =
       search needs,
       omega (arith, h, unused .if1 .left),
       omega (arith, i, more .if2 .left),
-      still-sound _ _ _ _ _ _ _ _ _ stepped (before .seat-word-within .ensures) (after .seat-word-within2 .ensures) (kept .is-kept-sound .ensures) (c .if5 .left) (loop .loop .inv .4),
-      left-again _ _ _ _ _ _ _ _ _ _ (loop .loop .inv .5) stepped refl (omega (arith, h, unused .if1 .left)) (omega (arith, i, more .if2 .left)) (accepted .if4 .left),
+      still-sound _ _ _ _ _ _ _ _ _ _ stepped (before .seat-word-within .ensures) (after .seat-word-within2 .ensures) (kept .is-kept-sound .ensures) (c .if5 .left) (loop .loop .inv .4),
+      left-again _ _ _ _ _ _ _ _ _ _ _ (loop .loop .inv .5) stepped refl (omega (arith, h, unused .if1 .left)) (omega (arith, i, more .if2 .left)) (accepted .if4 .left),
     )
 
 same-length : tie.Need-same-length Inv-loop μ-loop
@@ -120,7 +120,7 @@ returns-3 c =
     let loop = unused .before in
     let h = loop .loop .inv .2 in
     let i = loop .loop .inv .3 in
-    left-past _ _ _ _ _ _ _ _ (loop .loop .inv .5) (loop .loop .inv .4) (c .before .seat-count .ensures) (c .if3 .taken) refl (omega (arith, h, unused .if1 .left)) (omega (arith, i, more .if2 .left))
+    left-past _ _ _ _ _ _ _ _ _ (loop .loop .inv .5) (loop .loop .inv .4) (c .before .seat-count .ensures) (c .if3 .taken) refl (omega (arith, h, unused .if1 .left)) (omega (arith, i, more .if2 .left))
 
 same-length-7 : tie.Need-same-length-7 Inv-loop μ-loop
 same-length-7 c = search needs
@@ -138,7 +138,7 @@ returns-4 c =
     let h = loop .loop .inv .2 in
     let i = loop .loop .inv .3 in
     let stepped = step .step-known .ensures in
-    left-refused _ _ _ _ _ _ _ _ _ _ (loop .loop .inv .5) stepped refl (omega (arith, h, unused .if1 .left)) (omega (arith, i, more .if2 .left)) (c .if4 .taken)
+    left-refused _ _ _ _ _ _ _ _ _ _ _ (loop .loop .inv .5) stepped refl (omega (arith, h, unused .if1 .left)) (omega (arith, i, more .if2 .left)) (c .if4 .taken)
 
 same-length-9 : tie.Need-same-length-9 Inv-loop μ-loop
 same-length-9 c = search needs
@@ -161,10 +161,10 @@ returns-5 c =
     let h = loop .loop .inv .2 in
     let i = loop .loop .inv .3 in
     let stepped = step .step-known .ensures in
-    left-stopped _ _ _ _ _ _ _
-    (left-again _ _ _ _ _ _ _ _ _ _ (loop .loop .inv .5) stepped refl (omega (arith, h, unused .if1 .left)) (omega (arith, i, more .if2 .left)) (accepted .if4 .left))
+    left-stopped _ _ _ _ _ _ _ _
+    (left-again _ _ _ _ _ _ _ _ _ _ _ (loop .loop .inv .5) stepped refl (omega (arith, h, unused .if1 .left)) (omega (arith, i, more .if2 .left)) (accepted .if4 .left))
     (c .stop-at-damage .ensures)
-    (now-damaged _ _ _ _ _ _ _ _ _ stepped (before .seat-word-within .ensures) (after .seat-word-within2 .ensures) (kept .is-kept-sound .ensures) (stops .if5 .taken))
+    (now-damaged _ _ _ _ _ _ _ _ _ _ stepped (before .seat-word-within .ensures) (after .seat-word-within2 .ensures) (kept .is-kept-sound .ensures) (stops .if5 .taken))
     (omega (arith, h, unused .if1 .left)) (omega (arith, i, more .if2 .left))
 
 pub run-steps-spec : {M : Type 1} → statement M
