@@ -65,28 +65,28 @@ rows-at-most t (suc n) = go (phase t n is 5) (rows-at-most t n)
     go true h = simp length-append (omega arith)
     go false h = omega arith
 
-pub rows-counted : (t : Tables) (n : ℕ) → length (rowsBelow n t) ≡ holding (t .seats) n
+pub rows-counted : (t : Tables) (n : ℕ) → length (rowsBelow n t) ≡ holding (t .sheet) (t .seats) n
 unfolding rowsBelow holding count
 rows-counted t zero = refl
 rows-counted t (suc n) = go (phase t n is 5) (rows-counted t n)
   where
-    go : (b : Bool) → length (rowsBelow n t) ≡ holding (t .seats) n
-        → length (if b then rowsBelow n t ++ (rowOf t n ∷ []) else rowsBelow n t) ≡ holding (t .seats) n + (if b then 1 else 0)
+    go : (b : Bool) → length (rowsBelow n t) ≡ holding (t .sheet) (t .seats) n
+        → length (if b then rowsBelow n t ++ (rowOf t n ∷ []) else rowsBelow n t) ≡ holding (t .sheet) (t .seats) n + (if b then 1 else 0)
     go true h = length-append (rowsBelow n t) (rowOf t n ∷ []) ∙ rw h
     go false h = h ∙ omega arith
 
 -- ---- `count`, seat by seat
-pub holding-none : (t : List ℕ) → 0 ≡ holding t 0
+pub holding-none : (sheet : Bool) (t : List ℕ) → 0 ≡ holding sheet t 0
 unfolding holding count
-holding-none t = refl
+holding-none sheet t = refl
 
-pub holding-more : (t : List ℕ) (s p n : ℕ) → n ≡ holding t s → p ≡ seatWord t s phaseAt → p ≡ 5 → n + 1 ≡ holding t (s + 1)
+pub holding-more : (sheet : Bool) (t : List ℕ) (s p n : ℕ) → n ≡ holding sheet t s → p ≡ seatWord sheet t s phaseAt → p ≡ 5 → n + 1 ≡ holding sheet t (s + 1)
 unfolding holding count
-holding-more t s p n h q e = rw (add-one s, sym q ∙ e) (ap (λ (m : ℕ). m + 1) h)
+holding-more sheet t s p n h q e = rw (add-one s, sym q ∙ e) (ap (λ (m : ℕ). m + 1) h)
 
-pub holding-same : (t : List ℕ) (s p n : ℕ) → n ≡ holding t s → p ≡ seatWord t s phaseAt → p ≢ 5 → n ≡ holding t (s + 1)
+pub holding-same : (sheet : Bool) (t : List ℕ) (s p n : ℕ) → n ≡ holding sheet t s → p ≡ seatWord sheet t s phaseAt → p ≢ 5 → n ≡ holding sheet t (s + 1)
 unfolding holding count
-holding-same t s p n h q d = rw (add-one s, ne-eqb (seatWord t s phaseAt) 5 (λ e. d (q ∙ e))) (h ∙ omega arith)
+holding-same sheet t s p n h q d = rw (add-one s, ne-eqb (seatWord sheet t s phaseAt) 5 (λ e. d (q ∙ e))) (h ∙ omega arith)
 
-pub holding-done : (t : List ℕ) (s k n : ℕ) → n ≡ holding t s → k ≤ s → s ≤ k → n ≡ holding t k
-holding-done t s k n h a b = let e : s ≡ k = omega arith in rw (← e) h
+pub holding-done : (sheet : Bool) (t : List ℕ) (s k n : ℕ) → n ≡ holding sheet t s → k ≤ s → s ≤ k → n ≡ holding sheet t k
+holding-done sheet t s k n h a b = let e : s ≡ k = omega arith in rw (← e) h

@@ -1,5 +1,6 @@
 -- The holders among the first seats. The board's own definitions, rows and covered frames, are those of the rules.
 use Prim.Native.Nat.{ℕ, _+_}
+use mathlib.Core.Bool.{Bool}
 use mathlib.Core.List.{List, [], _∷_}
 use Rattle.rules.specs.Notation.{if_then_else_, _is_, count}
 use Rattle.rules.specs.Tables.{Tables, seatWord, phaseAt, phase}
@@ -8,8 +9,8 @@ use Rattle.rules.specs.declared.Row.{Row}
 use Rattle.covering.specs.Runs.{Ordered, CoversOneMore}
 
 -- how many of the first n seats hold
-unfoldable pub holding : List ℕ → ℕ → ℕ
-holding seats n = count n (λ s. seatWord seats s phaseAt is 5)
+unfoldable pub holding : Bool → List ℕ → ℕ → ℕ
+holding sheet seats n = count n (λ s. seatWord sheet seats s phaseAt is 5)
 
 -- a seat's part of the board
 unfoldable pub heldBy : Tables → ℕ → List Row

@@ -1,5 +1,6 @@
 -- How the rows are filled: what is answered where so many rows are lent, and the rows written from the last holder's to the first.
 use Prim.Native.Nat.{ℕ, zero, suc}
+use mathlib.Core.Bool.{Bool}
 use mathlib.Core.List.{List}
 use lib.ListN.{length, set, replicate}
 use Rattle.rules.specs.Notation.{if_then_else_, _is_, _<?_}
@@ -21,17 +22,17 @@ rowsIn (Boarded.filled rows covered) = rows
 rowsIn (Boarded.refused number) = 0
 
 -- the last of the first s seats that holds
-unfoldable pub lastBelow : List ℕ → ℕ → ℕ
-lastBelow seats zero = 0
-lastBelow seats (suc s) = if seatWord seats s phaseAt is 5 then s else lastBelow seats s
+unfoldable pub lastBelow : Bool → List ℕ → ℕ → ℕ
+lastBelow sheet seats zero = 0
+lastBelow sheet seats (suc s) = if seatWord sheet seats s phaseAt is 5 then s else lastBelow sheet seats s
 
 unfoldable pub lastRow : Tables → ℕ → Row
-lastRow t s = rowOf t (lastBelow (t .seats) s)
+lastRow t s = rowOf t (lastBelow (t .sheet) (t .seats) s)
 
 -- so many rows written, the last first, each of the last holder below the one before
 unfoldable pub fillDown : ℕ → Tables → ℕ → List Row → List Row
 fillDown zero t s out = out
-fillDown (suc left) t s out = fillDown left t (lastBelow (t .seats) s) (set out left (lastRow t s))
+fillDown (suc left) t s out = fillDown left t (lastBelow (t .sheet) (t .seats) s) (set out left (lastRow t s))
 
 -- a row for each seat, with nothing shown
 abbrev pub noRows : List Row

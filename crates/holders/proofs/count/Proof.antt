@@ -9,13 +9,13 @@ use Rattle.holders.proofs.count.Statement.{statement}
 use Rattle.holders.proofs.count.Tie as tie
 
 abbrev Inv-loop : tie.InvT-loop
-Inv-loop seats below found₀ s₀ found s = (s ≤ below) × (found ≤ s) × (found ≡ holding seats s)
+Inv-loop sheet seats below found₀ s₀ found s = (s ≤ below) × (found ≤ s) × (found ≡ holding sheet seats s)
 
 abbrev μ-loop : tie.MeasureT-loop
-μ-loop seats below found₀ s₀ found s = below - s
+μ-loop sheet seats below found₀ s₀ found s = below - s
 
 loop-holds : tie.Need-loop-holds Inv-loop μ-loop
-loop-holds c = (omega arith, omega arith, holding-none _)
+loop-holds c = (omega arith, omega arith, holding-none _ _)
 
 seat-word-within-requires : tie.Need-seat-word-within-requires Inv-loop μ-loop
 seat-word-within-requires c κs = search needs

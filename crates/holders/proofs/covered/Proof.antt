@@ -10,10 +10,10 @@ use Rattle.holders.proofs.covered.Statement.{statement}
 use Rattle.holders.proofs.covered.Tie as tie
 
 abbrev Inv-loop : tie.InvT-loop
-Inv-loop nodes seats count places₀ low₀ held₀ seat₀ places low held seat = Gathered (tables nodes seats) count places low held seat
+Inv-loop sheet nodes seats count places₀ low₀ held₀ seat₀ places low held seat = Gathered (tables sheet nodes seats) count places low held seat
 
 abbrev μ-loop : tie.MeasureT-loop
-μ-loop nodes seats count places₀ low₀ held₀ seat₀ places low held seat = count - seat
+μ-loop sheet nodes seats count places₀ low₀ held₀ seat₀ places low held seat = count - seat
 
 seat-count-requires : tie.Need-seat-count-requires Inv-loop μ-loop
 seat-count-requires c κs = search needs
