@@ -5,5 +5,5 @@ use Rattle.rules.proofs.Laws.OneAnswer as law
 use Rattle.board.proofs.board.Reads as board
 use Rattle.board.proofs.board.Kinds as kinds
 
-pub one-board : law.Settles kinds.ps kinds.r board.Post (λ κs s. now (s .1 .1 .0))
+pub one-board : law.Settles kinds.ps kinds.r board.Post (λ κs s. now (s .1 .1 .1 .0))
 one-board κs args a b s t = law.one-board _ a b _ _

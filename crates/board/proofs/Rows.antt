@@ -109,52 +109,52 @@ fill-again t lent out out′ s n rows rows′ e sofar r h = e ∙ ap (fillSeat t
     by false q = rw (q, rows-same t s (phase t s) refl (eqb-false (phase t s) 5 q))
 
 -- ---- room for every row
-pub room-for-each : (t : List ℕ) (n room : ℕ) → n ≤ room → true ≡ (holding t n ≤? room)
-room-for-each t n room h =
-    let a = rows-at-most (tables [] t) n in
-    let b = rows-counted (tables [] t) n in
-    sym (le-leb (holding t n) room (omega arith))
+pub room-for-each : (sheet : Bool) (t : List ℕ) (n room : ℕ) → n ≤ room → true ≡ (holding sheet t n ≤? room)
+room-for-each sheet t n room h =
+    let a = rows-at-most (tables sheet [] t) n in
+    let b = rows-counted (tables sheet [] t) n in
+    sym (le-leb (holding sheet t n) room (omega arith))
 
-pub room-counted : (t : List ℕ) (n room k : ℕ) → k ≡ holding t n → leb k room ≡ (holding t n ≤? room)
-room-counted t n room k e = rw e
+pub room-counted : (sheet : Bool) (t : List ℕ) (n room k : ℕ) → k ≡ holding sheet t n → leb k room ≡ (holding sheet t n ≤? room)
+room-counted sheet t n room k e = rw e
 
 -- ---- the call
-module _ (n t l : List ℕ) (c : ℕ) (b : Bool) (isRoom : b ≡ (holding t c ≤? (length l / rowWidth))) where
-  pub long-enough : b ≡ true → rowWidth * length (rowsBelow c (tables n t)) ≤ length l
-  long-enough e = let k = rows-counted (tables n t) c in let h = leb-true (holding t c) (length l / rowWidth) (sym isRoom ∙ e) in omega arith
+module _ (sheet : Bool) (n t l : List ℕ) (c : ℕ) (b : Bool) (isRoom : b ≡ (holding sheet t c ≤? (length l / rowWidth))) where
+  pub long-enough : b ≡ true → rowWidth * length (rowsBelow c (tables sheet n t)) ≤ length l
+  long-enough e = let k = rows-counted (tables sheet n t) c in let h = leb-true (holding sheet t c) (length l / rowWidth) (sym isRoom ∙ e) in omega arith
 
-  module _ (isCount : c ≡ seatCountOf t) where
-    holders-counted : length (holders (tables n t)) ≡ holding t c
+  module _ (isCount : c ≡ seatCountOf sheet t) where
+    holders-counted : length (holders (tables sheet n t)) ≡ holding sheet t c
     unfolding holders
-    holders-counted = rows-counted (tables n t) (seatCountOf t) ∙ rw isCount
+    holders-counted = rows-counted (tables sheet n t) (seatCountOf sheet t) ∙ rw isCount
 
-    pub too-short : b ≡ false → shown (Boarded.refused 9) l ≡ showHolders (tables n t) l
+    pub too-short : b ≡ false → shown (Boarded.refused 9) l ≡ showHolders (tables sheet n t) l
     unfolding showHolders
-    too-short e = rw (holders-counted, lt-ltb (length l / rowWidth) (holding t c) (leb-false (holding t c) (length l / rowWidth) (sym isRoom ∙ e)))
+    too-short e = rw (holders-counted, lt-ltb (length l / rowWidth) (holding sheet t c) (leb-false (holding sheet t c) (length l / rowWidth) (sym isRoom ∙ e)))
 
-    pub holders-shown : (l′ : List ℕ) (a v : ℕ) → filled a l′ ≡ fillBelow c (tables n t) l → v ≡ coveredBy (holders (tables n t)) → b ≡ true → shown (Boarded.filled a v) l′ ≡ showHolders (tables n t) l
+    pub holders-shown : (l′ : List ℕ) (a v : ℕ) → filled a l′ ≡ fillBelow c (tables sheet n t) l → v ≡ coveredBy (holders (tables sheet n t)) → b ≡ true → shown (Boarded.filled a v) l′ ≡ showHolders (tables sheet n t) l
     unfolding showHolders fillBelow holders
     holders-shown l′ a v f isSum e =
-        let all : fillBelow c (tables n t) l ≡ fillBelow (seatCountOf t) (tables n t) l = rw isCount in
+        let all : fillBelow c (tables sheet n t) l ≡ fillBelow (seatCountOf sheet t) (tables sheet n t) l = rw isCount in
         let g = f ∙ all in
         rw (
-          le-ltb (length l / rowWidth) (length (rowsBelow (seatCountOf t) (tables n t))) (rw holders-counted (leb-true (holding t c) (length l / rowWidth) (sym isRoom ∙ e))),
+          le-ltb (length l / rowWidth) (length (rowsBelow (seatCountOf sheet t) (tables sheet n t))) (rw holders-counted (leb-true (holding sheet t c) (length l / rowWidth) (sym isRoom ∙ e))),
           ap (λ (x : Filled). x .rows) g,
           isSum,
           ap (λ (x : Filled). x .board) g,
         )
 
 -- the number of rows fits a u32
-pub rows-fit : (n t l l′ : List ℕ) (c a : ℕ) → filled a l′ ≡ fillBelow c (tables n t) l → c ≡ seatCountOf t → sound (tables n t) ≡ true → a < 4294967296
-rows-fit n t l l′ c a f e h =
-    let k = fill-small (tables n t) l l′ c c a f in
-    let m = seats-few n t c e h in
+pub rows-fit : (sheet : Bool) (n t l l′ : List ℕ) (c a : ℕ) → filled a l′ ≡ fillBelow c (tables sheet n t) l → c ≡ seatCountOf sheet t → sound (tables sheet n t) ≡ true → a < 4294967296
+rows-fit sheet n t l l′ c a f e h =
+    let k = fill-small (tables sheet n t) l l′ c c a f in
+    let m = seats-few sheet n t c e h in
     omega arith
 
-pub shown-sound : (n t l l′ : List ℕ) (b : Bool) (r : Boarded) → shown r l′ ≡ showHolders (tables n t) l → b ≡ sound (tables n t) → b ≡ true → shown r l′ ≡ boardNumbers (tables n t) l
+pub shown-sound : (sheet : Bool) (n t l l′ : List ℕ) (b : Bool) (r : Boarded) → shown r l′ ≡ showHolders (tables sheet n t) l → b ≡ sound (tables sheet n t) → b ≡ true → shown r l′ ≡ boardNumbers (tables sheet n t) l
 unfolding boardNumbers showHolders
-shown-sound n t l l′ b r w p e = rw (sym p ∙ e) w
+shown-sound sheet n t l l′ b r w p e = rw (sym p ∙ e) w
 
-pub shown-damaged : (n t l : List ℕ) (b : Bool) → b ≡ sound (tables n t) → b ≡ false → shown (Boarded.refused 1) l ≡ boardNumbers (tables n t) l
+pub shown-damaged : (sheet : Bool) (n t l : List ℕ) (b : Bool) → b ≡ sound (tables sheet n t) → b ≡ false → shown (Boarded.refused 1) l ≡ boardNumbers (tables sheet n t) l
 unfolding boardNumbers
-shown-damaged n t l b p e = rw (sym p ∙ e)
+shown-damaged sheet n t l b p e = rw (sym p ∙ e)

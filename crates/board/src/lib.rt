@@ -15,14 +15,14 @@ use rules::BoardReply;
 use rules::Row;
 
 // Whether every holder has room for its row. A caller that lends one for each seat pays for no count.
-fn has_room(seats: &[u32], count: u32, room: usize) -> bool
-    requires { ⌜ count ≤ seatCountOf (now seats) ⌝ }
-    ensures { λ r. ⌜ r ≡ (holding (now (seats .entry)) count ≤? room) ⌝ }
+fn has_room(sheet: bool, seats: &[u32], count: u32, room: usize) -> bool
+    requires { ⌜ count ≤ seatCountOf sheet (now seats) ⌝ }
+    ensures { λ r. ⌜ r ≡ (holding sheet (now (seats .entry)) count ≤? room) ⌝ }
 {
     if count as usize <= room {
         return true;
     }
-    let rows = holders::count(seats, count);
+    let rows = holders::count(sheet, seats, count);
     rows as usize <= room
 }
 
@@ -37,16 +37,23 @@ fn put_row(out: &mut [u32], at: usize, row: Row)
 }
 
 // the row of a seat, if it holds, behind so many rows; and how many there are then
-fn fill_seat(nodes: &[u32], seats: &[u32], out: &mut [u32], s: u32, rows: usize) -> usize
-    requires { ⌜ sound (tables (now nodes) (now seats)) ≡ true ⌝ }
-    requires { ⌜ s < seatCountOf (now seats) ⌝ }
+fn fill_seat(
+    sheet: bool,
+    nodes: &[u32],
+    seats: &[u32],
+    out: &mut [u32],
+    s: u32,
+    rows: usize,
+) -> usize
+    requires { ⌜ sound (tables sheet (now nodes) (now seats)) ≡ true ⌝ }
+    requires { ⌜ s < seatCountOf sheet (now seats) ⌝ }
     requires { ⌜ rows ≤ s ⌝ }
-    requires { ⌜ rows ≡ length (rowsBelow s (tables (now nodes) (now seats))) ⌝ }
-    requires { ⌜ rowWidth * length (rowsBelow (s + 1) (tables (now nodes) (now seats))) ≤ length (now out) ⌝ }
-    ensures { λ r. ⌜ filled r (now (out .exit)) ≡ fillSeat (tables (now (nodes .entry)) (now (seats .entry))) s (filled rows (now (out .entry))) ⌝ }
+    requires { ⌜ rows ≡ length (rowsBelow s (tables sheet (now nodes) (now seats))) ⌝ }
+    requires { ⌜ rowWidth * length (rowsBelow (s + 1) (tables sheet (now nodes) (now seats))) ≤ length (now out) ⌝ }
+    ensures { λ r. ⌜ filled r (now (out .exit)) ≡ fillSeat (tables sheet (now (nodes .entry)) (now (seats .entry))) s (filled rows (now (out .entry))) ⌝ }
 {
-    if words::seat_word_within(seats, s, words::PHASE) == 5 {
-        let row = holders::row_of(nodes, seats, s);
+    if words::seat_word_within(sheet, seats, s, words::PHASE) == 5 {
+        let row = holders::row_of(sheet, nodes, seats, s);
         put_row(out, 4 * rows, row);
         return rows + 1;
     }
@@ -54,40 +61,40 @@ fn fill_seat(nodes: &[u32], seats: &[u32], out: &mut [u32], s: u32, rows: usize)
 }
 
 // every holder's row, one behind the other, and how many there are
-fn fill(nodes: &[u32], seats: &[u32], out: &mut [u32], count: u32) -> usize
-    requires { ⌜ sound (tables (now nodes) (now seats)) ≡ true ⌝ }
-    requires { ⌜ count ≤ seatCountOf (now seats) ⌝ }
-    requires { ⌜ rowWidth * length (rowsBelow count (tables (now nodes) (now seats))) ≤ length (now out) ⌝ }
-    ensures { λ r. ⌜ filled r (now (out .exit)) ≡ fillBelow count (tables (now (nodes .entry)) (now (seats .entry))) (now (out .entry)) ⌝ }
+fn fill(sheet: bool, nodes: &[u32], seats: &[u32], out: &mut [u32], count: u32) -> usize
+    requires { ⌜ sound (tables sheet (now nodes) (now seats)) ≡ true ⌝ }
+    requires { ⌜ count ≤ seatCountOf sheet (now seats) ⌝ }
+    requires { ⌜ rowWidth * length (rowsBelow count (tables sheet (now nodes) (now seats))) ≤ length (now out) ⌝ }
+    ensures { λ r. ⌜ filled r (now (out .exit)) ≡ fillBelow count (tables sheet (now (nodes .entry)) (now (seats .entry))) (now (out .entry)) ⌝ }
 {
     let mut rows: usize = 0;
     let mut s: u32 = 0;
     while s < count {
-        rows = fill_seat(nodes, seats, out, s, rows);
+        rows = fill_seat(sheet, nodes, seats, out, s, rows);
         s += 1;
     }
     rows
 }
 
 // on sound tables: refusal 9, or the rows
-fn show_holders(nodes: &[u32], seats: &[u32], out: &mut [u32]) -> BoardReply
-    requires { ⌜ sound (tables (now nodes) (now seats)) ≡ true ⌝ }
-    ensures { λ r. ⌜ shown (meansBoard r) (now (out .exit)) ≡ showHolders (tables (now (nodes .entry)) (now (seats .entry))) (now (out .entry)) ⌝ }
+fn show_holders(sheet: bool, nodes: &[u32], seats: &[u32], out: &mut [u32]) -> BoardReply
+    requires { ⌜ sound (tables sheet (now nodes) (now seats)) ≡ true ⌝ }
+    ensures { λ r. ⌜ shown (meansBoard r) (now (out .exit)) ≡ showHolders (tables sheet (now (nodes .entry)) (now (seats .entry))) (now (out .entry)) ⌝ }
 {
-    let count = words::seat_count(seats) as u32;
-    if has_room(seats, count, out.len() / 4) {
-        let rows = fill(nodes, seats, out, count) as u32;
-        let covered = holders::covered(nodes, seats);
+    let count = words::seat_count(sheet, seats) as u32;
+    if has_room(sheet, seats, count, out.len() / 4) {
+        let rows = fill(sheet, nodes, seats, out, count) as u32;
+        let covered = holders::covered(sheet, nodes, seats);
         return BoardReply::Rows(rows, covered);
     }
     BoardReply::Refused(9)
 }
 
-pub fn board(nodes: &[u32], seats: &[u32], out: &mut [u32]) -> BoardReply
-    ensures { λ r. ⌜ shown (meansBoard r) (now (out .exit)) ≡ boardNumbers (tables (now (nodes .entry)) (now (seats .entry))) (now (out .entry)) ⌝ }
+pub fn board(sheet: bool, nodes: &[u32], seats: &[u32], out: &mut [u32]) -> BoardReply
+    ensures { λ r. ⌜ shown (meansBoard r) (now (out .exit)) ≡ boardNumbers (tables sheet (now (nodes .entry)) (now (seats .entry))) (now (out .entry)) ⌝ }
 {
-    if shape::is_sound(nodes, seats) {
-        return show_holders(nodes, seats, out);
+    if shape::is_sound(sheet, nodes, seats) {
+        return show_holders(sheet, nodes, seats, out);
     }
     BoardReply::Refused(1)
 }

@@ -11,10 +11,10 @@ use Rattle.board.proofs.fill.Statement.{statement}
 use Rattle.board.proofs.fill.Tie as tie
 
 abbrev Inv-loop : tie.InvT-loop
-Inv-loop nodes seats out₀ count rows₀ s₀ out rows s = (s ≤ count) × (length out ≡ length out₀) × (filled rows out ≡ fillBelow s (tables nodes seats) out₀)
+Inv-loop sheet nodes seats out₀ count rows₀ s₀ out rows s = (s ≤ count) × (length out ≡ length out₀) × (filled rows out ≡ fillBelow s (tables sheet nodes seats) out₀)
 
 abbrev μ-loop : tie.MeasureT-loop
-μ-loop nodes seats out₀ count rows₀ s₀ out rows s = count - s
+μ-loop sheet nodes seats out₀ count rows₀ s₀ out rows s = count - s
 
 loop-holds : tie.Need-loop-holds Inv-loop μ-loop
 loop-holds c = (omega arith, refl, fill-start _ _)
