@@ -1,6 +1,7 @@
 -- What is printed after the calls, part by part.
 use mathlib.Core.List.{List, [], _++_}
 use mathlib.Core.Path.{_≡_}
+use mathlib.Core.Bool.{false}
 use Prim.Native.Nat.{ℕ, _+_, _*_, _≤_}
 use native.Mathlib.Omega.{arith}
 use lib.ListN.{length}
@@ -11,7 +12,7 @@ use Rattle.text.specs.Page.{Page, puts}
 use Rattle.text.proofs.Pages.{joined}
 use Rattle.playing.proofs.Listing.{list-of-nodes}
 
-pub end-is : (nodes seats : List ℕ) (p q r s : Page) (covered : ℕ) → s ≡ puts r (ascii "covered " ++ decimal covered ++ ascii "\n") → covered ≡ coveredBy (holders (tables nodes seats)) → r ≡ puts q (rowsText (holders (tables nodes seats))) → q ≡ puts p (listText (tables nodes [])) → s ≡ puts p (endText (tables nodes seats))
+pub end-is : (nodes seats : List ℕ) (p q r s : Page) (covered : ℕ) → s ≡ puts r (ascii "covered " ++ decimal covered ++ ascii "\n") → covered ≡ coveredBy (holders (tables false nodes seats)) → r ≡ puts q (rowsText (holders (tables false nodes seats))) → q ≡ puts p (listText (tables false nodes [])) → s ≡ puts p (endText (tables false nodes seats))
 unfolding endText coveredText
 end-is nodes seats p q r s covered d e f g =
     joined p r s _ _ (joined p q r _ _ (rw (list-of-nodes nodes [] seats) at g) f) (rw e at d)

@@ -3,6 +3,7 @@ use Prim.Native.Nat.{ℕ, zero, suc, _+_, _-_, _*_, _≤_}
 use native.Mathlib.Omega.{arith}
 use mathlib.Core.List.{List, [], _++_}
 use mathlib.Core.Path.{_≡_, refl}
+use mathlib.Core.Bool.{false}
 use borrow.Author.Tests.{eq-eqb, ne-eqb}
 use mir.Syntax.{w32}
 use mir.Val.{Fits}
@@ -40,15 +41,15 @@ pub listed-reach : (l l′ : List ℕ) (left a at next r : ℕ) → r ≤ next +
 listed-reach l l′ left a at next r h e i n = let k = next-reaches l l′ at next a e (let b = i .fits in omega arith) in omega arith
 
 -- seats do not matter to the list
-nodes-from-nodes : (nodes seats other : List ℕ) (left a : ℕ) → nodesFrom left (tables nodes seats) a ≡ nodesFrom left (tables nodes other) a
+nodes-from-nodes : (nodes seats other : List ℕ) (left a : ℕ) → nodesFrom left (tables false nodes seats) a ≡ nodesFrom left (tables false nodes other) a
 unfolding nodesFrom
 nodes-from-nodes nodes seats other zero a = refl
-nodes-from-nodes nodes seats other (suc left) a = rw (nodes-from-nodes nodes seats other left (linkWord nodes a))
+nodes-from-nodes nodes seats other (suc left) a = rw (nodes-from-nodes nodes seats other left (linkWord false nodes a))
 
-pub list-of-nodes : (nodes seats other : List ℕ) → listText (tables nodes seats) ≡ listText (tables nodes other)
+pub list-of-nodes : (nodes seats other : List ℕ) → listText (tables false nodes seats) ≡ listText (tables false nodes other)
 unfolding listText listOf
 list-of-nodes nodes seats other = rw (nodes-from-nodes nodes seats other)
 
-pub list-is : (nodes : List ℕ) (p q r s : Page) (n h : ℕ) → s ≡ puts r (ascii "\n") → r ≡ puts q (numbersText (nodesFrom n (tables nodes []) h)) → q ≡ puts p (ascii "list") → n ≡ nodeCountOf nodes → h ≡ linkWord nodes 0 → s ≡ puts p (listText (tables nodes []))
+pub list-is : (nodes : List ℕ) (p q r s : Page) (n h : ℕ) → s ≡ puts r (ascii "\n") → r ≡ puts q (numbersText (nodesFrom n (tables false nodes []) h)) → q ≡ puts p (ascii "list") → n ≡ nodeCountOf false nodes → h ≡ linkWord false nodes 0 → s ≡ puts p (listText (tables false nodes []))
 unfolding listText listOf
 list-is nodes p q r s n h d e f i j = joined p r s _ _ (joined p q r _ _ f (rw (i, j) at e)) d

@@ -4,6 +4,7 @@ use native.Mathlib.Omega.{arith}
 use native.Mathlib.Numerals.{add-one}
 use mathlib.Core.List.{List, [], _∷_, map}
 use mathlib.Core.Path.{_≡_, refl, sym, _∙_}
+use mathlib.Core.Bool.{false}
 use lib.ListN.{length, getD, take, drop, length-map, drop-of-length-le}
 use lib.Seq.{drop-cons, getD-take, length-take-le}
 use borrow.Author.Tests.{eq-eqb, ne-eqb}
@@ -79,18 +80,18 @@ play-step number c calls t after answer p e = rw (puts-append, ← e)
 
 module _ (q : Played) (script : Script) (i : ℕ) (n s out : List ℕ) (next : ℕ) where
   pub play-again : (n′ s′ out′ : List ℕ) (next′ : ℕ) (said : Said) (line : Line) →
-      playFrom (i + 1) (drop i (callsOf script)) (tables n s) (page out next) ≡ q →
+      playFrom (i + 1) (drop i (callsOf script)) (tables false n s) (page out next) ≡ q →
       page out′ next′ ≡ puts (page out next) (answerLine (i + 1) (answerBy said)) →
-      done (answerBy said) (tables n′ s′) ≡ call (tables n s) (callOf line) →
+      done (answerBy said) (tables false n′ s′) ≡ call (tables false n s) (callOf line) →
       line ≡ getD (script .rows) i noLine →
       i < script .k →
       Bounded script →
-      playFrom (i + 1 + 1) (drop (i + 1) (callsOf script)) (tables n′ s′) (page out′ next′) ≡ q
+      playFrom (i + 1 + 1) (drop (i + 1) (callsOf script)) (tables false n′ s′) (page out′ next′) ≡ q
   play-again n′ s′ out′ next′ said line p e c d h k =
       let more = rw (calls-more script i h k) at p in
-      let step = play-step (i + 1) (callOf (getD (script .rows) i noLine)) (drop (i + 1) (callsOf script)) (tables n s) (tables n′ s′) (answerBy said) (page out next) (rw d at c) in
+      let step = play-step (i + 1) (callOf (getD (script .rows) i noLine)) (drop (i + 1) (callsOf script)) (tables false n s) (tables false n′ s′) (answerBy said) (page out next) (rw d at c) in
       rw e (sym step ∙ more)
 
-  pub play-done : playFrom (i + 1) (drop i (callsOf script)) (tables n s) (page out next) ≡ q → script .k ≤ i → Bounded script → played (tables n s) (page out next) ≡ q
+  pub play-done : playFrom (i + 1) (drop i (callsOf script)) (tables false n s) (page out next) ≡ q → script .k ≤ i → Bounded script → played (tables false n s) (page out next) ≡ q
   unfolding playFrom afterAll trace turnsText puts
   play-done p h k = rw (calls-end script i h k) at p

@@ -1,7 +1,7 @@
 -- From the bytes of a script to everything that is printed: fresh tables, the calls, the end; or `bad L`.
 use Prim.Native.Nat.{ℕ, zero, suc, _+_, _*_, _≤_, _<_}
 use native.Mathlib.Omega.{arith}
-use mathlib.Core.Bool.{true}
+use mathlib.Core.Bool.{true, false}
 use mathlib.Core.List.{List, _∷_, _++_}
 use mathlib.Core.Path.{_≡_, refl, sym, ap, _∙_}
 use lib.ListN.{length, take, drop, replicate, length-replicate}
@@ -38,19 +38,19 @@ take-titled m n frames l e i h = rw e (take-set-lt n (zeros m) titleAt frames i 
 
 -- the tables that are lent are fresh ones of N nodes and S seats, for the script's title
 module _ (script : Script) (w v : ℕ) (nodes seats : List ℕ) (bounded : Bounded script)
-    (noNodes : nodes ≡ putTop (zeros (beforeNodes + nodeWidth * 256)) titleAt (script .title))
-    (isNodes : w ≡ beforeNodes + nodeWidth * script .n) (noSeats : seats ≡ zeros (seatWidth * 64)) (isSeats : v ≡ seatWidth * script .s) where
-  few-nodes : w ≤ beforeNodes + nodeWidth * 256
+    (noNodes : nodes ≡ putTop (zeros (beforeNodes false + nodeWidth * 256)) titleAt (script .title))
+    (isNodes : w ≡ beforeNodes false + nodeWidth * script .n) (noSeats : seats ≡ zeros (seatWidth false * 64)) (isSeats : v ≡ seatWidth false * script .s) where
+  few-nodes : w ≤ beforeNodes false + nodeWidth * 256
   few-nodes = let n = bounded .nodes in omega arith
 
-  few-seats : v ≤ seatWidth * 64
+  few-seats : v ≤ seatWidth false * 64
   few-seats = let s = bounded .seats in omega arith
 
   these-nodes : take w nodes ≡ putTop (zeros w) titleAt (script .title)
-  these-nodes = take-titled (beforeNodes + nodeWidth * 256) w (script .title) nodes noNodes (omega arith) few-nodes
+  these-nodes = take-titled (beforeNodes false + nodeWidth * 256) w (script .title) nodes noNodes (omega arith) few-nodes
 
   these-seats : take v seats ≡ zeros v
-  these-seats = take-zeros (seatWidth * 64) v seats noSeats few-seats
+  these-seats = take-zeros (seatWidth false * 64) v seats noSeats few-seats
 
   pub nodes-lent : w ≡ length (take w nodes)
   nodes-lent = rw these-nodes (sym (put-top-length (zeros w) titleAt (script .title) ∙ length-replicate w 0))
@@ -58,35 +58,35 @@ module _ (script : Script) (w v : ℕ) (nodes seats : List ℕ) (bounded : Bound
   pub seats-lent : v ≡ length (take v seats)
   seats-lent = rw these-seats (sym (length-replicate v 0))
 
-  lent-fresh : tables (take w nodes) (take v seats) ≡ startOf script
+  lent-fresh : tables false (take w nodes) (take v seats) ≡ startOf script
   unfolding startOf fresh
   lent-fresh = rw (these-nodes, these-seats, isNodes, isSeats)
 
-  pub lent-reached : script .refusal ≡ 0 → Reached (script .n) (script .s) (tables (take w nodes) (take v seats))
+  pub lent-reached : script .refusal ≡ 0 → Reached (script .n) (script .s) (tables false (take w nodes) (take v seats))
   unfolding startOf
-  lent-reached e = rw lent-fresh (cleared (bounded .some-nodes e) (bounded .nodes) (bounded .some-seats e) (bounded .seats) (bounded .some-frames e))
+  lent-reached e = rw lent-fresh (cleared (bounded .some-nodes e) (bounded .nodes) (bounded .some-seats e) (bounded .seats) false (bounded .some-frames e))
 
-  pub script-played : (p q : Page) → q ≡ puts p (playedText (tables (take w nodes) (take v seats)) (callsOf script)) → q ≡ puts p (scriptText script)
+  pub script-played : (p q : Page) → q ≡ puts p (playedText (tables false (take w nodes) (take v seats)) (callsOf script)) → q ≡ puts p (scriptText script)
   unfolding playedText scriptText
   script-played p q e = rw lent-fresh at e
 
 -- ---- the calls, then the end
-module _ (t : Tables) (script : Script) (n s : List ℕ) (p q : Page) (isPlayed : played (tables n s) q ≡ playFrom 1 (callsOf script) t p) where
-  pub tables-played : (r : Page) → r ≡ puts q (endText (tables n s)) → r ≡ puts p (playedText t (callsOf script))
+module _ (t : Tables) (script : Script) (n s : List ℕ) (p q : Page) (isPlayed : played (tables false n s) q ≡ playFrom 1 (callsOf script) t p) where
+  pub tables-played : (r : Page) → r ≡ puts q (endText (tables false n s)) → r ≡ puts p (playedText t (callsOf script))
   unfolding playFrom playedText
   tables-played r e =
-      let a : tables n s ≡ afterAll t (callsOf script) = ap (λ (x : Played). x .after) isPlayed in
+      let a : tables false n s ≡ afterAll t (callsOf script) = ap (λ (x : Played). x .after) isPlayed in
       let b : q ≡ puts p (turnsText 1 (trace t (callsOf script))) = ap (λ (x : Played). x .printed) isPlayed in
       joined p q r _ _ b (rw (← a) e)
 
-  pub played-sound : Reached (script .n) (script .s) t → sound (tables n s) ≡ true
+  pub played-sound : Reached (script .n) (script .s) t → sound (tables false n s) ≡ true
   unfolding playFrom
   played-sound r = rw (ap (λ (x : Played). x .after) isPlayed) (always-sound (calls-reached r (callsOf script)))
 
   -- what is printed of 1,000 calls on the longest tables
-  pub played-short : (at end : ℕ) → end ≤ at + 11 * nodeCountOf n + 49 * seatCountOf s + 34 → at ≤ 0 + 43 * script .k → Reached (script .n) (script .s) t → Bounded script → end ≤ 48986
+  pub played-short : (at end : ℕ) → end ≤ at + 11 * nodeCountOf false n + 49 * seatCountOf false s + 34 → at ≤ 0 + 43 * script .k → Reached (script .n) (script .s) t → Bounded script → end ≤ 48986
   played-short at end e a r b =
-      let w = is-sound (tables n s) (played-sound r) in
+      let w = is-sound (tables false n s) (played-sound r) in
       let k = b .calls in
       let x = w .few-nodes in
       let y = w .few-seats in

@@ -1,6 +1,6 @@
 // A script played, from its bytes to every byte that is printed, in a lent buffer.
 ghost use mathlib.Core.Path.{_≡_};
-ghost use mathlib.Core.Bool.{true};
+ghost use mathlib.Core.Bool.{true, false};
 ghost use mathlib.Core.List.{[]};
 ghost use Prim.Native.Nat.{_+_, _*_, _<_, _≤_};
 ghost use lib.ListN.{length, take, drop};
@@ -25,24 +25,24 @@ use rules::Script;
 
 // The call of one line.
 fn make_call(nodes: &mut [u32], seats: &mut [u32], line: Line) -> Reply
-    ensures { λ r. ⌜ done (means r) (tables (now (nodes .exit)) (now (seats .exit))) ≡ call (tables (now (nodes .entry)) (now (seats .entry))) (callOf line) ⌝ }
+    ensures { λ r. ⌜ done (means r) (tables false (now (nodes .exit)) (now (seats .exit))) ≡ call (tables false (now (nodes .entry)) (now (seats .entry))) (callOf line) ⌝ }
 {
     let code = line.code;
     if code == 1 {
-        return claims::reserve(nodes, seats, line.seat, line.start, line.end, line.kind);
+        return claims::reserve(false, nodes, seats, line.seat, line.start, line.end, line.kind);
     }
     if code == 2 {
-        return claims::step(nodes, seats, line.seat);
+        return claims::step(false, nodes, seats, line.seat);
     }
     if code == 3 {
-        return claims::release(nodes, seats, line.seat);
+        return claims::release(false, nodes, seats, line.seat);
     }
-    claims::enter(nodes, seats, line.seat)
+    claims::enter(false, nodes, seats, line.seat)
 }
 
 // What it answered, as it is printed.
 fn say_call(nodes: &mut [u32], seats: &mut [u32], line: Line) -> Said
-    ensures { λ r. ⌜ done (answerBy r) (tables (now (nodes .exit)) (now (seats .exit))) ≡ call (tables (now (nodes .entry)) (now (seats .entry))) (callOf line) ⌝ }
+    ensures { λ r. ⌜ done (answerBy r) (tables false (now (nodes .exit)) (now (seats .exit))) ≡ call (tables false (now (nodes .entry)) (now (seats .entry))) (callOf line) ⌝ }
 {
     let reply = make_call(nodes, seats, line);
     replies::say(reply)
@@ -57,8 +57,8 @@ fn play_calls(
     script: Script,
 ) -> usize
     requires { ⌜ Bounded script ⌝ }
-    ensures { λ r. ⌜ played (tables (now (nodes .exit)) (now (seats .exit))) (page (now (out .exit)) r)
-        ≡ playFrom 1 (callsOf script) (tables (now (nodes .entry)) (now (seats .entry))) (page (now (out .entry)) at) ⌝ }
+    ensures { λ r. ⌜ played (tables false (now (nodes .exit)) (now (seats .exit))) (page (now (out .exit)) r)
+        ≡ playFrom 1 (callsOf script) (tables false (now (nodes .entry)) (now (seats .entry))) (page (now (out .entry)) at) ⌝ }
     ensures { λ r. ⌜ r ≤ at + 43 * script .k ⌝ }
 {
     let k = script.k;
@@ -75,7 +75,7 @@ fn play_calls(
 
 // ` n` for each node from a on, at most `left` of them.
 fn put_listed(nodes: &[u32], out: &mut [u8], at: usize, left: usize, a: u32) -> usize
-    ensures { λ r. ⌜ page (now (out .exit)) r ≡ puts (page (now (out .entry)) at) (numbersText (nodesFrom left (tables (now (nodes .entry)) []) a)) ⌝ }
+    ensures { λ r. ⌜ page (now (out .exit)) r ≡ puts (page (now (out .entry)) at) (numbersText (nodesFrom left (tables false (now (nodes .entry)) []) a)) ⌝ }
     ensures { λ r. ⌜ r ≤ at + 11 * left ⌝ }
 {
     if left == 0 {
@@ -85,16 +85,16 @@ fn put_listed(nodes: &[u32], out: &mut [u8], at: usize, left: usize, a: u32) -> 
         return at;
     }
     let next = text::put_next(out, at, a);
-    let b = words::link(nodes, a);
+    let b = words::link(false, nodes, a);
     put_listed(nodes, out, next, left - 1, b)
 }
 
 fn put_list(nodes: &[u32], out: &mut [u8], at: usize) -> usize
-    ensures { λ r. ⌜ page (now (out .exit)) r ≡ puts (page (now (out .entry)) at) (listText (tables (now (nodes .entry)) [])) ⌝ }
-    ensures { λ r. ⌜ r ≤ at + 11 * nodeCountOf (now (nodes .entry)) + 5 ⌝ }
+    ensures { λ r. ⌜ page (now (out .exit)) r ≡ puts (page (now (out .entry)) at) (listText (tables false (now (nodes .entry)) [])) ⌝ }
+    ensures { λ r. ⌜ r ≤ at + 11 * nodeCountOf false (now (nodes .entry)) + 5 ⌝ }
 {
-    let n = words::node_count(nodes);
-    let head = words::link(nodes, 0);
+    let n = words::node_count(false, nodes);
+    let head = words::link(false, nodes, 0);
     let name = text::put_text(out, at, b"list");
     let end = put_listed(nodes, out, name, n, head);
     text::put_byte(out, end, b'\n')
@@ -102,24 +102,24 @@ fn put_list(nodes: &[u32], out: &mut [u8], at: usize) -> usize
 
 // The seat's row, if it holds.
 fn put_held(nodes: &[u32], seats: &[u32], out: &mut [u8], at: usize, s: u32) -> usize
-    requires { ⌜ sound (tables (now nodes) (now seats)) ≡ true ⌝ }
-    requires { ⌜ s < seatCountOf (now seats) ⌝ }
-    ensures { λ r. ⌜ page (now (out .exit)) r ≡ puts (page (now (out .entry)) at) (rowsText (heldBy (tables (now (nodes .entry)) (now (seats .entry))) s)) ⌝ }
+    requires { ⌜ sound (tables false (now nodes) (now seats)) ≡ true ⌝ }
+    requires { ⌜ s < seatCountOf false (now seats) ⌝ }
+    ensures { λ r. ⌜ page (now (out .exit)) r ≡ puts (page (now (out .entry)) at) (rowsText (heldBy (tables false (now (nodes .entry)) (now (seats .entry))) s)) ⌝ }
     ensures { λ r. ⌜ r ≤ at + 49 ⌝ }
 {
-    if words::seat_word_within(seats, s, words::PHASE) == 5 {
-        let row = holders::row_of(nodes, seats, s);
+    if words::seat_word_within(false, seats, s, words::PHASE) == 5 {
+        let row = holders::row_of(false, nodes, seats, s);
         return text::put_row(out, at, row.seat, row.first, row.end, row.kind);
     }
     at
 }
 
 fn put_rows(nodes: &[u32], seats: &[u32], out: &mut [u8], at: usize) -> usize
-    requires { ⌜ sound (tables (now nodes) (now seats)) ≡ true ⌝ }
-    ensures { λ r. ⌜ page (now (out .exit)) r ≡ puts (page (now (out .entry)) at) (rowsText (rule.holders (tables (now (nodes .entry)) (now (seats .entry))))) ⌝ }
-    ensures { λ r. ⌜ r ≤ at + 49 * seatCountOf (now (seats .entry)) ⌝ }
+    requires { ⌜ sound (tables false (now nodes) (now seats)) ≡ true ⌝ }
+    ensures { λ r. ⌜ page (now (out .exit)) r ≡ puts (page (now (out .entry)) at) (rowsText (rule.holders (tables false (now (nodes .entry)) (now (seats .entry))))) ⌝ }
+    ensures { λ r. ⌜ r ≤ at + 49 * seatCountOf false (now (seats .entry)) ⌝ }
 {
-    let count = words::seat_count(seats) as u32;
+    let count = words::seat_count(false, seats) as u32;
     let mut next = at;
     let mut s: u32 = 0;
     while s < count {
@@ -131,21 +131,21 @@ fn put_rows(nodes: &[u32], seats: &[u32], out: &mut [u8], at: usize) -> usize
 
 // What is printed after the calls: the list, the rows and the covered frames.
 fn put_end(nodes: &[u32], seats: &[u32], out: &mut [u8], at: usize) -> usize
-    requires { ⌜ sound (tables (now nodes) (now seats)) ≡ true ⌝ }
-    ensures { λ r. ⌜ page (now (out .exit)) r ≡ puts (page (now (out .entry)) at) (endText (tables (now (nodes .entry)) (now (seats .entry)))) ⌝ }
-    ensures { λ r. ⌜ r ≤ at + 11 * nodeCountOf (now (nodes .entry)) + 49 * seatCountOf (now (seats .entry)) + 34 ⌝ }
+    requires { ⌜ sound (tables false (now nodes) (now seats)) ≡ true ⌝ }
+    ensures { λ r. ⌜ page (now (out .exit)) r ≡ puts (page (now (out .entry)) at) (endText (tables false (now (nodes .entry)) (now (seats .entry)))) ⌝ }
+    ensures { λ r. ⌜ r ≤ at + 11 * nodeCountOf false (now (nodes .entry)) + 49 * seatCountOf false (now (seats .entry)) + 34 ⌝ }
 {
     let list = put_list(nodes, out, at);
     let rows = put_rows(nodes, seats, out, list);
-    let covered = holders::covered(nodes, seats);
+    let covered = holders::covered(false, nodes, seats);
     text::put_line(out, rows, b"covered ", covered)
 }
 
 // The calls, and what follows them, on the tables given. They are reached, so that those after the calls are sound.
 fn play_tables(nodes: &mut [u32], seats: &mut [u32], out: &mut [u8], script: Script) -> usize
     requires { ⌜ Bounded script ⌝ }
-    requires { ⌜ Reached (script .n) (script .s) (tables (now nodes) (now seats)) ⌝ }
-    ensures { λ r. ⌜ page (now (out .exit)) r ≡ puts (page (now (out .entry)) 0) (playedText (tables (now (nodes .entry)) (now (seats .entry))) (callsOf script)) ⌝ }
+    requires { ⌜ Reached (script .n) (script .s) (tables false (now nodes) (now seats)) ⌝ }
+    ensures { λ r. ⌜ page (now (out .exit)) r ≡ puts (page (now (out .entry)) 0) (playedText (tables false (now (nodes .entry)) (now (seats .entry))) (callsOf script)) ⌝ }
     ensures { λ r. ⌜ r ≤ 48986 ⌝ }
 {
     let next = play_calls(nodes, seats, out, 0, script);
@@ -161,8 +161,8 @@ fn play_script(out: &mut [u8], script: Script) -> usize
 {
     let mut nodes = words::fresh_nodes(script.title);
     let mut seats = words::fresh_seats();
-    let n = words::node_words(script.n);
-    let s = words::seat_words(script.s);
+    let n = words::node_words(false, script.n);
+    let s = words::seat_words(false, script.s);
     play_tables(&mut nodes[..n], &mut seats[..s], out, script)
 }
 

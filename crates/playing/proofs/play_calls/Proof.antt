@@ -9,13 +9,14 @@ use Rattle.text.specs.Page.{page}
 use Rattle.rules.specs.Play.{callsOf}
 use Rattle.rules.specs.Tables.{tables}
 use mathlib.Core.Path.{_≡_, refl}
+use mathlib.Core.Bool.{false}
 use lib.ListN.{length, drop}
 use Prim.Native.Nat.{_+_, _*_, _-_, _≤_}
 use Rattle.playing.proofs.play_calls.Statement.{statement}
 use Rattle.playing.proofs.play_calls.Tie as tie
 
 abbrev Inv-loop : tie.InvT-loop
-Inv-loop nodes₀ seats₀ out₀ at script k next₀ i₀ nodes seats out next i = (length nodes ≡ length nodes₀) × (length seats ≡ length seats₀) × (length out ≡ length out₀) × (i ≤ script .k) × (next ≤ at + 43 * i) × (playFrom (i + 1) (drop i (callsOf script)) (tables nodes seats) (page out next) ≡ playFrom 1 (callsOf script) (tables nodes₀ seats₀) (page out₀ at))
+Inv-loop nodes₀ seats₀ out₀ at script k next₀ i₀ nodes seats out next i = (length nodes ≡ length nodes₀) × (length seats ≡ length seats₀) × (length out ≡ length out₀) × (i ≤ script .k) × (next ≤ at + 43 * i) × (playFrom (i + 1) (drop i (callsOf script)) (tables false nodes seats) (page out next) ≡ playFrom 1 (callsOf script) (tables false nodes₀ seats₀) (page out₀ at))
 
 abbrev μ-loop : tie.MeasureT-loop
 μ-loop nodes₀ seats₀ out₀ at script k next₀ i₀ nodes seats out next i = script .k - i

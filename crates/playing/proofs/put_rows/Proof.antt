@@ -9,13 +9,14 @@ use Rattle.rules.specs.Play.{rowsText}
 use Rattle.rules.specs.Board.{rowsBelow}
 use Rattle.rules.specs.Tables.{tables}
 use mathlib.Core.Path.{_≡_, refl}
+use mathlib.Core.Bool.{false}
 use lib.ListN.{length}
 use Prim.Native.Nat.{_+_, _*_, _-_, _≤_}
 use Rattle.playing.proofs.put_rows.Statement.{statement}
 use Rattle.playing.proofs.put_rows.Tie as tie
 
 abbrev Inv-loop : tie.InvT-loop
-Inv-loop nodes seats out₀ at count next₀ s₀ out next s = (count ≤ 64) × (length out ≡ length out₀) × (s ≤ count) × (next ≤ at + 49 * s) × (page out next ≡ puts (page out₀ at) (rowsText (rowsBelow s (tables nodes seats))))
+Inv-loop nodes seats out₀ at count next₀ s₀ out next s = (count ≤ 64) × (length out ≡ length out₀) × (s ≤ count) × (next ≤ at + 49 * s) × (page out next ≡ puts (page out₀ at) (rowsText (rowsBelow s (tables false nodes seats))))
 
 abbrev μ-loop : tie.MeasureT-loop
 μ-loop nodes seats out₀ at count next₀ s₀ out next s = count - s
