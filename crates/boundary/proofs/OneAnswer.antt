@@ -3,6 +3,7 @@
 use Prim.Native.Nat.{ℕ}
 use mathlib.Core.List.{List}
 use mathlib.Core.Path.{_≡_, ap}
+use mathlib.Core.Bool.{false}
 use native.Mathlib.Omega.{arith}
 use denote.Ref.{now}
 use Rattle.rules.specs.Tables.{Tables, tables}
@@ -65,10 +66,10 @@ one-read-number promised a b m n p q =
     (same-halves a b (ap (λ (x : ReadAs). x .number) e), ap (λ (x : ReadAs). x .numbers) e)
 
 -- ---- the calls
-pub one-clear : Settles clear-kinds.ps clear-kinds.r clear.Post (λ κs s. tables (now (s .0)) (now (s .1 .0)))
+pub one-clear : Settles clear-kinds.ps clear-kinds.r clear.Post (λ κs s. tables false (now (s .0)) (now (s .1 .0)))
 one-clear κs args a b s t = one-result _ a b _ _
 
-pub one-reserve : Settles reserve-kinds.ps reserve-kinds.r reserve.Post (λ κs s. tables (now (s .0)) (now (s .1 .0)))
+pub one-reserve : Settles reserve-kinds.ps reserve-kinds.r reserve.Post (λ κs s. tables false (now (s .0)) (now (s .1 .0)))
 one-reserve κs args a b s t = one-number _ a b _ _
 
 -- enter is lent the nodes to read only
@@ -76,17 +77,17 @@ pub one-enter : Settles enter-kinds.ps enter-kinds.r enter.Post (λ κs s. now (
 one-enter κs args a b s t p q = let w = one-number _ a b _ _ p q in (w .0, ap (λ (u : Tables). u .seats) (w .1))
 
 -- the tables, and the two words for the shared run
-pub one-step : Settles step-kinds.ps step-kinds.r {B = Tables × List ℕ} step.Post (λ κs s. (tables (now (s .0)) (now (s .1 .0)), now (s .1 .1 .1 .0)))
+pub one-step : Settles step-kinds.ps step-kinds.r {B = Tables × List ℕ} step.Post (λ κs s. (tables false (now (s .0)) (now (s .1 .0)), now (s .1 .1 .1 .0)))
 one-step κs args a b s t = one-step-number _ a b _ _ _ _
 
-pub one-release : Settles release-kinds.ps release-kinds.r release.Post (λ κs s. tables (now (s .0)) (now (s .1 .0)))
+pub one-release : Settles release-kinds.ps release-kinds.r release.Post (λ κs s. tables false (now (s .0)) (now (s .1 .0)))
 one-release κs args a b s t = one-number _ a b _ _
 
 -- free count changes nothing that it was lent
 pub one-free-count : SettlesAnswer free-count-kinds.ps free-count-kinds.r free-count.Post
 one-free-count κs args a b s t p q = same-halves a b (one-value p q)
 
-pub one-run : Settles run-kinds.ps run-kinds.r run.Post (λ κs s. tables (now (s .0)) (now (s .1 .0)))
+pub one-run : Settles run-kinds.ps run-kinds.r run.Post (λ κs s. tables false (now (s .0)) (now (s .1 .0)))
 one-run κs args a b s t = one-number _ a b _ _
 
 -- the rows, and the word for the covered frames

@@ -3,6 +3,7 @@
 use Prim.Native.Nat.{ℕ}
 use mathlib.Core.List.{List}
 use mathlib.Core.Path.{_≡_, refl, sym, ap, _∙_}
+use mathlib.Core.Bool.{false}
 use borrow.Fn.Kinds.{PK, RK, Out as Promise, Dens, resT, endedOf}
 use contract.Lifetimes.{Lfts}
 use denote.Ref.{now}
@@ -109,37 +110,37 @@ told-back d lent r covered rows p =
 
 -- ---- the calls
 pub reserve-told : Tells reserve-kinds.ps reserve-kinds.r reserve.Post
-    (λ κs args. call.reserve (tables (now (args .0)) (now (args .1 .0))) (args .1 .1 .0) (claim (args .1 .1 .1 .0) (args .1 .1 .1 .1 .0) (args .1 .1 .1 .1 .1 .0)))
-    (λ κs r s. done (decode (halvesOf r)) (tables (now (s .0)) (now (s .1 .0))))
+    (λ κs args. call.reserve (tables false (now (args .0)) (now (args .1 .0))) (args .1 .1 .0) (claim (args .1 .1 .1 .0) (args .1 .1 .1 .1 .0) (args .1 .1 .1 .1 .1 .0)))
+    (λ κs r s. done (decode (halvesOf r)) (tables false (now (s .0)) (now (s .1 .0))))
 reserve-told κs args r s = done-back _ (reserve-back _ _ _) r _
 
 -- enter is lent the nodes to read only
 pub enter-told : Tells enter-kinds.ps enter-kinds.r {B = Answer × List ℕ} enter.Post
-    (λ κs args. let d = call.enter (tables (now (args .0)) (now (args .1 .0))) (args .1 .1 .0) in (d .answer, d .after .seats))
+    (λ κs args. let d = call.enter (tables false (now (args .0)) (now (args .1 .0))) (args .1 .1 .0) in (d .answer, d .after .seats))
     (λ κs r s. (decode (halvesOf r), now (s .1 .0)))
 enter-told κs args r s p = ap (λ (d : Done Answer). (d .answer, d .after .seats)) (done-back _ (enter-back _ _) r _ p)
 
 pub step-told : Tells step-kinds.ps step-kinds.r step.Post
-    (λ κs args. call.step (tables (now (args .0)) (now (args .1 .0))) (args .1 .1 .0))
-    (λ κs r s. done (decodeStep (halvesOf r) (now (s .1 .1 .1 .0))) (tables (now (s .0)) (now (s .1 .0))))
+    (λ κs args. call.step (tables false (now (args .0)) (now (args .1 .0))) (args .1 .1 .0))
+    (λ κs r s. done (decodeStep (halvesOf r) (now (s .1 .1 .1 .0))) (tables false (now (s .0)) (now (s .1 .0))))
 step-told κs args r s = step-back _ _ _ r _
 
 pub release-told : Tells release-kinds.ps release-kinds.r release.Post
-    (λ κs args. call.release (tables (now (args .0)) (now (args .1 .0))) (args .1 .1 .0))
-    (λ κs r s. done (decode (halvesOf r)) (tables (now (s .0)) (now (s .1 .0))))
+    (λ κs args. call.release (tables false (now (args .0)) (now (args .1 .0))) (args .1 .1 .0))
+    (λ κs r s. done (decode (halvesOf r)) (tables false (now (s .0)) (now (s .1 .0))))
 release-told κs args r s = done-back _ (release-back _ _) r _
 
 pub free-count-told : Tells free-count-kinds.ps free-count-kinds.r free-count.Post
-    (λ κs args. freeCount (tables (now (args .0)) (now (args .1 .0))))
+    (λ κs args. freeCount (tables false (now (args .0)) (now (args .1 .0))))
     (λ κs r s. decodeCount (halvesOf r))
-free-count-told κs args r s p = ap decodeCount p ∙ count-back (freeCount (tables (now (args .0)) (now (args .1 .0))))
+free-count-told κs args r s p = ap decodeCount p ∙ count-back (freeCount (tables false (now (args .0)) (now (args .1 .0))))
 
 pub run-told : Tells run-kinds.ps run-kinds.r run.Post
-    (λ κs args. running.run (tables (now (args .0)) (now (args .1 .0))) (now (args .1 .1 .0)) (args .1 .1 .1 .0))
-    (λ κs r s. done (decodeRan (halvesOf r)) (tables (now (s .0)) (now (s .1 .0))))
+    (λ κs args. running.run (tables false (now (args .0)) (now (args .1 .0))) (now (args .1 .1 .0)) (args .1 .1 .1 .0))
+    (λ κs r s. done (decodeRan (halvesOf r)) (tables false (now (s .0)) (now (s .1 .0))))
 run-told κs args r s = run-back _ r _
 
 pub board-told : Tells board-kinds.ps board-kinds.r board.Post
-    (λ κs args. boardNumbers (tables (now (args .0)) (now (args .1 .0))) (now (args .1 .1 .0)))
+    (λ κs args. boardNumbers (tables false (now (args .0)) (now (args .1 .0))) (now (args .1 .1 .0)))
     (λ κs r s. shown (decodeBoard (halvesOf r) (now (s .1 .1 .1 .0))) (now (s .1 .1 .0)))
 board-told κs args r s = told-back _ _ r _ _

@@ -1,6 +1,7 @@
 // The public calls for C and Rust to link: over numbers and slices alone, each answer encoded as one number, a wait's shared run in two words beside it. A
-// slice crosses as its address and its length, an array as its address.
+// slice crosses as its address and its length, an array as its address. The tables of each call are ordinary ones.
 ghost use mathlib.Core.Path.{_≡_};
+ghost use mathlib.Core.Bool.{false};
 ghost use Prim.Native.Nat.{_+_, _≤_};
 ghost use lib.ListN.{length, take, drop};
 ghost use Rattle.rules.specs.Script.{readScript};
@@ -64,9 +65,9 @@ fn number_of_count(reply: CountReply) -> u64
 
 #[no_mangle]
 pub extern "C" fn soodhiqune_clear(nodes: &mut [u32], seats: &mut [u32], title: u32) -> u64
-    ensures { λ r. ⌜ done r (tables (now (nodes .exit)) (now (seats .exit))) ≡ call.clear (tables (now (nodes .entry)) (now (seats .entry))) title ⌝ }
+    ensures { λ r. ⌜ done r (tables false (now (nodes .exit)) (now (seats .exit))) ≡ call.clear (tables false (now (nodes .entry)) (now (seats .entry))) title ⌝ }
 {
-    let number = claims::clear(nodes, seats, title);
+    let number = claims::clear(false, nodes, seats, title);
     number as u64
 }
 
@@ -79,17 +80,17 @@ pub extern "C" fn soodhiqune_reserve(
     end: u32,
     kind: u32,
 ) -> u64
-    ensures { λ r. ⌜ done (halvesOf r) (tables (now (nodes .exit)) (now (seats .exit))) ≡ encoded (call.reserve (tables (now (nodes .entry)) (now (seats .entry))) seat (claim start end kind)) ⌝ }
+    ensures { λ r. ⌜ done (halvesOf r) (tables false (now (nodes .exit)) (now (seats .exit))) ≡ encoded (call.reserve (tables false (now (nodes .entry)) (now (seats .entry))) seat (claim start end kind)) ⌝ }
 {
-    let reply = claims::reserve(nodes, seats, seat, start, end, kind);
+    let reply = claims::reserve(false, nodes, seats, seat, start, end, kind);
     number_of(reply)
 }
 
 #[no_mangle]
 pub extern "C" fn soodhiqune_enter(nodes: &[u32], seats: &mut [u32], seat: u32) -> u64
-    ensures { λ r. ⌜ done (halvesOf r) (tables (now (nodes .entry)) (now (seats .exit))) ≡ encoded (call.enter (tables (now (nodes .entry)) (now (seats .entry))) seat) ⌝ }
+    ensures { λ r. ⌜ done (halvesOf r) (tables false (now (nodes .entry)) (now (seats .exit))) ≡ encoded (call.enter (tables false (now (nodes .entry)) (now (seats .entry))) seat) ⌝ }
 {
-    let reply = claims::enter(nodes, seats, seat);
+    let reply = claims::enter(false, nodes, seats, seat);
     number_of(reply)
 }
 
@@ -100,26 +101,26 @@ pub extern "C" fn soodhiqune_step(
     seat: u32,
     shared: &mut [u32; 2],
 ) -> u64
-    ensures { λ r. ⌜ stepTold (halvesOf r) (now (shared .exit)) (tables (now (nodes .exit)) (now (seats .exit))) ≡ tellStep (now (shared .entry)) (call.step (tables (now (nodes .entry)) (now (seats .entry))) seat) ⌝ }
+    ensures { λ r. ⌜ stepTold (halvesOf r) (now (shared .exit)) (tables false (now (nodes .exit)) (now (seats .exit))) ≡ tellStep (now (shared .entry)) (call.step (tables false (now (nodes .entry)) (now (seats .entry))) seat) ⌝ }
 {
-    let reply = claims::step(nodes, seats, seat);
+    let reply = claims::step(false, nodes, seats, seat);
     put_shared(shared, reply);
     number_of(reply)
 }
 
 #[no_mangle]
 pub extern "C" fn soodhiqune_release(nodes: &mut [u32], seats: &mut [u32], seat: u32) -> u64
-    ensures { λ r. ⌜ done (halvesOf r) (tables (now (nodes .exit)) (now (seats .exit))) ≡ encoded (call.release (tables (now (nodes .entry)) (now (seats .entry))) seat) ⌝ }
+    ensures { λ r. ⌜ done (halvesOf r) (tables false (now (nodes .exit)) (now (seats .exit))) ≡ encoded (call.release (tables false (now (nodes .entry)) (now (seats .entry))) seat) ⌝ }
 {
-    let reply = claims::release(nodes, seats, seat);
+    let reply = claims::release(false, nodes, seats, seat);
     number_of(reply)
 }
 
 #[no_mangle]
 pub extern "C" fn soodhiqune_free_count(nodes: &[u32], seats: &[u32]) -> u64
-    ensures { λ r. ⌜ halvesOf r ≡ encodeCount (freeCount (tables (now (nodes .entry)) (now (seats .entry)))) ⌝ }
+    ensures { λ r. ⌜ halvesOf r ≡ encodeCount (freeCount (tables false (now (nodes .entry)) (now (seats .entry)))) ⌝ }
 {
-    let reply = claims::free_count(nodes, seats);
+    let reply = claims::free_count(false, nodes, seats);
     number_of_count(reply)
 }
 
@@ -130,9 +131,9 @@ pub extern "C" fn soodhiqune_run(
     schedule: &[u32],
     budget: u32,
 ) -> u64
-    ensures { λ r. ⌜ done (halvesOf r) (tables (now (nodes .exit)) (now (seats .exit))) ≡ encodedRun (running.run (tables (now (nodes .entry)) (now (seats .entry))) (now (schedule .entry)) budget) ⌝ }
+    ensures { λ r. ⌜ done (halvesOf r) (tables false (now (nodes .exit)) (now (seats .exit))) ≡ encodedRun (running.run (tables false (now (nodes .entry)) (now (seats .entry))) (now (schedule .entry)) budget) ⌝ }
 {
-    let ran = run::run(nodes, seats, schedule, budget);
+    let ran = run::run(false, nodes, seats, schedule, budget);
     joined(ran.refusal, ran.steps)
 }
 
@@ -143,9 +144,9 @@ pub extern "C" fn soodhiqune_board(
     rows: &mut [u32],
     covered: &mut u64,
 ) -> u64
-    ensures { λ r. ⌜ told (halvesOf r) (now (covered .exit)) (now (rows .exit)) ≡ tell (now (covered .entry)) (boardNumbers (tables (now (nodes .entry)) (now (seats .entry))) (now (rows .entry))) ⌝ }
+    ensures { λ r. ⌜ told (halvesOf r) (now (covered .exit)) (now (rows .exit)) ≡ tell (now (covered .entry)) (boardNumbers (tables false (now (nodes .entry)) (now (seats .entry))) (now (rows .entry))) ⌝ }
 {
-    let reply = board::board(nodes, seats, rows);
+    let reply = board::board(false, nodes, seats, rows);
     match reply {
         BoardReply::Rows(count, frames) => {
             *covered = frames;

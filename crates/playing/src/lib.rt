@@ -29,7 +29,15 @@ fn make_call(nodes: &mut [u32], seats: &mut [u32], line: Line) -> Reply
 {
     let code = line.code;
     if code == 1 {
-        return claims::reserve(false, nodes, seats, line.seat, line.start, line.end, line.kind);
+        return claims::reserve(
+            false,
+            nodes,
+            seats,
+            line.seat,
+            line.start,
+            line.end,
+            line.kind,
+        );
     }
     if code == 2 {
         return claims::step(false, nodes, seats, line.seat);
