@@ -1,6 +1,6 @@
 -- What the library's calls did, under names: the tables that a call was lent, what it was told, what it answered, and the tables that it left.
 -- What ties them together is the call's own promise, as the checker reads it from the source: `args` is what the call was given, in the
--- order of its parameters, `r` its result, `end` what the lent tables hold when it returns.
+-- order of its parameters, the tables' profile first, `r` its result, `end` what the lent tables hold when it returns.
 use Prim.Native.Nat.{ℕ, suc}
 use mathlib.Core.List.{List, [], _∷_}
 use lib.IntN.{ℤ}
@@ -43,42 +43,42 @@ use Rattle.posix.proofs.export.Kinds as export-kinds
 pub data ClearMade : Tables → ℕ → ℕ → Tables → Type 0 where
   clear-made : (κs : Lfts 2) (args : Dens κs clear-kinds.ps) (r : resT clear-kinds.r κs .Denot) (end : AtExit (endedOf 2 clear-kinds.ps clear-kinds.r) κs)
       → clearing.Post κs args r end
-      → ClearMade (tables (now (args .0)) (now (args .1 .0))) (args .1 .1 .0) r (tables (now (end .0)) (now (end .1 .0)))
+      → ClearMade (tables (args .0) (now (args .1 .0)) (now (args .1 .1 .0))) (args .1 .1 .1 .0) r (tables (args .0) (now (end .1 .0)) (now (end .1 .1 .0)))
 
 -- reserve, enter, step or release: the tables before, the call with its numbers, the answer, the tables after. Enter is lent the nodes to read only
 pub data CallMade : Tables → Call → Answer → Tables → Type 0 where
   reserve-made : (κs : Lfts 2) (args : Dens κs reserve-kinds.ps) (r : resT reserve-kinds.r κs .Denot) (end : AtExit (endedOf 2 reserve-kinds.ps reserve-kinds.r) κs)
       → reserving.Post κs args r end
-      → CallMade (tables (now (args .0)) (now (args .1 .0)))
-      (reserveCall (args .1 .1 .0) (claim (args .1 .1 .1 .0) (args .1 .1 .1 .1 .0) (args .1 .1 .1 .1 .1 .0)))
-      (means r) (tables (now (end .0)) (now (end .1 .0)))
+      → CallMade (tables (args .0) (now (args .1 .0)) (now (args .1 .1 .0)))
+      (reserveCall (args .1 .1 .1 .0) (claim (args .1 .1 .1 .1 .0) (args .1 .1 .1 .1 .1 .0) (args .1 .1 .1 .1 .1 .1 .0)))
+      (means r) (tables (args .0) (now (end .1 .0)) (now (end .1 .1 .0)))
   enter-made : (κs : Lfts 2) (args : Dens κs enter-kinds.ps) (r : resT enter-kinds.r κs .Denot) (end : AtExit (endedOf 2 enter-kinds.ps enter-kinds.r) κs)
       → entering.Post κs args r end
-      → CallMade (tables (now (args .0)) (now (args .1 .0))) (enterCall (args .1 .1 .0)) (means r) (tables (now (args .0)) (now (end .1 .0)))
+      → CallMade (tables (args .0) (now (args .1 .0)) (now (args .1 .1 .0))) (enterCall (args .1 .1 .1 .0)) (means r) (tables (args .0) (now (args .1 .0)) (now (end .1 .1 .0)))
   step-made : (κs : Lfts 2) (args : Dens κs step-kinds.ps) (r : resT step-kinds.r κs .Denot) (end : AtExit (endedOf 2 step-kinds.ps step-kinds.r) κs)
       → stepping.Post κs args r end
-      → CallMade (tables (now (args .0)) (now (args .1 .0))) (stepCall (args .1 .1 .0)) (means r) (tables (now (end .0)) (now (end .1 .0)))
+      → CallMade (tables (args .0) (now (args .1 .0)) (now (args .1 .1 .0))) (stepCall (args .1 .1 .1 .0)) (means r) (tables (args .0) (now (end .1 .0)) (now (end .1 .1 .0)))
   release-made : (κs : Lfts 2) (args : Dens κs release-kinds.ps) (r : resT release-kinds.r κs .Denot) (end : AtExit (endedOf 2 release-kinds.ps release-kinds.r) κs)
       → releasing.Post κs args r end
-      → CallMade (tables (now (args .0)) (now (args .1 .0))) (releaseCall (args .1 .1 .0)) (means r) (tables (now (end .0)) (now (end .1 .0)))
+      → CallMade (tables (args .0) (now (args .1 .0)) (now (args .1 .1 .0))) (releaseCall (args .1 .1 .1 .0)) (means r) (tables (args .0) (now (end .1 .0)) (now (end .1 .1 .0)))
 
 -- run: the tables before, the schedule, the budget, what it answered, the tables after
 pub data RunMade : Tables → List ℕ → ℕ → Ran → Tables → Type 0 where
   run-made : (κs : Lfts 3) (args : Dens κs run-kinds.ps) (r : resT run-kinds.r κs .Denot) (end : AtExit (endedOf 3 run-kinds.ps run-kinds.r) κs)
       → run-reads.Post κs args r end
-      → RunMade (tables (now (args .0)) (now (args .1 .0))) (now (args .1 .1 .0)) (args .1 .1 .1 .0) r (tables (now (end .0)) (now (end .1 .0)))
+      → RunMade (tables (args .0) (now (args .1 .0)) (now (args .1 .1 .0))) (now (args .1 .1 .1 .0)) (args .1 .1 .1 .1 .0) r (tables (args .0) (now (end .1 .0)) (now (end .1 .1 .0)))
 
 -- free count: the tables, and what it answered
 pub data CountMade : Tables → Counted → Type 0 where
   count-made : (κs : Lfts 2) (args : Dens κs count-kinds.ps) (r : resT count-kinds.r κs .Denot) (end : AtExit (endedOf 2 count-kinds.ps count-kinds.r) κs)
       → counting.Post κs args r end
-      → CountMade (tables (now (args .0)) (now (args .1 .0))) (meansCount r)
+      → CountMade (tables (args .0) (now (args .1 .0)) (now (args .1 .1 .0))) (meansCount r)
 
 -- board on numbers: the tables, the lent list, what it answered, the list afterwards
 pub data BoardMade : Tables → List ℕ → Boarded → List ℕ → Type 0 where
   board-made : (κs : Lfts 3) (args : Dens κs board-kinds.ps) (r : resT board-kinds.r κs .Denot) (end : AtExit (endedOf 3 board-kinds.ps board-kinds.r) κs)
       → board-reads.Post κs args r end
-      → BoardMade (tables (now (args .0)) (now (args .1 .0))) (now (args .1 .1 .0)) (meansBoard r) (now (end .1 .1 .0))
+      → BoardMade (tables (args .0) (now (args .1 .0)) (now (args .1 .1 .0))) (now (args .1 .1 .1 .0)) (meansBoard r) (now (end .1 .1 .1 .0))
 
 -- import: the title's frame count, the locks, the list lent for the claims, what it answered, that list afterwards; and export, the other way
 pub data ImportMade : ℕ → List ℤ → List ℕ → Moved → List ℕ → Type 0 where

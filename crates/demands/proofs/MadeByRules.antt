@@ -78,7 +78,7 @@ cleared-fresh {t} {u} {frames} m =
     let w = clear-accepted t frames (made-accepted m) in
     let fit = lengths-fit t (w .lengths) in
     let some : 1 ≤ frames = let d = w .some-frames in omega arith in
-    rw (ap (λ (d : Done ℕ). d .after) (made-clear m), w .makes-fresh) (cleared (fit .some-nodes) (fit .few-nodes) (fit .some-seats) (fit .few-seats) some)
+    rw (ap (λ (d : Done ℕ). d .after) (made-clear m), w .makes-fresh) (cleared (fit .some-nodes) (fit .few-nodes) (fit .some-seats) (fit .few-seats) (t .sheet) some)
 
 requests-reach : {N S : ℕ} {t u : Tables} {requests : List Request} → Reached N S t → RequestsMade t requests u → Reached N S u
 requests-reach r no-more = r
