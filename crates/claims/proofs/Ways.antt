@@ -12,7 +12,7 @@ use borrow.Author.Tests.{eq-eqb, ne-eqb, le-leb, lt-leb, le-ltb, lt-ltb, not-tru
 use Rattle.rules.specs.Notation.{_is_}
 use Rattle.rules.specs.Tables.{tables, titleAt, putTop, title, zeros, fresh, seatWord, seatCountOf, phaseAt, seatWidth}
 use Rattle.rules.specs.Comparison.{claim}
-use Rattle.rules.specs.Shape.{lengthsFit, sound, isKind}
+use Rattle.rules.specs.Shape.{lengthsFit, sound, mayClaim}
 use Rattle.rules.specs.Reach.{countFree}
 use Rattle.rules.specs.Fetch.{fetched, fetch}
 use Rattle.rules.specs.Answers.{Answer, node, out, refused, done, answerOf, on}
@@ -93,7 +93,7 @@ module _ (sheet : Bool) (n t : List ℕ) (s x y k : ℕ) where
     pub reserve-beyond : z < y → done (refused 11) (tables sheet n t) ≡ reserveClaim (tables sheet n t) s (claim x y k)
     reserve-beyond h = rw (lt-leb y x some, ← isTitle, lt-ltb z y h)
 
-    module _ (b : Bool) (isKindOf : b ≡ isKind k) (within : y ≤ z) where
+    module _ (b : Bool) (isKindOf : b ≡ mayClaim sheet k) (within : y ≤ z) where
       pub reserve-kind : not b ≡ true → done (refused 4) (tables sheet n t) ≡ reserveClaim (tables sheet n t) s (claim x y k)
       reserve-kind e = rw (lt-leb y x some, ← isTitle, le-ltb z y within, sym isKindOf ∙ not-true b e)
 

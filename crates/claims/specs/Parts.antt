@@ -5,7 +5,7 @@ use mathlib.Core.List.{[], _∷_}
 use Rattle.rules.specs.Notation.{_is_, _≤?_, _<?_}
 use Rattle.rules.specs.Tables.{Tables, title, phase}
 use Rattle.rules.specs.Comparison.{Claim}
-use Rattle.rules.specs.Shape.{isKind}
+use Rattle.rules.specs.Shape.{mayClaim}
 use Rattle.rules.specs.Fetch.{fetch}
 use Rattle.rules.specs.Answers.{Answer, out, refused, Done, done, _when_, refusing, answered}
 use Rattle.rules.specs.Steps.{entering, leave}
@@ -18,7 +18,7 @@ reserveFetching t s c = reserved t (fetch t s c)
 abbrev pub reserveClaim : Tables → ℕ → Claim → Done Answer
 reserveClaim t s c =
     refusing refused
-    ((3 when c .end ≤? c .start) ∷ (11 when title t <? c .end) ∷ (4 when not (isKind (c .kind))) ∷ (5 when not (phase t s is 0)) ∷ [])
+    ((3 when c .end ≤? c .start) ∷ (11 when title t <? c .end) ∷ (4 when not (mayClaim (t .sheet) (c .kind))) ∷ (5 when not (phase t s is 0)) ∷ [])
     t
     (reserveFetching t s c)
 

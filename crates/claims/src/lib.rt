@@ -82,7 +82,7 @@ fn reserve_claim(
 {
     // 3, then 11, then 4: what they look at is read first, so that each is one test, and their order is that of the lines
     let title = words::title(sheet, nodes);
-    let known = shape::is_kind(kind);
+    let known = shape::may_claim(sheet, kind);
     if end <= start {
         return Reply::Refused(3);
     }

@@ -62,7 +62,7 @@ module _ (sheet : Bool) (n t : List ℕ) (s p : ℕ) (isPhase : p ≡ seatWord s
 
   -- no other phase is sound
   pub step-none : sound (tables sheet n t) ≡ true → p ≢ 0 → p ≢ 1 → p ≢ 2 → p ≢ 3 → p ≢ 4 → p ≢ 5 → p ≢ 6 → p ≢ 7 → done 1 (tables sheet n t) ≡ unanswered (stepBusy (tables sheet n t) s)
-  step-none z d0 d1 d2 d3 d4 d5 d6 d7 = absurd (no-more p (rw isPhase (is-sound (tables sheet n t) z .seat s .phase-small)) (from-8 p (beyond-3 p d0 d1 d2 d3) d4 d5 d6 d7))
+  step-none z d0 d1 d2 d3 d4 d5 d6 d7 = absurd (no-more p (rw isPhase (is-sound (tables sheet n t) z .seat s .may-be-in .0)) (from-8 p (beyond-3 p d0 d1 d2 d3) d4 d5 d6 d7))
 
   pub step-six : (n′ t′ : List ℕ) (r : ℕ) → done r (tables sheet n′ t′) ≡ unanswered (withdrawn (tables sheet n t) s) → p ≡ 6 → done r (tables sheet n′ t′) ≡ unanswered (stepBusy (tables sheet n t) s)
   unfolding stepByPhase

@@ -16,11 +16,11 @@ use Rattle.rules.specs.Answers.{refused, Done, done}
 use Rattle.rules.specs.Calls.{step}
 use Rattle.rules.specs.Run.{ran, refusalOf, oneMore, runSteps, run}
 use Rattle.rules.specs.declared.Ran.{Ran}
-use Rattle.rules.proofs.Ground.Logic.{branch, clash, not-of, or-case, or-neither, and-left}
+use Rattle.rules.proofs.Ground.Logic.{branch, clash, not-of, or-left, or-right, or-case, or-neither, and-left}
 use Rattle.rules.proofs.Laws.Words.{same-node-count, same-seat-count}
 use Rattle.rules.proofs.Laws.Shape.{is-sound, lengths-fit-is}
 use Rattle.rules.proofs.Rules.RefusedExactly.{refused-step-keeps}
-use Rattle.rules.proofs.Soundness.SoundKept.{step-keeps-sound}
+use Rattle.rules.proofs.Soundness.SoundKept.{LinkedNow, step-keeps-sound}
 use Rattle.shape.specs.Parts.{listEnds}
 use Rattle.phases.specs.Parts.{unanswered}
 use Rattle.phases.proofs.Ways.{step-past, its-refusal, its-tables}
@@ -157,10 +157,10 @@ unfolding run
 run-damaged sheet n t schedule budget b p e = rw (sym p ∙ e)
 
 -- ---- whether the tables are still sound
-pub kept-linked : (sheet : Bool) (n : List ℕ) (before after : ℕ) (r : Bool) → r ≡ listEnds (tables sheet n []) → (eqb before 1 && eqb after 3) ≡ true → r ≡ keptSound (tables sheet n []) before after
+pub kept-linked : (sheet : Bool) (n : List ℕ) (before after : ℕ) (r : Bool) → r ≡ listEnds (tables sheet n []) → (eqb before 1 && (eqb after 3 || eqb after 5)) ≡ true → r ≡ keptSound (tables sheet n []) before after
 kept-linked sheet n before after r p e = rw e p
 
-pub kept-other : (sheet : Bool) (n : List ℕ) (before after : ℕ) → (eqb before 1 && eqb after 3) ≡ false → true ≡ keptSound (tables sheet n []) before after
+pub kept-other : (sheet : Bool) (n : List ℕ) (before after : ℕ) → (eqb before 1 && (eqb after 3 || eqb after 5)) ≡ false → true ≡ keptSound (tables sheet n []) before after
 kept-other sheet n before after e = rw e
 
 -- a step keeps the lengths
@@ -169,6 +169,11 @@ unfolding lengthsFit nodesFit
 still-fit sheet n n′ t e l =
     rw (l, same-node-count (tables sheet n t) (tables sheet n′ []) refl l)
     (and-left (nodesFit (tables sheet n t)) (seatsFit (tables sheet n t)) (lengths-fit-is (tables sheet n t) (is-sound (tables sheet n t) e)))
+
+-- the phases to which the step that links own in comes
+linked-now : (p : ℕ) → LinkedNow p → (eqb p 3 || eqb p 5) ≡ true
+linked-now p (inl e) = or-left (eqb p 3) (eqb p 5) (eq-eqb p 3 e)
+linked-now p (inr e) = or-right (eqb p 3) (eqb p 5) (eq-eqb p 5 e)
 
 -- of the tables after a step on sound ones
 module _ (sheet : Bool) (n n′ t t′ : List ℕ) (s before after r : ℕ) (k : Bool) (stepped : done r (tables sheet n′ t′) ≡ unanswered (step (tables sheet n t) s)) (isBefore : before ≡ seatWord sheet t s phaseAt)
@@ -181,7 +186,7 @@ module _ (sheet : Bool) (n n′ t t′ : List ℕ) (s before after r : ℕ) (k :
       let u : tables sheet n′ t′ ≡ step (tables sheet n t) s .after = its-tables (step (tables sheet n t) s) r (tables sheet n′ t′) stepped in
       let new : after ≡ phase (step (tables sheet n t) s .after) s = isAfter ∙ ap (λ (x : Tables). phase x s) u in
       rw u (step-keeps-sound (tables sheet n t) s was (λ x y.
-      let linked : keptSound (tables sheet n′ []) before after ≡ listEnds (tables sheet n′ []) = rw (eq-eqb before 1 (isBefore ∙ x), eq-eqb after 3 (new ∙ y)) in
+      let linked : keptSound (tables sheet n′ []) before after ≡ listEnds (tables sheet n′ []) = rw (eq-eqb before 1 (isBefore ∙ x), linked-now after (rw new y)) in
       rw (← u) (sym alone ∙ sym linked ∙ sym isKept ∙ not-false k e)))
 
   pub now-damaged : not k ≡ true → sound (tables sheet n′ t′) ≡ false
@@ -189,7 +194,7 @@ module _ (sheet : Bool) (n n′ t t′ : List ℕ) (s before after r : ℕ) (k :
       not-of (sound (tables sheet n′ t′)) (λ yes-sound.
       let ends : listEnds (tables sheet n′ []) ≡ true = alone ∙ is-sound (tables sheet n′ t′) yes-sound .ends in
       clash (keptSound (tables sheet n′ []) before after)
-      (branch (λ b. b ≡ true) (eqb before 1 && eqb after 3) (λ q. ends) (λ q. refl))
+      (branch (λ b. b ≡ true) (eqb before 1 && (eqb after 3 || eqb after 5)) (λ q. ends) (λ q. refl))
       (sym isKept ∙ not-true k e))
 
 -- ---- the answer at damage

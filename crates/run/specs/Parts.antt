@@ -9,7 +9,7 @@ use Rattle.shape.specs.Parts.{listEnds}
 
 -- by the seat's phase before and after
 abbrev pub keptSound : Tables → ℕ → ℕ → Bool
-keptSound t before after = if before is 1 && after is 3 then listEnds t else true
+keptSound t before after = if before is 1 && (after is 3 || after is 5) then listEnds t else true
 
 -- after so many steps of so many entries
 abbrev pub stopAtDamage : ℕ → ℕ → ℕ → Ran

@@ -10,13 +10,13 @@ ghost use Rattle.rules.specs.Run as rule;
 ghost use Rattle.run.specs.Parts as part;
 use rules::Ran;
 
-// After an accepted step by which a seat's phase changed from one to the other. Only the step that links own in, from phase 1 to 3, can
+// After an accepted step by which a seat's phase changed from one to the other. Only the step that links own in, from phase 1 to 3 or, on a sheet, to 5, can
 // leave sound tables damaged, and then it is their list that does not end: no other word is looked at again.
 fn is_kept_sound(sheet: bool, nodes: &[u32], before: u32, after: u32) -> bool
     requires { ⌜ nodesFit (tables sheet (now nodes) []) ≡ true ⌝ }
     ensures { λ r. ⌜ r ≡ part.keptSound (tables sheet (now (nodes .entry)) []) before after ⌝ }
 {
-    if (before == 1) & (after == 3) {
+    if (before == 1) & ((after == 3) | (after == 5)) {
         return shape::list_ends(sheet, nodes);
     }
     true

@@ -8,8 +8,8 @@ use Rattle.claims.proofs.reserve_claim.Tie as tie
 title-requires : tie.Need-title-requires
 title-requires c κs = search needs
 
-is-kind-requires : tie.Need-is-kind-requires
-is-kind-requires c κs = search needs
+may-claim-requires : tie.Need-may-claim-requires
+may-claim-requires c κs = search needs
 
 same-length : tie.Need-same-length
 same-length c = search needs
@@ -58,7 +58,7 @@ reserve-claim-spec =
     tie.close
     (tie.spec
     title-requires
-    is-kind-requires
+    may-claim-requires
     same-length
     returns
     same-length-2
