@@ -26,21 +26,21 @@ use Rattle.holders.proofs.Rows.{rows-counted}
 use Rattle.rows.specs.Filling.{answerFor, rowsIn, lastBelow, lastRow, fillDown}
 
 -- ---- the answer
-module _ (n t : List ℕ) (room : ℕ) where
-  module _ (c k : ℕ) (isHolding : k ≡ holding t c) (isCount : c ≡ seatCountOf t) (isSound : sound (tables n t) ≡ true) where
-    holders-counted : length (holders (tables n t)) ≡ k
+module _ (sheet : Bool) (n t : List ℕ) (room : ℕ) where
+  module _ (c k : ℕ) (isHolding : k ≡ holding sheet t c) (isCount : c ≡ seatCountOf sheet t) (isSound : sound (tables sheet n t) ≡ true) where
+    holders-counted : length (holders (tables sheet n t)) ≡ k
     unfolding holders
-    holders-counted = rows-counted (tables n t) (seatCountOf t) ∙ rw (isHolding, isCount)
+    holders-counted = rows-counted (tables sheet n t) (seatCountOf sheet t) ∙ rw (isHolding, isCount)
 
-    pub answer-short : room < k → Boarded.refused 9 ≡ answerFor (tables n t) room
+    pub answer-short : room < k → Boarded.refused 9 ≡ answerFor (tables sheet n t) room
     unfolding answerFor
     answer-short h = rw (isSound, holders-counted, lt-ltb room k h)
 
-    pub answer-filled : (v : ℕ) → v ≡ coveredBy (holders (tables n t)) → k ≤ room → Boarded.filled k v ≡ answerFor (tables n t) room
+    pub answer-filled : (v : ℕ) → v ≡ coveredBy (holders (tables sheet n t)) → k ≤ room → Boarded.filled k v ≡ answerFor (tables sheet n t) room
     unfolding answerFor
     answer-filled v e h = rw (isSound, e, holders-counted, le-ltb room k h)
 
-  pub answer-damaged : (b : Bool) → b ≡ sound (tables n t) → b ≡ false → Boarded.refused 1 ≡ answerFor (tables n t) room
+  pub answer-damaged : (b : Bool) → b ≡ sound (tables sheet n t) → b ≡ false → Boarded.refused 1 ≡ answerFor (tables sheet n t) room
   unfolding answerFor
   answer-damaged b p e = rw (sym p ∙ e)
 
@@ -53,41 +53,41 @@ unfolding rowsIn
 rows-refused r number e = rw e
 
 -- ---- the last holder
-module _ (t : List ℕ) (s : ℕ) where
-  last-here : seatWord t s phaseAt ≡ 5 → lastBelow t (suc s) ≡ s
+module _ (sheet : Bool) (t : List ℕ) (s : ℕ) where
+  last-here : seatWord sheet t s phaseAt ≡ 5 → lastBelow sheet t (suc s) ≡ s
   unfolding lastBelow
   last-here e = rw e
 
-  last-lower : seatWord t s phaseAt ≢ 5 → lastBelow t (suc s) ≡ lastBelow t s
+  last-lower : seatWord sheet t s phaseAt ≢ 5 → lastBelow sheet t (suc s) ≡ lastBelow sheet t s
   unfolding lastBelow
-  last-lower d = rw (ne-eqb (seatWord t s phaseAt) 5 d)
+  last-lower d = rw (ne-eqb (seatWord sheet t s phaseAt) 5 d)
 
-pub last-found : (t : List ℕ) (s below p : ℕ) → lastBelow t s ≡ lastBelow t below → 0 < s → p ≡ seatWord t (s - 1) phaseAt → p ≡ 5 → s - 1 ≡ lastBelow t below
-last-found t s below p e h q f = let m : suc (s - 1) ≡ s = omega arith in sym (last-here t (s - 1) (sym q ∙ f)) ∙ ap (lastBelow t) m ∙ e
+pub last-found : (sheet : Bool) (t : List ℕ) (s below p : ℕ) → lastBelow sheet t s ≡ lastBelow sheet t below → 0 < s → p ≡ seatWord sheet t (s - 1) phaseAt → p ≡ 5 → s - 1 ≡ lastBelow sheet t below
+last-found sheet t s below p e h q f = let m : suc (s - 1) ≡ s = omega arith in sym (last-here sheet t (s - 1) (sym q ∙ f)) ∙ ap (lastBelow sheet t) m ∙ e
 
-pub last-again : (t : List ℕ) (s below p : ℕ) → lastBelow t s ≡ lastBelow t below → 0 < s → p ≡ seatWord t (s - 1) phaseAt → p ≢ 5 → lastBelow t (s - 1) ≡ lastBelow t below
-last-again t s below p e h q d = let m : suc (s - 1) ≡ s = omega arith in sym (last-lower t (s - 1) (λ f. d (q ∙ f))) ∙ ap (lastBelow t) m ∙ e
+pub last-again : (sheet : Bool) (t : List ℕ) (s below p : ℕ) → lastBelow sheet t s ≡ lastBelow sheet t below → 0 < s → p ≡ seatWord sheet t (s - 1) phaseAt → p ≢ 5 → lastBelow sheet t (s - 1) ≡ lastBelow sheet t below
+last-again sheet t s below p e h q d = let m : suc (s - 1) ≡ s = omega arith in sym (last-lower sheet t (s - 1) (λ f. d (q ∙ f))) ∙ ap (lastBelow sheet t) m ∙ e
 
-pub last-none : (t : List ℕ) (s below : ℕ) → lastBelow t s ≡ lastBelow t below → s ≤ 0 → 0 ≡ lastBelow t below
+pub last-none : (sheet : Bool) (t : List ℕ) (s below : ℕ) → lastBelow sheet t s ≡ lastBelow sheet t below → s ≤ 0 → 0 ≡ lastBelow sheet t below
 unfolding lastBelow
-last-none t s below e h = let z : s ≡ 0 = omega arith in ap (lastBelow t) (sym z) ∙ e
+last-none sheet t s below e h = let z : s ≡ 0 = omega arith in ap (lastBelow sheet t) (sym z) ∙ e
 
-pub last-at-most : (t : List ℕ) (s : ℕ) → lastBelow t s ≤ s
+pub last-at-most : (sheet : Bool) (t : List ℕ) (s : ℕ) → lastBelow sheet t s ≤ s
 unfolding lastBelow
-last-at-most t zero = omega arith
-last-at-most t (suc s) = go (eqb (seatWord t s phaseAt) 5) (last-at-most t s)
+last-at-most sheet t zero = omega arith
+last-at-most sheet t (suc s) = go (eqb (seatWord sheet t s phaseAt) 5) (last-at-most sheet t s)
   where
-    go : (b : Bool) → lastBelow t s ≤ s → (if b then s else lastBelow t s) ≤ suc s
+    go : (b : Bool) → lastBelow sheet t s ≤ s → (if b then s else lastBelow sheet t s) ≤ suc s
     go true h = omega arith
     go false h = omega arith
 
-module _ (n t : List ℕ) (below s : ℕ) (isLast : s ≡ lastBelow t below) where
-  pub last-holds : Holds (tables n t) (lastBelow t below) → Holds (tables n t) s
+module _ (sheet : Bool) (n t : List ℕ) (below s : ℕ) (isLast : s ≡ lastBelow sheet t below) where
+  pub last-holds : Holds (tables sheet n t) (lastBelow sheet t below) → Holds (tables sheet n t) s
   last-holds h = rw isLast h
 
-  pub last-row-is : (row : Row) → row ≡ rowOf (tables n t) s → row ≡ lastRow (tables n t) below
+  pub last-row-is : (row : Row) → row ≡ rowOf (tables sheet n t) s → row ≡ lastRow (tables sheet n t) below
   unfolding lastRow
-  last-row-is row e = e ∙ ap (rowOf (tables n t)) isLast
+  last-row-is row e = e ∙ ap (rowOf (tables sheet n t)) isLast
 
 -- ---- the rows
 rows-none : (t : Tables) (s : ℕ) → length (rowsBelow s t) ≡ 0 → rowsBelow s t ≡ []
@@ -97,25 +97,25 @@ rows-none t s = go (rowsBelow s t)
     go [] e = refl
     go (row ∷ rows) e = absurd (omega arith)
 
-rows-last : (t : Tables) (s k : ℕ) → length (rowsBelow s t) ≡ suc k → rowsBelow s t ≡ rowsBelow (lastBelow (t .seats) s) t ++ (lastRow t s ∷ [])
+rows-last : (t : Tables) (s k : ℕ) → length (rowsBelow s t) ≡ suc k → rowsBelow s t ≡ rowsBelow (lastBelow (t .sheet) (t .seats) s) t ++ (lastRow t s ∷ [])
 unfolding rowsBelow lastBelow lastRow
 rows-last t zero k e = absurd (omega arith)
-rows-last t (suc s) k e = go (eqb (seatWord (t .seats) s phaseAt) 5) (rows-last t s k) e
+rows-last t (suc s) k e = go (eqb (seatWord (t .sheet) (t .seats) s phaseAt) 5) (rows-last t s k) e
   where
-    go : (b : Bool) → (length (rowsBelow s t) ≡ suc k → rowsBelow s t ≡ rowsBelow (lastBelow (t .seats) s) t ++ (lastRow t s ∷ [])) → length (if b then rowsBelow s t ++ (rowOf t s ∷ []) else rowsBelow s t) ≡ suc k
+    go : (b : Bool) → (length (rowsBelow s t) ≡ suc k → rowsBelow s t ≡ rowsBelow (lastBelow (t .sheet) (t .seats) s) t ++ (lastRow t s ∷ [])) → length (if b then rowsBelow s t ++ (rowOf t s ∷ []) else rowsBelow s t) ≡ suc k
         → (if b then rowsBelow s t ++ (rowOf t s ∷ []) else rowsBelow s t)
-        ≡ rowsBelow (if b then s else lastBelow (t .seats) s) t ++ (rowOf t (if b then s else lastBelow (t .seats) s) ∷ [])
+        ≡ rowsBelow (if b then s else lastBelow (t .sheet) (t .seats) s) t ++ (rowOf t (if b then s else lastBelow (t .sheet) (t .seats) s) ∷ [])
     go true below h = refl
     go false below h = below h
 
-last-holder-holds : (t : Tables) (s k : ℕ) → length (rowsBelow s t) ≡ suc k → Holds t (lastBelow (t .seats) s)
+last-holder-holds : (t : Tables) (s k : ℕ) → length (rowsBelow s t) ≡ suc k → Holds t (lastBelow (t .sheet) (t .seats) s)
 unfolding rowsBelow lastBelow
 last-holder-holds t zero k e = absurd (omega arith)
-last-holder-holds t (suc s) k e = go (eqb (seatWord (t .seats) s phaseAt) 5) refl (last-holder-holds t s k) e
+last-holder-holds t (suc s) k e = go (eqb (seatWord (t .sheet) (t .seats) s phaseAt) 5) refl (last-holder-holds t s k) e
   where
-    go : (b : Bool) → eqb (seatWord (t .seats) s phaseAt) 5 ≡ b → (length (rowsBelow s t) ≡ suc k → Holds t (lastBelow (t .seats) s))
-        → length (if b then rowsBelow s t ++ (rowOf t s ∷ []) else rowsBelow s t) ≡ suc k → Holds t (if b then s else lastBelow (t .seats) s)
-    go true q below h = eqb-true (seatWord (t .seats) s phaseAt) 5 q
+    go : (b : Bool) → eqb (seatWord (t .sheet) (t .seats) s phaseAt) 5 ≡ b → (length (rowsBelow s t) ≡ suc k → Holds t (lastBelow (t .sheet) (t .seats) s))
+        → length (if b then rowsBelow s t ++ (rowOf t s ∷ []) else rowsBelow s t) ≡ suc k → Holds t (if b then s else lastBelow (t .sheet) (t .seats) s)
+    go true q below h = eqb-true (seatWord (t .sheet) (t .seats) s phaseAt) 5 q
     go false q below h = below h
 
 -- no seat past the last holds
@@ -138,7 +138,7 @@ unfolding fillDown
 fill-down zero t s out e h = rw (rows-none t s e)
 fill-down (suc k) t s out e h =
     let last = rows-last t s k e in
-    let below = lastBelow (t .seats) s in
+    let below = lastBelow (t .sheet) (t .seats) s in
     let n = sym (ap length last) ∙ e in
     let m = length-append (rowsBelow below t) (lastRow t s ∷ []) in
     fill-down k t below (set out k (lastRow t s)) (omega arith) (rw (length-set out k (lastRow t s)) (omega arith))
@@ -191,13 +191,13 @@ module _ (t : Tables) (lent : List Row) (r : BoardReply) where
     pub left-sound : sound t ≡ true
     left-sound = left .owed (omega arith) .tables-sound
 
-    pub left-holds : Holds t (lastBelow (t .seats) seat)
+    pub left-holds : Holds t (lastBelow (t .sheet) (t .seats) seat)
     left-holds = last-holder-holds t seat k (left .owed (omega arith) .as-many)
 
-    pub left-less : Left k (lastBelow (t .seats) seat) (set out k (lastRow t seat))
+    pub left-less : Left k (lastBelow (t .sheet) (t .seats) seat) (set out k (lastRow t seat))
     unfolding fillDown
     left-less =
-        let below = last-at-most (t .seats) seat in
+        let below = last-at-most (t .sheet) (t .seats) seat in
         let few = left .few in
         let room = left .room in
         record {
@@ -208,7 +208,7 @@ module _ (t : Tables) (lent : List Row) (r : BoardReply) where
           owed = λ h.
               let all = left .owed (omega arith) .as-many in
               let n = sym (ap length (rows-last t seat k all)) ∙ all in
-              let m = length-append (rowsBelow (lastBelow (t .seats) seat) t) (lastRow t seat ∷ []) in
+              let m = length-append (rowsBelow (lastBelow (t .sheet) (t .seats) seat) t) (lastRow t seat ∷ []) in
               record { tables-sound = left-sound; as-many = omega arith };
         }
 

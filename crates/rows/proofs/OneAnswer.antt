@@ -24,13 +24,13 @@ use Rattle.rows.proofs.show_all.Kinds as kinds
 -- ---- `show`: no covered function holds a `&mut [Row]`, so its promise is read here, and is the one that stands in the source
 module _ (κs : Lfts 3) (args : Args show.signature κs) where
   abbrev pub Shows : Res show.signature κs → AtExit show.ended κs → Type 0
-  Shows r s = shown (meansBoard r) (now (s .0)) ≡ board (tables (now (args .1 .0)) (now (args .1 .1 .0))) (now (args .0))
+  Shows r s = shown (meansBoard r) (now (s .1 .0)) ≡ board (tables (args .0) (now (args .1 .1 .0)) (now (args .1 .1 .1 .0))) (now (args .1 .0))
 
   pub shows-is : {M : Type 1} (𝓤 : URA M) (H : Heap 𝓤) (A : Atoms 𝓤) (mem : Memory → SProp 𝓤) (run : Routine → Fun 𝓤) (r : Res show.signature κs) (s : AtExit show.ended κs)
       → show.clauses 𝓤 H A mem run κs args .ensures tt r s ≡ connectives 𝓤 .⌜_⌝ (Shows r s)
   shows-is 𝓤 H A mem run r s = refl
 
-  pub one-board : (a b : Res show.signature κs) (s t : AtExit show.ended κs) → Shows a s → Shows b t → (a ≡ b) × (now (s .0) ≡ now (t .0))
+  pub one-board : (a b : Res show.signature κs) (s t : AtExit show.ended κs) → Shows a s → Shows b t → (a ≡ b) × (now (s .1 .0) ≡ now (t .1 .0))
   one-board a b s t = law.one-board _ a b _ _
 
 -- ---- the board by value

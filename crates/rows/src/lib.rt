@@ -16,25 +16,25 @@ use rules::Row;
 const SEATS: u32 = 64;
 
 // on sound tables: refusal 9 where fewer rows are lent than there are holders, or their number and the frames that they cover
-fn answer_sound(nodes: &[u32], seats: &[u32], room: usize) -> BoardReply
-    requires { ⌜ sound (tables (now nodes) (now seats)) ≡ true ⌝ }
-    ensures { λ r. ⌜ meansBoard r ≡ answerFor (tables (now (nodes .entry)) (now (seats .entry))) room ⌝ }
+fn answer_sound(sheet: bool, nodes: &[u32], seats: &[u32], room: usize) -> BoardReply
+    requires { ⌜ sound (tables sheet (now nodes) (now seats)) ≡ true ⌝ }
+    ensures { λ r. ⌜ meansBoard r ≡ answerFor (tables sheet (now (nodes .entry)) (now (seats .entry))) room ⌝ }
 {
-    let count = words::seat_count(seats) as u32;
-    let rows = holders::count(seats, count);
+    let count = words::seat_count(sheet, seats) as u32;
+    let rows = holders::count(sheet, seats, count);
     if room < rows as usize {
         return BoardReply::Refused(9);
     }
-    let covered = holders::covered(nodes, seats);
+    let covered = holders::covered(sheet, nodes, seats);
     BoardReply::Rows(rows, covered)
 }
 
 // what the board answers where so many rows are lent
-fn answer(nodes: &[u32], seats: &[u32], room: usize) -> BoardReply
-    ensures { λ r. ⌜ meansBoard r ≡ answerFor (tables (now (nodes .entry)) (now (seats .entry))) room ⌝ }
+fn answer(sheet: bool, nodes: &[u32], seats: &[u32], room: usize) -> BoardReply
+    ensures { λ r. ⌜ meansBoard r ≡ answerFor (tables sheet (now (nodes .entry)) (now (seats .entry))) room ⌝ }
 {
-    if shape::is_sound(nodes, seats) {
-        return answer_sound(nodes, seats, room);
+    if shape::is_sound(sheet, nodes, seats) {
+        return answer_sound(sheet, nodes, seats, room);
     }
     BoardReply::Refused(1)
 }
@@ -50,13 +50,13 @@ fn rows_in(reply: BoardReply) -> usize
 }
 
 // the last seat below one that holds
-fn last_holder(seats: &[u32], below: u32) -> u32
-    ensures { λ r. ⌜ r ≡ lastBelow (now (seats .entry)) below ⌝ }
+fn last_holder(sheet: bool, seats: &[u32], below: u32) -> u32
+    ensures { λ r. ⌜ r ≡ lastBelow sheet (now (seats .entry)) below ⌝ }
 {
     let mut s = below;
     while s > 0 {
         let at = s - 1;
-        if words::seat_word(seats, at, words::PHASE) == 5 {
+        if words::seat_word(sheet, seats, at, words::PHASE) == 5 {
             return at;
         } else {
             s = at;
@@ -66,24 +66,29 @@ fn last_holder(seats: &[u32], below: u32) -> u32
 }
 
 // its row
-fn last_row(nodes: &[u32], seats: &[u32], below: u32) -> Row
-    requires { ⌜ sound (tables (now nodes) (now seats)) ≡ true ⌝ }
-    requires { ⌜ Holds (tables (now nodes) (now seats)) (lastBelow (now seats) below) ⌝ }
-    ensures { λ r. ⌜ r ≡ lastRow (tables (now (nodes .entry)) (now (seats .entry))) below ⌝ }
+fn last_row(sheet: bool, nodes: &[u32], seats: &[u32], below: u32) -> Row
+    requires { ⌜ sound (tables sheet (now nodes) (now seats)) ≡ true ⌝ }
+    requires { ⌜ Holds (tables sheet (now nodes) (now seats)) (lastBelow sheet (now seats) below) ⌝ }
+    ensures { λ r. ⌜ r ≡ lastRow (tables sheet (now (nodes .entry)) (now (seats .entry))) below ⌝ }
 {
-    let s = last_holder(seats, below);
-    holders::row_of(nodes, seats, s)
+    let s = last_holder(sheet, seats, below);
+    holders::row_of(sheet, nodes, seats, s)
 }
 
-pub fn show<'a, 'b, 'c>(rows: &'a mut [Row], nodes: &'b [u32], seats: &'c [u32]) -> BoardReply
-    ensures { λ r. ⌜ shown (meansBoard r) (now (rows .exit)) ≡ board (tables (now (nodes .entry)) (now (seats .entry))) (now (rows .entry)) ⌝ }
+pub fn show<'a, 'b, 'c>(
+    sheet: bool,
+    rows: &'a mut [Row],
+    nodes: &'b [u32],
+    seats: &'c [u32],
+) -> BoardReply
+    ensures { λ r. ⌜ shown (meansBoard r) (now (rows .exit)) ≡ board (tables sheet (now (nodes .entry)) (now (seats .entry))) (now (rows .entry)) ⌝ }
 {
     let room = rows.len();
-    let reply = answer(nodes, seats, room);
+    let reply = answer(sheet, nodes, seats, room);
     let mut left = rows_in(reply);
     let mut seat = SEATS;
     while left > 0 {
-        let row = last_row(nodes, seats, seat);
+        let row = last_row(sheet, nodes, seats, seat);
         left -= 1;
         rows[left] = row;
         seat = row.seat;
@@ -118,10 +123,10 @@ fn together(rows: [Row; 64], reply: BoardReply) -> Board
     }
 }
 
-pub fn show_all<'a, 'b>(nodes: &'a [u32], seats: &'b [u32]) -> Board
-    ensures { λ r. ⌜ shown (meansBoard (r .reply)) (r .rows) ≡ board (tables (now (nodes .entry)) (now (seats .entry))) noRows ⌝ }
+pub fn show_all<'a, 'b>(sheet: bool, nodes: &'a [u32], seats: &'b [u32]) -> Board
+    ensures { λ r. ⌜ shown (meansBoard (r .reply)) (r .rows) ≡ board (tables sheet (now (nodes .entry)) (now (seats .entry))) noRows ⌝ }
 {
     let mut rows = no_rows();
-    let reply = show(&mut rows, nodes, seats);
+    let reply = show(sheet, &mut rows, nodes, seats);
     together(rows, reply)
 }

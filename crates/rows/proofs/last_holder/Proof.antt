@@ -8,10 +8,10 @@ use Rattle.rows.proofs.last_holder.Statement.{statement}
 use Rattle.rows.proofs.last_holder.Tie as tie
 
 abbrev Inv-loop : tie.InvT-loop
-Inv-loop seats below s₀ s = lastBelow seats s ≡ lastBelow seats below
+Inv-loop sheet seats below s₀ s = lastBelow sheet seats s ≡ lastBelow sheet seats below
 
 abbrev μ-loop : tie.MeasureT-loop
-μ-loop seats below s₀ s = s
+μ-loop sheet seats below s₀ s = s
 
 loop-holds : tie.Need-loop-holds Inv-loop μ-loop
 loop-holds c = refl

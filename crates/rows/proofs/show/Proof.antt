@@ -31,8 +31,8 @@ use sound.WpLaws.{FmC, fmOf, WpFn-mono}
 use denote.RattleType.{owns}
 use denote.Shadow.{pureI}
 use denote.Laws.{Is, shows}
-use denote.Plain.{uint-makes, uint-tells, uint-lawful}
-use denote.Builtin.{u32, usize}
+use denote.Plain.{uint-makes, uint-tells, uint-lawful, bool-vals, bool-tells}
+use denote.Builtin.{u32, usize, bool}
 use denote.Ref.{RefT}
 use denote.Slice.{sliceTy, ShrSlice, shr-slice-tells, sliceVal, MutSlice, Room, heres, codedHoleys, at-slice, slice-vals, mut-slice-tells}
 use denote.Lend.{Held}
@@ -46,7 +46,7 @@ use denote.Triple.Clauses.{ensured, lasts}
 use denote.Triple.Entry.{onEntry}
 use denote.Triple.Spec.{Meets, tripleOf}
 use denote.Triple.Table.{entered, cited}
-use denote.Triple.Walked.{says, Stays, stay-slice, stay-none-slice, goes-none-slice, walkOf, goes-slice, Walks, ends-at, walked, walk-meets}
+use denote.Triple.Walked.{says, Stays, stay-dropped, stay-slice, stay-none-slice, goes-dropped, goes-none-slice, walkOf, goes-slice, Walks, ends-at, walked, walk-meets}
 use denote.Exit.{yes}
 use denote.Signature.{plain}
 use Rattle.rules.specs.Tables.{Tables as Pair, tables}
@@ -82,7 +82,7 @@ use Rattle.rows.proofs.show.Code as code
 use Rattle.rows.proofs.show.Code.Mir as mirs
 
 abbrev stayed : Stays (show′.ended .signature .params) (show′.ended .kept)
-stayed = (stay-slice (0 ∷ []) tt (plain (λ _. T.the-row)), (stay-none-slice (1 ∷ []) tt (plain (λ _. u32)) yes, (stay-none-slice (2 ∷ []) tt (plain (λ _. u32)) yes, tt)))
+stayed = (stay-dropped (plain (λ _. bool)) yes, (stay-slice (0 ∷ []) tt (plain (λ _. T.the-row)), (stay-none-slice (1 ∷ []) tt (plain (λ _. u32)) yes, (stay-none-slice (2 ∷ []) tt (plain (λ _. u32)) yes, tt))))
 
 abbrev word : Ty
 word = tyInt w64
@@ -108,12 +108,12 @@ module _ {M : Type 1} (𝓤 : URA M) (H : Heap 𝓤) (A : Atoms 𝓤) (mem : Mem
   LastRow = tripleOf 𝓤 H A last-row.signature (last-row.spec 𝓤 H A mem run)
 
 module _ {M : Type 1} (𝓤 : URA M) (H : Heap 𝓤) (A : Atoms 𝓤) (W : Given 𝓤 H A) (mem : Memory → SProp 𝓤) (run : Routine → Fun 𝓤)
-    (κ κₙ κₛ : Lft) (q qₙ qₛ : Share) (b o : ℕ) (γ : GName) (ys : List Row) (ns ss : RefT (List ℕ)) where
+    (κ κₙ κₛ : Lft) (q qₙ qₛ : Share) (sheet : Bool) (b o : ℕ) (γ : GName) (ys : List Row) (ns ss : RefT (List ℕ)) where
   abbrev Arg : Type 0
-  Arg = RefT (List Row) × (RefT (List ℕ) × (RefT (List ℕ) × Unit {0}))
+  Arg = Bool × (RefT (List Row) × (RefT (List ℕ) × (RefT (List ℕ) × Unit {0})))
 
   abbrev lentAs : List Row → Arg
-  lentAs rows = (record { ptr = (b, o); name = γ; now = rows }, (ns, (ss, tt)))
+  lentAs rows = (sheet, (record { ptr = (b, o); name = γ; now = rows }, (ns, (ss, tt))))
 
   abbrev rowsVal : Val
   rowsVal = sliceVal (b, o) (length ys)
@@ -124,11 +124,11 @@ module _ {M : Type 1} (𝓤 : URA M) (H : Heap 𝓤) (A : Atoms 𝓤) (W : Given
   abbrev seatsVal : Val
   seatsVal = slotOf ss
 
-  abbrev vals : List Val × (List Val × (List Val × Unit {0}))
-  vals = (rowsVal ∷ [], (nodesVal ∷ [], (seatsVal ∷ [], tt)))
+  abbrev vals : List Val × (List Val × (List Val × (List Val × Unit {0})))
+  vals = (vbool sheet ∷ [], (rowsVal ∷ [], (nodesVal ∷ [], (seatsVal ∷ [], tt))))
 
   abbrev both : Pair
-  both = tables (ns .now) (ss .now)
+  both = tables sheet (ns .now) (ss .now)
 
   abbrev Post : Val → SProp 𝓤
   Post = walkOf 𝓤 H A show′.ended stayed (show′.clauses 𝓤 H A mem run) .post (((κ, (κₙ, (κₛ, tt))), (q, (qₙ, (qₛ, tt))), tt, lentAs ys, vals), tt)
@@ -146,20 +146,20 @@ module _ {M : Type 1} (𝓤 : URA M) (H : Heap 𝓤) (A : Atoms 𝓤) (W : Given
       → ent 𝓤 (⋆ 𝓤 H A (‵ (fobs γ (codedHoleys T.the-row .code (heres T.the-row out))) ∷ ‵ (fbor κ (Held T.the-row (length out) b o γ)) ∷ ‵ (flft κ q) ∷ tokens ∷ ‵ slices ∷ [])) (Post u)
   exits r u is out same fills room =
       qed W (‵ (fobs γ (codedHoleys T.the-row .code (heres T.the-row out))) ∷ ‵ (fbor κ (Held T.the-row (length out) b o γ)) ∷ ‵ (flft κ q) ∷ tokens ∷ ‵ slices ∷ []) ∵
-      suffices ! _ (ends-at 𝓤 H A show′.ended stayed (show′.clauses 𝓤 H A mem run) W (((κ, (κₙ, (κₛ, tt))), (q, (qₙ, (qₛ, tt))), tt, lentAs ys, vals), tt) u r (out, (tt, (tt, tt))) (same, (tt, (tt, tt)))) $ says ! fills $
+      suffices ! _ (ends-at 𝓤 H A show′.ended stayed (show′.clauses 𝓤 H A mem run) W (((κ, (κₙ, (κₛ, tt))), (q, (qₙ, (qₛ, tt))), tt, lentAs ys, vals), tt) u r (tt, (out, (tt, (tt, tt)))) (tt, (same, (tt, (tt, tt))))) $ says ! fills $
       move ! (2 ∷ 3 ∷ []) $ join ! $ frame ! $ fjoin ! $
-      pureI ! (at-slice T.the-row (lentAs out .0) (vals .0)) (tt, (tt, tt)) (ap (λ (m : ℕ). sliceVal (b, o) m ∷ []) (sym same), subst (Room T.the-row) (sym same) room) $ fjoin ! $ fjoin ! $ frame ! $
+      pureI ! (at-slice T.the-row (lentAs out .1 .0) (vals .1 .0)) (tt, (tt, tt)) (ap (λ (m : ℕ). sliceVal (b, o) m ∷ []) (sym same), subst (Room T.the-row) (sym same) room) $ fjoin ! $ fjoin ! $ nothing ! $ fjoin ! $ frame ! $
       owned ! R.the-row (Is R.the-row) (EL.makes R.the-type R′.the-plain 𝓤 H A) r _ is $ done !
 
   -- ---- what each callee is passed, and of its `ensured` the clause alone
   abbrev to-answer : ℕ → Answer 𝓤 H A mem run .Ghost
-  to-answer m = (((κₙ, (κₛ, tt)), (qₙ, (qₛ, tt)), tt, (ns, (ss, (m, tt))), (nodesVal ∷ [], (seatsVal ∷ [], (vint w64 m ∷ [], tt)))), tt)
+  to-answer m = (((κₙ, (κₛ, tt)), (qₙ, (qₛ, tt)), tt, (sheet, (ns, (ss, (m, tt)))), (vbool sheet ∷ [], (nodesVal ∷ [], (seatsVal ∷ [], (vint w64 m ∷ [], tt))))), tt)
 
   asks-answer : (m : ℕ) → m < 2 ^ 64 → ent 𝓤 (sep 𝓤 (mean 𝓤 H A tokens) (sem 𝓤 H A slices)) (Answer 𝓤 H A mem run .pre (to-answer m))
-  asks-answer m fits = with-number 𝓤 H A W κₙ κₛ ns ss qₙ qₛ (usize .own m (vint w64 m ∷ [])) (emp 𝓤) (uint-makes 𝓤 H A W w64 m _ (refl, fits)) (id⊢ 𝓤 (emp 𝓤))
+  asks-answer m fits = with-number 𝓤 H A W κₙ κₛ ns ss sheet qₙ qₛ (usize .own m (vint w64 m ∷ [])) (emp 𝓤) (uint-makes 𝓤 H A W w64 m _ (refl, fits)) (id⊢ 𝓤 (emp 𝓤))
 
-  said-answer : (m : ℕ) (r : BoardReply) → ent 𝓤 (ensured 𝓤 H A answer.ended (answer.clauses 𝓤 H A mem run) (κₙ, (κₛ, tt)) (ns, (ss, (m, tt))) tt r) (fact 𝓤 (meansBoard r ≡ answerFor both m))
-  said-answer m r = exE 𝓤 _ (λ ws. snd∗ 𝓤 (sem 𝓤 H A (lasts answer.ended (κₙ, (κₛ, tt)) (ns, (ss, (m, tt))) ws)) (fact 𝓤 (meansBoard r ≡ answerFor both m)))
+  said-answer : (m : ℕ) (r : BoardReply) → ent 𝓤 (ensured 𝓤 H A answer.ended (answer.clauses 𝓤 H A mem run) (κₙ, (κₛ, tt)) (sheet, (ns, (ss, (m, tt)))) tt r) (fact 𝓤 (meansBoard r ≡ answerFor both m))
+  said-answer m r = exE 𝓤 _ (λ ws. snd∗ 𝓤 (sem 𝓤 H A (lasts answer.ended (κₙ, (κₛ, tt)) (sheet, (ns, (ss, (m, tt)))) ws)) (fact 𝓤 (meansBoard r ≡ answerFor both m)))
 
   abbrev to-rows : BoardReply → Val → RowsIn 𝓤 H A mem run .Ghost
   to-rows r u = ((tt, tt, tt, (r, tt), (u ∷ [], tt)), tt)
@@ -171,16 +171,16 @@ module _ {M : Type 1} (𝓤 : URA M) (H : Heap 𝓤) (A : Atoms 𝓤) (W : Given
   said-rows r n = exE 𝓤 _ (λ ws. snd∗ 𝓤 (sem 𝓤 H A (lasts rows-in.ended tt (r, tt) ws)) (fact 𝓤 (n ≡ rowsIn (meansBoard r))))
 
   abbrev to-last : ℕ → LastRow 𝓤 H A mem run .Ghost
-  to-last m = (((κₙ, (κₛ, tt)), (qₙ, (qₛ, tt)), tt, (ns, (ss, (m, tt))), (nodesVal ∷ [], (seatsVal ∷ [], (vint w32 m ∷ [], tt)))), tt)
+  to-last m = (((κₙ, (κₛ, tt)), (qₙ, (qₛ, tt)), tt, (sheet, (ns, (ss, (m, tt)))), (vbool sheet ∷ [], (nodesVal ∷ [], (seatsVal ∷ [], (vint w32 m ∷ [], tt))))), tt)
 
-  asks-last : (m : ℕ) → m < 2 ^ 32 → shape.sound both ≡ true → Holds both (lastBelow (ss .now) m) → ent 𝓤 (sep 𝓤 (mean 𝓤 H A tokens) (sem 𝓤 H A slices)) (LastRow 𝓤 H A mem run .pre (to-last m))
-  asks-last m fits isSound holds = with-number 𝓤 H A W κₙ κₛ ns ss qₙ qₛ (u32 .own m (vint w32 m ∷ [])) (last-row.clauses 𝓤 H A mem run (κₙ, (κₛ, tt)) (ns, (ss, (m, tt))) .requires tt) (uint-makes 𝓤 H A W w32 m _ (refl, fits)) (qed W [] ∵ says ! holds $ by ! (factI 𝓤 _ (emp 𝓤) isSound))
+  asks-last : (m : ℕ) → m < 2 ^ 32 → shape.sound both ≡ true → Holds both (lastBelow sheet (ss .now) m) → ent 𝓤 (sep 𝓤 (mean 𝓤 H A tokens) (sem 𝓤 H A slices)) (LastRow 𝓤 H A mem run .pre (to-last m))
+  asks-last m fits isSound holds = with-number 𝓤 H A W κₙ κₛ ns ss sheet qₙ qₛ (u32 .own m (vint w32 m ∷ [])) (last-row.clauses 𝓤 H A mem run (κₙ, (κₛ, tt)) (sheet, (ns, (ss, (m, tt)))) .requires tt) (uint-makes 𝓤 H A W w32 m _ (refl, fits)) (qed W [] ∵ says ! holds $ by ! (factI 𝓤 _ (emp 𝓤) isSound))
 
-  said-last : (m : ℕ) (r : Row) → ent 𝓤 (ensured 𝓤 H A last-row.ended (last-row.clauses 𝓤 H A mem run) (κₙ, (κₛ, tt)) (ns, (ss, (m, tt))) tt r) (fact 𝓤 (r ≡ lastRow both m))
-  said-last m r = exE 𝓤 _ (λ ws. snd∗ 𝓤 (sem 𝓤 H A (lasts last-row.ended (κₙ, (κₛ, tt)) (ns, (ss, (m, tt))) ws)) (fact 𝓤 (r ≡ lastRow both m)))
+  said-last : (m : ℕ) (r : Row) → ent 𝓤 (ensured 𝓤 H A last-row.ended (last-row.clauses 𝓤 H A mem run) (κₙ, (κₛ, tt)) (sheet, (ns, (ss, (m, tt)))) tt r) (fact 𝓤 (r ≡ lastRow both m))
+  said-last m r = exE 𝓤 _ (λ ws. snd∗ 𝓤 (sem 𝓤 H A (lasts last-row.ended (κₙ, (κₛ, tt)) (sheet, (ns, (ss, (m, tt)))) ws)) (fact 𝓤 (r ≡ lastRow both m)))
 
   module _ (𝓣 : Tables 𝓤 H) (known-answer : Triple 𝓤 (𝓣 .C #rows·answer) (Answer 𝓤 H A mem run)) (known-rows : Triple 𝓤 (𝓣 .C #rows·rows-in) (RowsIn 𝓤 H A mem run))
-      (known-last : Triple 𝓤 (𝓣 .C #rows·last-row) (LastRow 𝓤 H A mem run)) (room : Room T.the-row (length ys)) (l₀ l₁ l₂ l₃ l₄ l₅ l₆ l₇ l₈ l₉ l₁₀ l₁₁ : ℕ) where
+      (known-last : Triple 𝓤 (𝓣 .C #rows·last-row) (LastRow 𝓤 H A mem run)) (room : Room T.the-row (length ys)) (l₀ l₁ l₂ l₃ l₄ l₅ l₆ l₇ l₈ l₉ l₁₀ l₁₁ l₁₂ : ℕ) where
     abbrev C : Calls 𝓤 H
     C = 𝓣 .C
 
@@ -192,28 +192,29 @@ module _ {M : Type 1} (𝓤 : URA M) (H : Heap 𝓤) (A : Atoms 𝓤) (W : Given
 
     abbrev En : Env 𝓤 H
     En =
-        (R′.mir, l₀) ∷ (rowsSlice, l₁) ∷ (nodesSlice, l₂) ∷ (seatsSlice, l₃) ∷ (word, l₄) ∷ (R′.mir, l₅) ∷ (word, l₆) ∷ (tyInt w32, l₇) ∷ (T′.mir, l₈) ∷ (tyBool, l₉) ∷ (word, l₁₀) ∷ (tyPtr, l₁₁) ∷ []
+        (R′.mir, l₀) ∷ (tyBool, l₁) ∷ (rowsSlice, l₂) ∷ (nodesSlice, l₃) ∷ (seatsSlice, l₄) ∷ (word, l₅) ∷ (R′.mir, l₆) ∷ (word, l₇) ∷ (tyInt w32, l₈) ∷ (T′.mir, l₉) ∷ (tyBool, l₁₀) ∷ (word, l₁₁) ∷ (tyPtr, l₁₂) ∷ []
 
+    -- that each local dies, and behind it the profile's own, which is read and stays as it was passed
     abbrev Dying : List (Item 𝓤)
     Dying =
-        ‵ (fdies R′.mir l₀) ∷ ‵ (fdies rowsSlice l₁) ∷ ‵ (fdies nodesSlice l₂) ∷ ‵ (fdies seatsSlice l₃) ∷ ‵ (fdies word l₄) ∷ ‵ (fdies R′.mir l₅)
-        ∷ ‵ (fdies word l₆) ∷ ‵ (fdies (tyInt w32) l₇) ∷ ‵ (fdies T′.mir l₈) ∷ ‵ (fdies tyBool l₉) ∷ ‵ (fdies word l₁₀) ∷ ‵ (fdies tyPtr l₁₁) ∷ []
+        ‵ (fdies R′.mir l₀) ∷ ‵ (fdies rowsSlice l₂) ∷ ‵ (fdies nodesSlice l₃) ∷ ‵ (fdies seatsSlice l₄) ∷ ‵ (fdies word l₅) ∷ ‵ (fdies R′.mir l₆)
+        ∷ ‵ (fdies word l₇) ∷ ‵ (fdies (tyInt w32) l₈) ∷ ‵ (fdies T′.mir l₉) ∷ ‵ (fdies tyBool l₁₀) ∷ ‵ (fdies word l₁₁) ∷ ‵ (fdies tyPtr l₁₂) ∷ ‵ (fdies tyBool l₁) ∷ ‵ (fat fullShare tyBool l₁ 0 (vbool sheet)) ∷ []
 
     -- what stands beside the rows and the loop's locals; the reply's local is room until the answer is there
     abbrev Frame : Item 𝓤 → List (Item 𝓤)
     Frame reply =
-        ‵ (fat fullShare rowsSlice l₁ 0 rowsVal) ∷ ‵ (fat fullShare nodesSlice l₂ 0 nodesVal) ∷ ‵ (fat fullShare seatsSlice l₃ 0 seatsVal) ∷ ‵ (fat fullShare word l₄ 0 (vint w64 (length ys))) ∷ reply ∷ ‵ (froom R′.mir l₀ 0)
+        ‵ (fat fullShare rowsSlice l₂ 0 rowsVal) ∷ ‵ (fat fullShare nodesSlice l₃ 0 nodesVal) ∷ ‵ (fat fullShare seatsSlice l₄ 0 seatsVal) ∷ ‵ (fat fullShare word l₅ 0 (vint w64 (length ys))) ∷ reply ∷ ‵ (froom R′.mir l₀ 0)
         ∷ ‵ (fobor κ q (Held T.the-row (length ys) b o γ)) ∷ ‵ (fobs γ (codedHoleys T.the-row .code (heres T.the-row ys))) ∷ ‵ (fauth γ (codedHoleys T.the-row .code (heres T.the-row ys))) ∷ tokens ∷ ‵ slices ∷ Dying
 
     -- before the loop
     abbrev Before : Item 𝓤 → List (Item 𝓤)
     Before reply =
-        ‵ (row T.the-row fullShare ys b o) ∷ ‵ (froom word l₆ 0) ∷ ‵ (froom (tyInt w32) l₇ 0) ∷ ‵ (froom T′.mir l₈ 0) ∷ ‵ (froom tyBool l₉ 0) ∷ ‵ (froom word l₁₀ 0) ∷ ‵ (froom tyPtr l₁₁ 0) ∷ Frame reply
+        ‵ (row T.the-row fullShare ys b o) ∷ ‵ (froom word l₇ 0) ∷ ‵ (froom (tyInt w32) l₈ 0) ∷ ‵ (froom T′.mir l₉ 0) ∷ ‵ (froom tyBool l₁₀ 0) ∷ ‵ (froom word l₁₁ 0) ∷ ‵ (froom tyPtr l₁₂ 0) ∷ Frame reply
 
     -- k rows are left, of the holders below a seat
     abbrev At : Item 𝓤 → ℕ → ℕ → List Row → List (Item 𝓤)
     At reply k seat out =
-        ‵ (row T.the-row fullShare out b o) ∷ ‵ (fat fullShare word l₆ 0 (vint w64 k)) ∷ ‵ (fat fullShare (tyInt w32) l₇ 0 (vint w32 seat)) ∷ ‵ (froom T′.mir l₈ 0) ∷ ‵ (froom tyBool l₉ 0) ∷ ‵ (froom word l₁₀ 0) ∷ ‵ (froom tyPtr l₁₁ 0) ∷ Frame reply
+        ‵ (row T.the-row fullShare out b o) ∷ ‵ (fat fullShare word l₇ 0 (vint w64 k)) ∷ ‵ (fat fullShare (tyInt w32) l₈ 0 (vint w32 seat)) ∷ ‵ (froom T′.mir l₉ 0) ∷ ‵ (froom tyBool l₁₀ 0) ∷ ‵ (froom word l₁₁ 0) ∷ ‵ (froom tyPtr l₁₂ 0) ∷ Frame reply
 
     abbrev turn : Code
     turn = mirs.turn-1
@@ -226,7 +227,7 @@ module _ {M : Type 1} (𝓤 : URA M) (H : Heap 𝓤) (A : Atoms 𝓤) (W : Given
 
     module _ (r : BoardReply) (u : Val) (is : Is R.the-row r (u ∷ [])) (answered : meansBoard r ≡ answerFor both (length ys)) where
       abbrev reply : Item 𝓤
-      reply = ‵ (fat fullShare R′.mir l₅ 0 u)
+      reply = ‵ (fat fullShare R′.mir l₆ 0 u)
 
       abbrev Inv : ℕ → SProp 𝓤
       Inv k = ex 𝓤 (λ (z : ℕ × List Row). guard 𝓤 (Left both ys r k (z .0) (z .1)) (⋆ 𝓤 H A (At reply k (z .0) (z .1))))
@@ -235,7 +236,7 @@ module _ {M : Type 1} (𝓤 : URA M) (H : Heap 𝓤) (A : Atoms 𝓤) (W : Given
       Below k = ex 𝓤 (λ (j : ℕ). guard 𝓤 (j < k) (Inv j))
 
       -- a turn that stores one row
-      more : (k seat : ℕ) (out : List Row) (X : SProp 𝓤) → Left both ys r (suc k) seat out → ent 𝓤 (⋆ 𝓤 H A (At reply k (lastBelow (ss .now) seat) (set out k (lastRow both seat)))) X
+      more : (k seat : ℕ) (out : List Row) (X : SProp 𝓤) → Left both ys r (suc k) seat out → ent 𝓤 (⋆ 𝓤 H A (At reply k (lastBelow sheet (ss .now) seat) (set out k (lastRow both seat)))) X
           → ent 𝓤 (⋆ 𝓤 H A (At reply (suc k) seat out)) (Wp 𝓤 H C Λ En turn (afterTurn 𝓤 H X AfterLoop))
       unfolding afterTurn lastRow
       more k seat out X left next =
@@ -247,35 +248,35 @@ module _ {M : Type 1} (𝓤 : URA M) (H : Heap 𝓤) (A : Atoms 𝓤) (W : Given
           let down : suc k - 1 ≡ k = omega arith in
           qed W (At reply (suc k) seat out) ∵ exec ! C Λ En turn (anyQ (afterTurn 𝓤 H X AfterLoop)) $
           assigns ! (bin ! (lit ! tt) (load ! (from ! (stop !)) (look ! 1 refl)) tt) (from ! (stop !)) (init ! 4 refl (tt, tt)) $
-          rewrite ! 4 (λ (z : Bool). ‵ (fat fullShare tyBool l₉ 0 (vbool z))) (lt-ltb 0 (suc k) (omega arith)) refl $
+          rewrite ! 4 (λ (z : Bool). ‵ (fat fullShare tyBool l₁₀ 0 (vbool z))) (lt-ltb 0 (suc k) (omega arith)) refl $
           stays ! (load ! (from ! (stop !)) (look ! 4 refl)) $
           move ! (17 ∷ 16 ∷ []) $ use1 W (‵ slices ⊛ ‵ slices) (twice 𝓤 H A W κₙ κₛ ns ss) $ split ! $ move ! (2 ∷ 1 ∷ []) $ use2 W (raw (LastRow 𝓤 H A mem run .pre (to-last seat))) (asks-last seat (omega arith) (left-sound both ys r k seat out left) (left-holds both ys r k seat out left)) $
-          -- [pre; slices; rows; _6; _7; _8; _9; _10; _11; _1; _2; _3; _4; _5; _0; …]
-          calls-at ! fm (LastRow 𝓤 H A mem run) known-last (to-last seat) (and-then ! (load ! (from ! (stop !)) (look ! 10 refl)) (and-then ! (load ! (from ! (stop !)) (look ! 11 refl)) (and-then ! (load ! (from ! (stop !)) (look ! 4 refl)) (no-more !)))) (λ v.
-          use1 W (later (some (λ (z : Row). (tokens ⊛ ‵ (T.the-row .own z (v ∷ []))) ⊛ raw (ensured 𝓤 H A last-row.ended (last-row.clauses 𝓤 H A mem run) (κₙ, (κₛ, tt)) (ns, (ss, (seat, tt))) tt z)))) (id⊢ 𝓤 _) $ await ! tt $ pick ! (λ z.
+          -- [pre; slices; rows; _7; _8; _9; _10; _11; _12; _2; _3; _4; _5; _6; _0; …]
+          calls-at ! fm (LastRow 𝓤 H A mem run) known-last (to-last seat) (and-then ! (load ! (from ! (stop !)) (look ! 31 refl)) (and-then ! (load ! (from ! (stop !)) (look ! 10 refl)) (and-then ! (load ! (from ! (stop !)) (look ! 11 refl)) (and-then ! (load ! (from ! (stop !)) (look ! 4 refl)) (no-more !))))) (λ v.
+          use1 W (later (some (λ (z : Row). (tokens ⊛ ‵ (T.the-row .own z (v ∷ []))) ⊛ raw (ensured 𝓤 H A last-row.ended (last-row.clauses 𝓤 H A mem run) (κₙ, (κₛ, tt)) (sheet, (ns, (ss, (seat, tt)))) tt z)))) (id⊢ 𝓤 _) $ await ! tt $ pick ! (λ z.
           split ! $ move ! (1 ∷ []) $ use1 W (raw (fact 𝓤 (z ≡ lastRow both seat))) (said-last seat z) $ heard ! (z ≡ lastRow both seat) (λ e. split ! $ move ! (1 ∷ []) $
           peeks ! T.the-row (Is T.the-row) (shows 𝓤 H A T.the-row) z (v ∷ []) (λ p.
           let typed = LL.lawful T.the-type T′.the-laws 𝓤 H A W .typed z _ p .0 in
           let spelled : v ≡ machineRow z = ap only (LL.tells T.the-type T′.the-laws z (v ∷ []) p) in
-          -- [the row's own; tokens; slices; rows; _6; _7; _8; _9; _10; _11; _1; …]
+          -- [the row's own; tokens; slices; rows; _7; _8; _9; _10; _11; _12; _2; …]
           land ! (from ! (stop !)) (init ! 6 refl typed) $
           assigns ! (bin ! (load ! (from ! (stop !)) (look ! 4 refl)) (lit ! tt) (omega arith)) (from ! (stop !)) (store ! 4 refl (tt, record { fits = fits })) $
-          rewrite ! 4 (λ (j : ℕ). ‵ (fat fullShare word l₆ 0 (vint w64 j))) down refl $
+          rewrite ! 4 (λ (j : ℕ). ‵ (fat fullShare word l₇ 0 (vint w64 j))) down refl $
           assigns ! (bin ! (load ! (from ! (stop !)) (look ! 4 refl)) (lit ! tt) scaled) (from ! (stop !)) (init ! 8 refl (tt, scaled)) $
           assigns ! (bin ! (load ! (from ! (fld ! refl (stop !))) (look-in ! 10 (sub ! 0 refl (whole !)))) (load ! (from ! (stop !)) (look ! 8 refl)) tt) (from ! (stop !)) (init ! 9 refl (tt, tt)) $
-          rewrite ! 9 (λ (j : ℕ). ‵ (fat fullShare tyPtr l₁₁ 0 (vptr b j))) (sym (place-is 16 o k)) refl $
+          rewrite ! 9 (λ (j : ℕ). ‵ (fat fullShare tyPtr l₁₂ 0 (vptr b j))) (sym (place-is 16 o k)) refl $
           move ! (3 ∷ []) $
           elem-out ! T.the-row (Is T.the-row) (shows 𝓤 H A T.the-row) (LL.vals T.the-type T′.the-laws) (LL.tells T.the-type T′.the-laws) fullShare out k z b o inside (λ _.
-          -- [the element; its own; the others; the row's own; tokens; slices; _6; _7; _8; _9; _10; _11; …]
+          -- [the element; its own; the others; the row's own; tokens; slices; _7; _8; _9; _10; _11; _12; …]
           assigns ! (of-opd ! (load ! (from ! (stop !)) (look ! 8 refl))) (from ! (hop ! (look ! 11 refl) (stop !))) (store-raw ! 0 refl typed) $
           move ! (1 ∷ []) $ drop ! $ move ! (0 ∷ 2 ∷ []) $ elem-put ! T.the-row fullShare out k z (v ∷ []) b o inside $
           rewrite ! 0 (λ (y : Row). ‵ (row T.the-row fullShare (set out k y) b o)) e refl $
-          -- [rows; tokens; slices; _6; _7; _8; _9; _10; _11; _1; _2; _3; _4; _5; _0; the borrow; …]
-          rewrite ! 5 (λ (y : Val). ‵ (fat fullShare T′.mir l₈ 0 y)) spelled refl $
+          -- [rows; tokens; slices; _7; _8; _9; _10; _11; _12; _2; _3; _4; _5; _6; _0; the borrow; …]
+          rewrite ! 5 (λ (y : Val). ‵ (fat fullShare T′.mir l₉ 0 y)) spelled refl $
           assigns-last ! (of-opd ! (load ! (from ! (fld ! refl (stop !))) (look-in ! 5 (sub ! 0 refl (whole !))))) (from ! (stop !)) (store ! 4 refl (tt, record { fits = p .1 .1 .0 .1 })) $
-          rewrite ! 4 (λ (y : Row). ‵ (fat fullShare (tyInt w32) l₇ 0 (vint w32 (y .seat)))) e refl $
+          rewrite ! 4 (λ (y : Row). ‵ (fat fullShare (tyInt w32) l₈ 0 (vint w32 (y .seat)))) e refl $
           forget ! 5 refl $ forget ! 6 refl $ forget ! 7 refl $ forget ! 8 refl $
-          keep ! (0 ∷ 3 ∷ 4 ∷ 5 ∷ 6 ∷ 7 ∷ 8 ∷ 9 ∷ 10 ∷ 11 ∷ 12 ∷ 13 ∷ 14 ∷ 15 ∷ 16 ∷ 17 ∷ 1 ∷ 2 ∷ 18 ∷ 19 ∷ 20 ∷ 21 ∷ 22 ∷ 23 ∷ 24 ∷ 25 ∷ 26 ∷ 27 ∷ 28 ∷ 29 ∷ []) $ by ! next)))))
+          keep ! (0 ∷ 3 ∷ 4 ∷ 5 ∷ 6 ∷ 7 ∷ 8 ∷ 9 ∷ 10 ∷ 11 ∷ 12 ∷ 13 ∷ 14 ∷ 15 ∷ 16 ∷ 17 ∷ 1 ∷ 2 ∷ 18 ∷ 19 ∷ 20 ∷ 21 ∷ 22 ∷ 23 ∷ 24 ∷ 25 ∷ 26 ∷ 27 ∷ 28 ∷ 29 ∷ 30 ∷ 31 ∷ []) $ by ! next)))))
 
       -- the turn that leaves the loop, and the rest of the body
       ends : (seat : ℕ) (out : List Row) (X : SProp 𝓤) → length out ≡ length ys → shown (meansBoard r) out ≡ board both ys
@@ -284,14 +285,14 @@ module _ {M : Type 1} (𝓤 : URA M) (H : Heap 𝓤) (A : Atoms 𝓤) (W : Given
       ends seat out X same fills =
           qed W (At reply 0 seat out) ∵ exec ! C Λ En turn (anyQ (afterTurn 𝓤 H X AfterLoop)) $
           assigns ! (bin ! (lit ! tt) (load ! (from ! (stop !)) (look ! 1 refl)) tt) (from ! (stop !)) (init ! 4 refl (tt, tt)) $
-          rewrite ! 4 (λ (z : Bool). ‵ (fat fullShare tyBool l₉ 0 (vbool z))) (le-ltb 0 0 (omega arith)) refl $
+          rewrite ! 4 (λ (z : Bool). ‵ (fat fullShare tyBool l₁₀ 0 (vbool z))) (le-ltb 0 0 (omega arith)) refl $
           leaves-loop ! (load ! (from ! (stop !)) (look ! 4 refl)) $ exec ! C Λ En rest (atRet En Post) $
           assigns ! (of-opd ! (load ! (from ! (stop !)) (look ! 11 refl))) (from ! (stop !)) (init ! 12 refl (EL.lawful R.the-type R′.the-laws 𝓤 H A W tt .typed r _ is .0)) $
           move ! (0 ∷ 13 ∷ 14 ∷ 15 ∷ []) $ closes-slice ! tt T.the-row ys out same b o $
-          -- [obs; the borrow; the token; _6; _7; _8; _9; _10; _11; _1; _2; _3; _4; _5; _0; tokens; slices; and that each local dies]
+          -- [obs; the borrow; the token; _7; _8; _9; _10; _11; _12; _2; _3; _4; _5; _6; _0; tokens; slices; that each local dies; _1]
           returns ! (look ! 14 refl) $
-          forget ! 3 refl $ forget ! 4 refl $ forget ! 6 refl $ forget ! 9 refl $ forget ! 10 refl $ forget ! 11 refl $ forget ! 12 refl $ forget ! 13 refl $ forget ! 14 refl $
-          move ! (14 ∷ 17 ∷ []) $ free1 ! $
+          forget ! 3 refl $ forget ! 4 refl $ forget ! 6 refl $ forget ! 9 refl $ forget ! 10 refl $ forget ! 11 refl $ forget ! 12 refl $ forget ! 13 refl $ forget ! 14 refl $ forget ! 30 refl $
+          move ! (14 ∷ 17 ∷ []) $ free1 ! $ move ! (28 ∷ 27 ∷ []) $ free1 ! $
           move ! (9 ∷ 16 ∷ []) $ free1 ! $ move ! (9 ∷ 15 ∷ []) $ free1 ! $ move ! (9 ∷ 14 ∷ []) $ free1 ! $ move ! (9 ∷ 13 ∷ []) $ free1 ! $ move ! (9 ∷ 12 ∷ []) $ free1 ! $
           move ! (3 ∷ 11 ∷ []) $ free1 ! $ move ! (3 ∷ 10 ∷ []) $ free1 ! $ move ! (3 ∷ 9 ∷ []) $ free1 ! $ move ! (3 ∷ 8 ∷ []) $ free1 ! $ move ! (3 ∷ 7 ∷ []) $ free1 ! $ move ! (3 ∷ 6 ∷ []) $ free1 ! $ free0 ! $
           by ! (exits r u is out same fills room)
@@ -305,7 +306,7 @@ module _ {M : Type 1} (𝓤 : URA M) (H : Heap 𝓤) (A : Atoms 𝓤) (W : Given
       turn-at zero z left = ends (z .0) (z .1) (Below zero) (left .same) (left-none both ys r answered (z .0) (z .1) left)
       turn-at (suc k) z left =
           more k (z .0) (z .1) (Below (suc k)) left
-          (via 𝓤 (Inv k) (inv-in k (lastBelow (ss .now) (z .0), set (z .1) k (lastRow both (z .0))) (left-less both ys r k (z .0) (z .1) left))
+          (via 𝓤 (Inv k) (inv-in k (lastBelow sheet (ss .now) (z .0), set (z .1) k (lastRow both (z .0))) (left-less both ys r k (z .0) (z .1) left))
           (via 𝓤 (guard 𝓤 (k < suc k) (Inv k)) (guardI 𝓤 (k < suc k) (Inv k) (omega arith)) (exI 𝓤 (λ (j : ℕ). guard 𝓤 (j < suc k) (Inv j)) k)))
 
       turns : (k : ℕ) → ent 𝓤 (Inv k) (Wp 𝓤 H C Λ En turn (afterTurn 𝓤 H (Below k) AfterLoop))
@@ -327,29 +328,29 @@ module _ {M : Type 1} (𝓤 : URA M) (H : Heap 𝓤) (A : Atoms 𝓤) (W : Given
           peeks ! usize (Is usize) (shows 𝓤 H A usize) n (v ∷ []) (λ p.
           let spelled : v ≡ vint w64 n = ap only (uint-tells w64 n (v ∷ []) p) in
           land ! (from ! (stop !)) (init ! 2 refl (uint-lawful 𝓤 H A W w64 .typed n _ p .0)) $ drop ! $
-          rewrite ! 1 (λ (y : Val). ‵ (fat fullShare word l₆ 0 y)) spelled refl $ rewrite ! 1 (λ (j : ℕ). ‵ (fat fullShare word l₆ 0 (vint w64 j))) e refl $
+          rewrite ! 1 (λ (y : Val). ‵ (fat fullShare word l₇ 0 y)) spelled refl $ rewrite ! 1 (λ (j : ℕ). ‵ (fat fullShare word l₇ 0 (vint w64 j))) e refl $
           assigns ! (of-opd ! (lit ! tt)) (from ! (stop !)) (init ! 2 refl (tt, record { fits = lit< tt })) $ by ! loops))))
 
     -- the answer is asked for, and the rows are counted
-    answers : ent 𝓤 (⋆ 𝓤 H A (Before (‵ (froom R′.mir l₅ 0)))) (Wp 𝓤 H C Λ En mirs.t-2 (atReturn 𝓤 H En Post))
+    answers : ent 𝓤 (⋆ 𝓤 H A (Before (‵ (froom R′.mir l₆ 0)))) (Wp 𝓤 H C Λ En mirs.t-2 (atReturn 𝓤 H En Post))
     answers =
-        qed W (Before (‵ (froom R′.mir l₅ 0))) ∵ exec ! C Λ En mirs.t-2 (atRet En Post) $
+        qed W (Before (‵ (froom R′.mir l₆ 0))) ∵ exec ! C Λ En mirs.t-2 (atRet En Post) $
         move ! (17 ∷ 16 ∷ []) $ use1 W (‵ slices ⊛ ‵ slices) (twice 𝓤 H A W κₙ κₛ ns ss) $ split ! $ move ! (2 ∷ 1 ∷ []) $ use2 W (raw (Answer 𝓤 H A mem run .pre (to-answer (length ys)))) (asks-answer (length ys) (room .0)) $
-        -- [pre; slices; rows; _6; _7; _8; _9; _10; _11; _1; _2; _3; _4; _5; _0; …]
-        calls-at ! fm (Answer 𝓤 H A mem run) known-answer (to-answer (length ys)) (and-then ! (load ! (from ! (stop !)) (look ! 10 refl)) (and-then ! (load ! (from ! (stop !)) (look ! 11 refl)) (and-then ! (load ! (from ! (stop !)) (look ! 12 refl)) (no-more !)))) (λ u.
-        use1 W (later (some (λ (r : BoardReply). (tokens ⊛ ‵ (R.the-row .own r (u ∷ []))) ⊛ raw (ensured 𝓤 H A answer.ended (answer.clauses 𝓤 H A mem run) (κₙ, (κₛ, tt)) (ns, (ss, (length ys, tt))) tt r)))) (id⊢ 𝓤 _) $ await ! tt $ pick ! (λ r.
+        -- [pre; slices; rows; _7; _8; _9; _10; _11; _12; _2; _3; _4; _5; _6; _0; …]
+        calls-at ! fm (Answer 𝓤 H A mem run) known-answer (to-answer (length ys)) (and-then ! (load ! (from ! (stop !)) (look ! 31 refl)) (and-then ! (load ! (from ! (stop !)) (look ! 10 refl)) (and-then ! (load ! (from ! (stop !)) (look ! 11 refl)) (and-then ! (load ! (from ! (stop !)) (look ! 12 refl)) (no-more !))))) (λ u.
+        use1 W (later (some (λ (r : BoardReply). (tokens ⊛ ‵ (R.the-row .own r (u ∷ []))) ⊛ raw (ensured 𝓤 H A answer.ended (answer.clauses 𝓤 H A mem run) (κₙ, (κₛ, tt)) (sheet, (ns, (ss, (length ys, tt)))) tt r)))) (id⊢ 𝓤 _) $ await ! tt $ pick ! (λ r.
         split ! $ move ! (1 ∷ []) $ use1 W (raw (fact 𝓤 (meansBoard r ≡ answerFor both (length ys)))) (said-answer (length ys) r) $ heard ! (meansBoard r ≡ answerFor both (length ys)) (λ answered. split ! $ move ! (1 ∷ []) $
         peeks ! R.the-row (Is R.the-row) (shows 𝓤 H A R.the-row) r (u ∷ []) (λ is.
-        -- [the reply's own; tokens; slices; rows; _6; _7; _8; _9; _10; _11; _1; _2; _3; _4; _5; _0; the borrow; …]
+        -- [the reply's own; tokens; slices; rows; _7; _8; _9; _10; _11; _12; _2; _3; _4; _5; _6; _0; the borrow; …]
         land ! (from ! (stop !)) (init ! 14 refl (EL.lawful R.the-type R′.the-laws 𝓤 H A W tt .typed r _ is .0)) $
-        keep ! (0 ∷ 3 ∷ 4 ∷ 5 ∷ 6 ∷ 7 ∷ 8 ∷ 9 ∷ 10 ∷ 11 ∷ 12 ∷ 13 ∷ 14 ∷ 15 ∷ 16 ∷ 17 ∷ 18 ∷ 1 ∷ 2 ∷ 19 ∷ 20 ∷ 21 ∷ 22 ∷ 23 ∷ 24 ∷ 25 ∷ 26 ∷ 27 ∷ 28 ∷ 29 ∷ 30 ∷ []) $ by ! (counts r u is answered)))))
+        keep ! (0 ∷ 3 ∷ 4 ∷ 5 ∷ 6 ∷ 7 ∷ 8 ∷ 9 ∷ 10 ∷ 11 ∷ 12 ∷ 13 ∷ 14 ∷ 15 ∷ 16 ∷ 17 ∷ 18 ∷ 1 ∷ 2 ∷ 19 ∷ 20 ∷ 21 ∷ 22 ∷ 23 ∷ 24 ∷ 25 ∷ 26 ∷ 27 ∷ 28 ∷ 29 ∷ 30 ∷ 31 ∷ 32 ∷ []) $ by ! (counts r u is answered)))))
 
     -- on entry, with the parameters stored
     abbrev Entered : List (Item 𝓤)
     Entered =
-        ‵ (owns (MutSlice (named 0) κ T.the-row ∷ ShrSlice (named 1) κₙ u32 ∷ ShrSlice (named 2) κₛ u32 ∷ []) (lentAs ys) vals) ∷ (‵ (flft κ q) ⊛ tokens)
-        ∷ ‵ (froom word l₆ 0) ∷ ‵ (froom (tyInt w32) l₇ 0) ∷ ‵ (froom T′.mir l₈ 0) ∷ ‵ (froom tyBool l₉ 0) ∷ ‵ (froom word l₁₀ 0) ∷ ‵ (froom tyPtr l₁₁ 0)
-        ∷ ‵ (fat fullShare rowsSlice l₁ 0 rowsVal) ∷ ‵ (fat fullShare nodesSlice l₂ 0 nodesVal) ∷ ‵ (fat fullShare seatsSlice l₃ 0 seatsVal) ∷ ‵ (froom word l₄ 0) ∷ ‵ (froom R′.mir l₅ 0) ∷ ‵ (froom R′.mir l₀ 0) ∷ Dying
+        ‵ (owns (MutSlice (named 0) κ T.the-row ∷ ShrSlice (named 1) κₙ u32 ∷ ShrSlice (named 2) κₛ u32 ∷ []) (lentAs ys .1) (vals .1)) ∷ (‵ (flft κ q) ⊛ tokens)
+        ∷ ‵ (froom word l₇ 0) ∷ ‵ (froom (tyInt w32) l₈ 0) ∷ ‵ (froom T′.mir l₉ 0) ∷ ‵ (froom tyBool l₁₀ 0) ∷ ‵ (froom word l₁₁ 0) ∷ ‵ (froom tyPtr l₁₂ 0)
+        ∷ ‵ (fat fullShare rowsSlice l₂ 0 rowsVal) ∷ ‵ (fat fullShare nodesSlice l₃ 0 nodesVal) ∷ ‵ (fat fullShare seatsSlice l₄ 0 seatsVal) ∷ ‵ (froom word l₅ 0) ∷ ‵ (froom R′.mir l₆ 0) ∷ ‵ (froom R′.mir l₀ 0) ∷ Dying
 
     -- the length is read and the borrow is opened
     begins : ent 𝓤 (⋆ 𝓤 H A Entered) (Wp 𝓤 H C Λ En mirs.t-1 (atReturn 𝓤 H En Post))
@@ -357,48 +358,49 @@ module _ {M : Type 1} (𝓤 : URA M) (H : Heap 𝓤) (A : Atoms 𝓤) (W : Given
         qed W Entered ∵ exec ! C Λ En mirs.t-1 (atRet En Post) $
         assigns ! (of-opd ! (load ! (from ! (fld ! refl (stop !))) (look-in ! 8 (sub ! 1 refl (whole !))))) (from ! (stop !)) (init ! 11 refl (tt, record { fits = room .0 })) $
         fsplit ! $ fsplit ! $ move ! (1 ∷ []) $ fsplit ! $ move ! (4 ∷ []) $ split ! $ move ! (2 ∷ 3 ∷ 0 ∷ []) $ opens-slice ! tt T.the-row ys b o $
-        -- [rows; the open borrow; obs; auth; tokens; the slice's fact; slices; _6; _7; _8; _9; _10; _11; _1; _2; _3; _4; _5; _0; …]
-        keep ! (0 ∷ 7 ∷ 8 ∷ 9 ∷ 10 ∷ 11 ∷ 12 ∷ 13 ∷ 14 ∷ 15 ∷ 16 ∷ 17 ∷ 18 ∷ 1 ∷ 2 ∷ 3 ∷ 4 ∷ 6 ∷ 19 ∷ 20 ∷ 21 ∷ 22 ∷ 23 ∷ 24 ∷ 25 ∷ 26 ∷ 27 ∷ 28 ∷ 29 ∷ 30 ∷ []) $ by ! answers
+        -- [rows; the open borrow; obs; auth; tokens; the slice's fact; slices; _7; _8; _9; _10; _11; _12; _2; _3; _4; _5; _6; _0; …]
+        keep ! (0 ∷ 7 ∷ 8 ∷ 9 ∷ 10 ∷ 11 ∷ 12 ∷ 13 ∷ 14 ∷ 15 ∷ 16 ∷ 17 ∷ 18 ∷ 1 ∷ 2 ∷ 3 ∷ 4 ∷ 6 ∷ 19 ∷ 20 ∷ 21 ∷ 22 ∷ 23 ∷ 24 ∷ 25 ∷ 26 ∷ 27 ∷ 28 ∷ 29 ∷ 30 ∷ 31 ∷ 32 ∷ []) $ by ! answers
 
   module _ (𝓣 : Tables 𝓤 H) (known-answer : Triple 𝓤 (𝓣 .C #rows·answer) (Answer 𝓤 H A mem run)) (known-rows : Triple 𝓤 (𝓣 .C #rows·rows-in) (RowsIn 𝓤 H A mem run))
       (known-last : Triple 𝓤 (𝓣 .C #rows·last-row) (LastRow 𝓤 H A mem run)) (room : Room T.the-row (length ys)) (roomNodes : Room u32 (length (ns .now))) (roomSeats : Room u32 (length (ss .now))) where
     -- what runs once the locals are there
     abbrev Then : Env 𝓤 H → Goal 𝓤 H
-    Then E = params′ E (rowsVal ∷ nodesVal ∷ seatsVal ∷ []) (runs (𝓣 .C) (𝓣 .Λ) E (code.function .body) (atRet E Post))
+    Then E = params′ E (vbool sheet ∷ rowsVal ∷ nodesVal ∷ seatsVal ∷ []) (runs (𝓣 .C) (𝓣 .Λ) E (code.function .body) (atRet E Post))
 
     -- a lemma of its own: the kernel's check of `walk` with it inside takes more steps than it may
-    stores : (l₀ l₁ l₂ l₃ l₄ l₅ l₆ l₇ l₈ l₉ l₁₀ l₁₁ : ℕ)
-        → Sq W (‵ (froom tyPtr l₁₁ 0) ∷ ‵ (fdies tyPtr l₁₁) ∷ ‵ (froom word l₁₀ 0) ∷ ‵ (fdies word l₁₀) ∷ ‵ (froom tyBool l₉ 0) ∷ ‵ (fdies tyBool l₉) ∷ ‵ (froom T′.mir l₈ 0) ∷ ‵ (fdies T′.mir l₈) ∷ ‵ (froom (tyInt w32) l₇ 0) ∷ ‵ (fdies (tyInt w32) l₇) ∷ ‵ (froom word l₆ 0) ∷ ‵ (fdies word l₆)
-        ∷ ‵ (froom R′.mir l₅ 0) ∷ ‵ (fdies R′.mir l₅) ∷ ‵ (froom word l₄ 0) ∷ ‵ (fdies word l₄) ∷ ‵ (froom seatsSlice l₃ 0) ∷ ‵ (fdies seatsSlice l₃) ∷ ‵ (froom nodesSlice l₂ 0) ∷ ‵ (fdies nodesSlice l₂) ∷ ‵ (froom rowsSlice l₁ 0) ∷ ‵ (fdies rowsSlice l₁) ∷ ‵ (froom R′.mir l₀ 0) ∷ ‵ (fdies R′.mir l₀)
-        ∷ (‵ (flft κ q) ⊛ tokens) ∷ ‵ (owns (MutSlice (named 0) κ T.the-row ∷ ShrSlice (named 1) κₙ u32 ∷ ShrSlice (named 2) κₛ u32 ∷ []) (lentAs ys) vals) ∷ [])
-        (Then (En 𝓣 known-answer known-rows known-last room l₀ l₁ l₂ l₃ l₄ l₅ l₆ l₇ l₈ l₉ l₁₀ l₁₁))
-    stores l₀ l₁ l₂ l₃ l₄ l₅ l₆ l₇ l₈ l₉ l₁₀ l₁₁ =
+    stores : (l₀ l₁ l₂ l₃ l₄ l₅ l₆ l₇ l₈ l₉ l₁₀ l₁₁ l₁₂ : ℕ)
+        → Sq W (‵ (froom tyPtr l₁₂ 0) ∷ ‵ (fdies tyPtr l₁₂) ∷ ‵ (froom word l₁₁ 0) ∷ ‵ (fdies word l₁₁) ∷ ‵ (froom tyBool l₁₀ 0) ∷ ‵ (fdies tyBool l₁₀) ∷ ‵ (froom T′.mir l₉ 0) ∷ ‵ (fdies T′.mir l₉) ∷ ‵ (froom (tyInt w32) l₈ 0) ∷ ‵ (fdies (tyInt w32) l₈) ∷ ‵ (froom word l₇ 0) ∷ ‵ (fdies word l₇)
+        ∷ ‵ (froom R′.mir l₆ 0) ∷ ‵ (fdies R′.mir l₆) ∷ ‵ (froom word l₅ 0) ∷ ‵ (fdies word l₅) ∷ ‵ (froom seatsSlice l₄ 0) ∷ ‵ (fdies seatsSlice l₄) ∷ ‵ (froom nodesSlice l₃ 0) ∷ ‵ (fdies nodesSlice l₃) ∷ ‵ (froom rowsSlice l₂ 0) ∷ ‵ (fdies rowsSlice l₂) ∷ ‵ (froom tyBool l₁ 0) ∷ ‵ (fdies tyBool l₁) ∷ ‵ (froom R′.mir l₀ 0) ∷ ‵ (fdies R′.mir l₀)
+        ∷ (‵ (flft κ q) ⊛ tokens) ∷ ‵ (owns (MutSlice (named 0) κ T.the-row ∷ ShrSlice (named 1) κₙ u32 ∷ ShrSlice (named 2) κₛ u32 ∷ []) (lentAs ys .1) (vals .1)) ∷ [])
+        (Then (En 𝓣 known-answer known-rows known-last room l₀ l₁ l₂ l₃ l₄ l₅ l₆ l₇ l₈ l₉ l₁₀ l₁₁ l₁₂))
+    stores l₀ l₁ l₂ l₃ l₄ l₅ l₆ l₇ l₈ l₉ l₁₀ l₁₁ l₁₂ =
         params1 ! $
-        pass1 ! (init ! 20 refl (tt, (tt, (record { fits = room .0 }, tt)))) $ pass1 ! (init ! 18 refl (tt, (tt, (record { fits = roomNodes .0 }, tt)))) $ pass1 ! (init ! 16 refl (tt, (tt, (record { fits = roomSeats .0 }, tt)))) $ pass0 ! $
-        keep ! (25 ∷ 24 ∷ 10 ∷ 8 ∷ 6 ∷ 4 ∷ 2 ∷ 0 ∷ 20 ∷ 18 ∷ 16 ∷ 14 ∷ 12 ∷ 22 ∷ 23 ∷ 21 ∷ 19 ∷ 17 ∷ 15 ∷ 13 ∷ 11 ∷ 9 ∷ 7 ∷ 5 ∷ 3 ∷ 1 ∷ []) $
-        by ! (begins 𝓣 known-answer known-rows known-last room l₀ l₁ l₂ l₃ l₄ l₅ l₆ l₇ l₈ l₉ l₁₀ l₁₁)
+        pass1 ! (init ! 22 refl (tt, tt)) $ pass1 ! (init ! 20 refl (tt, (tt, (record { fits = room .0 }, tt)))) $ pass1 ! (init ! 18 refl (tt, (tt, (record { fits = roomNodes .0 }, tt)))) $ pass1 ! (init ! 16 refl (tt, (tt, (record { fits = roomSeats .0 }, tt)))) $ pass0 ! $
+        keep ! (27 ∷ 26 ∷ 10 ∷ 8 ∷ 6 ∷ 4 ∷ 2 ∷ 0 ∷ 20 ∷ 18 ∷ 16 ∷ 14 ∷ 12 ∷ 24 ∷ 25 ∷ 21 ∷ 19 ∷ 17 ∷ 15 ∷ 13 ∷ 11 ∷ 9 ∷ 7 ∷ 5 ∷ 3 ∷ 1 ∷ 23 ∷ 22 ∷ []) $
+        by ! (begins 𝓣 known-answer known-rows known-last room l₀ l₁ l₂ l₃ l₄ l₅ l₆ l₇ l₈ l₉ l₁₀ l₁₁ l₁₂)
 
-    walk : ent 𝓤 (onEntry 𝓤 H A show′.signature (κ, (κₙ, (κₛ, tt))) (q, (qₙ, (qₛ, tt))) (lentAs ys) vals) (WpFn 𝓤 H (𝓣 .C) (𝓣 .Λ) code.function (rowsVal ∷ nodesVal ∷ seatsVal ∷ []) Post)
+    walk : ent 𝓤 (onEntry 𝓤 H A show′.signature (κ, (κₙ, (κₛ, tt))) (q, (qₙ, (qₛ, tt))) (lentAs ys) vals) (WpFn 𝓤 H (𝓣 .C) (𝓣 .Λ) code.function (vbool sheet ∷ rowsVal ∷ nodesVal ∷ seatsVal ∷ []) Post)
     walk =
-        qed W ((‵ (flft κ q) ⊛ tokens) ∷ ‵ (owns (MutSlice (named 0) κ T.the-row ∷ ShrSlice (named 1) κₙ u32 ∷ ShrSlice (named 2) κₛ u32 ∷ []) (lentAs ys) vals) ∷ []) ∵
-        enter ! (𝓣 .C) (𝓣 .Λ) code.function (rowsVal ∷ nodesVal ∷ seatsVal ∷ []) _ $
-        alloc1 ! (λ l₀. alloc1 ! (λ l₁. alloc1 ! (λ l₂. alloc1 ! (λ l₃. alloc1 ! (λ l₄. alloc1 ! (λ l₅. alloc1 ! (λ l₆. alloc1 ! (λ l₇. alloc1 ! (λ l₈. alloc1 ! (λ l₉. alloc1 ! (λ l₁₀. alloc1 ! (λ l₁₁. alloc0 ! $
-        stores l₀ l₁ l₂ l₃ l₄ l₅ l₆ l₇ l₈ l₉ l₁₀ l₁₁))))))))))))
+        qed W ((‵ (flft κ q) ⊛ tokens) ∷ ‵ (owns (bool ∷ MutSlice (named 0) κ T.the-row ∷ ShrSlice (named 1) κₙ u32 ∷ ShrSlice (named 2) κₛ u32 ∷ []) (lentAs ys) vals) ∷ []) ∵
+        move ! (1 ∷ []) $ fsplit ! $ drop ! $ move ! (1 ∷ 0 ∷ []) $
+        enter ! (𝓣 .C) (𝓣 .Λ) code.function (vbool sheet ∷ rowsVal ∷ nodesVal ∷ seatsVal ∷ []) _ $
+        alloc1 ! (λ l₀. alloc1 ! (λ l₁. alloc1 ! (λ l₂. alloc1 ! (λ l₃. alloc1 ! (λ l₄. alloc1 ! (λ l₅. alloc1 ! (λ l₆. alloc1 ! (λ l₇. alloc1 ! (λ l₈. alloc1 ! (λ l₉. alloc1 ! (λ l₁₀. alloc1 ! (λ l₁₁. alloc1 ! (λ l₁₂. alloc0 ! $
+        stores l₀ l₁ l₂ l₃ l₄ l₅ l₆ l₇ l₈ l₉ l₁₀ l₁₁ l₁₂)))))))))))))
 
 module _ {M : Type 1} (𝓤 : URA M) (H : Heap 𝓤) (A : Atoms 𝓤) (W : Given 𝓤 H A) (mem : Memory → SProp 𝓤) (run : Routine → Fun 𝓤) (𝓣 : Tables 𝓤 H)
     (known-answer : Triple 𝓤 (𝓣 .C #rows·answer) (Answer 𝓤 H A mem run)) (known-rows : Triple 𝓤 (𝓣 .C #rows·rows-in) (RowsIn 𝓤 H A mem run))
     (known-last : Triple 𝓤 (𝓣 .C #rows·last-row) (LastRow 𝓤 H A mem run)) where
   show-walks : Walks 𝓤 H A show′.ended stayed (WpFn 𝓤 H (𝓣 .C) (𝓣 .Λ) code.function) (show′.clauses 𝓤 H A mem run)
   show-walks = walked 𝓤 H A show′.ended stayed (show′.clauses 𝓤 H A mem run) (WpFn 𝓤 H (𝓣 .C) (𝓣 .Λ) code.function)
-      (λ κs. (slice-vals, (slice-vals, (slice-vals, tt))))
-      (λ κs. (mut-slice-tells (named 0) (κs .0) T.the-row, (shr-slice-tells (named 1) (κs .1 .0) u32, (shr-slice-tells (named 2) (κs .1 .1 .0) u32, tt))))
+      (λ κs. (bool-vals, (slice-vals, (slice-vals, (slice-vals, tt)))))
+      (λ κs. (bool-tells, (mut-slice-tells (named 0) (κs .0) T.the-row, (shr-slice-tells (named 1) (κs .1 .0) u32, (shr-slice-tells (named 2) (κs .1 .1 .0) u32, tt)))))
       (λ κs qs bounds a g are. via 𝓤 _ (fst∗ 𝓤 _ (emp 𝓤))
-      (walk 𝓤 H A W mem run (κs .0) (κs .1 .0) (κs .1 .1 .0) (qs .0) (qs .1 .0) (qs .1 .1 .0) (a .0 .ptr .0) (a .0 .ptr .1) (a .0 .name) (a .0 .now) (a .1 .0) (a .1 .1 .0)
-      𝓣 known-answer known-rows known-last (are .0 .0 .1) (are .1 .0 .0 .1) (are .1 .1 .0 .0 .1)))
+      (walk 𝓤 H A W mem run (κs .0) (κs .1 .0) (κs .1 .1 .0) (qs .0) (qs .1 .0) (qs .1 .1 .0) (a .0) (a .1 .0 .ptr .0) (a .1 .0 .ptr .1) (a .1 .0 .name) (a .1 .0 .now) (a .1 .1 .0) (a .1 .1 .1 .0)
+      𝓣 known-answer known-rows known-last (are .1 .0 .0 .1) (are .1 .1 .0 .0 .1) (are .1 .1 .1 .0 .0 .1)))
 
   show-meets : Meets 𝓤 H A show′.signature (WpFn 𝓤 H (𝓣 .C) (𝓣 .Λ) code.function) (show′.spec 𝓤 H A mem run)
   show-meets = walk-meets 𝓤 H A show′.ended stayed W
-      (goes-slice 𝓤 H A W 3 0 tt (plain (λ _. T.the-row)), (goes-none-slice 𝓤 H A W 3 (1 ∷ []) tt (plain (λ _. u32)) yes, (goes-none-slice 𝓤 H A W 3 (2 ∷ []) tt (plain (λ _. u32)) yes, tt)))
+      (goes-dropped 𝓤 H A W 3 (plain (λ _. bool)) yes (λ κs x f. refl), (goes-slice 𝓤 H A W 3 0 tt (plain (λ _. T.the-row)), (goes-none-slice 𝓤 H A W 3 (1 ∷ []) tt (plain (λ _. u32)) yes, (goes-none-slice 𝓤 H A W 3 (2 ∷ []) tt (plain (λ _. u32)) yes, tt))))
       (show′.clauses 𝓤 H A mem run) (WpFn 𝓤 H (𝓣 .C) (𝓣 .Λ) code.function) (WpFn-mono 𝓤 H (W .laws) 𝓣 code.function) show-walks
 
 pub show-spec : {M : Type 1} → stated.statement M
