@@ -14,7 +14,7 @@ use native.Mathlib.Omega.{arith}
 use Rattle.rules.specs.Tables.{Tables}
 use Rattle.rules.specs.Answers.{Answer, Done, done}
 use Rattle.rules.specs.FreeCount.{Counted}
-use Rattle.rules.specs.Board.{Shown, shown}
+use Rattle.rules.specs.Board.{Boarded, Shown, shown}
 use Rattle.rules.specs.Means.{means, meansCount, meansBoard}
 use Rattle.rules.specs.declared.Reply.{Reply}
 use Rattle.rules.specs.declared.Reply.the-variants.{Node, Out, On, Wait, Held, Back, Refused}
@@ -25,7 +25,7 @@ use Rattle.rules.specs.declared.BoardReply.the-variants.{Rows, Refused as Board
 use Rattle.rules.specs.declared.Ran.{Ran}
 use Rattle.replies.specs.Codes.{saidOf}
 use Rattle.replies.specs.declared.Said.{Said}
-use Rattle.boundary.specs.Encoded.{Halves, halves, halvesOf, encode, encodeCount, encodeRan, encoded, encodedRun, stepTold, sharedAfter, tellStep, told, tellAnswer, tell, putLine, putTopLine, rowAt, linesAfter, scriptNumbers, readAs, encodeScript}
+use Rattle.boundary.specs.Encoded.{Halves, halves, halvesOf, encode, encodeCount, encodeRan, encoded, encodedRun, stepTold, sharedAfter, tellStep, Told, told, tellAnswer, tell, putLine, putTopLine, rowAt, linesAfter, scriptNumbers, readAs, encodeScript}
 
 -- ---- two halves
 pub joined-is : (a b : ℕ) → b < 4294967296 → halvesOf (4294967296 * a + b) ≡ halves a b
@@ -105,14 +105,26 @@ counted-is d r h p q = rw (p, q)
 pub run-is : (d : Done Ran) (r : Ran) (t : Tables) (h : Halves) → h ≡ encodeRan r → done r t ≡ d → done h t ≡ encodedRun d
 run-is d r t h p q = rw (p, ← q)
 
-module _ (d : Shown ℕ) (r : BoardReply) (rows : List ℕ) (covered : ℕ) (isShown : shown (meansBoard r) rows ≡ d) where
-  pub told-rows : (count frames : ℕ) (h : Halves) → h ≡ halves 1 count → r ≡ Rows count frames → told h frames rows ≡ tell covered d
+module _ (r : BoardReply) (covered : ℕ) where
+  pub told-rows : (count frames : ℕ) (h : Halves) → h ≡ halves 1 count → r ≡ Rows count frames → told h frames [] ≡ tellAnswer covered (meansBoard r) []
   unfolding tellAnswer
-  told-rows count frames h p q = rw (← isShown, q, p)
+  told-rows count frames h p q = rw (q, p)
 
-  pub told-refused : (number : ℕ) (h : Halves) → h ≡ halves 0 number → r ≡ BoardRefused number → told h covered rows ≡ tell covered d
+  pub told-refused : (number : ℕ) (h : Halves) → h ≡ halves 0 number → r ≡ BoardRefused number → told h covered [] ≡ tellAnswer covered (meansBoard r) []
   unfolding tellAnswer
-  told-refused number h p q = rw (← isShown, q, p)
+  told-refused number h p q = rw (q, p)
+
+-- the rows go beside what is told
+tell-beside : (covered : ℕ) (a : Boarded) (rows : List ℕ) → told (tellAnswer covered a [] .number) (tellAnswer covered a [] .covered) rows ≡ tellAnswer covered a rows
+unfolding tellAnswer
+tell-beside covered (Boarded.filled count frames) rows = refl
+tell-beside covered (Boarded.refused number) rows = refl
+
+pub board-told-is : (d : Shown ℕ) (r : BoardReply) (rows : List ℕ) (before after : ℕ) (h : Halves) → told h after [] ≡ tellAnswer before (meansBoard r) [] → shown (meansBoard r) rows ≡ d
+    → told h after rows ≡ tell before d
+board-told-is d r rows before after h e q =
+    rw (← q)
+    (ap (λ (x : Told). told (x .number) (x .covered) rows) e ∙ tell-beside before (meansBoard r) rows)
 
 -- ---- script reading
 lines-more : (l : List ℕ) (rows : List Line) (n : ℕ) → linesAfter (n + 1) l rows ≡ putLine (linesAfter n l rows) (rowAt n) (getD rows n noLine)

@@ -3,7 +3,7 @@
 use Prim.Native.Nat.{ℕ}
 use mathlib.Core.List.{List}
 use mathlib.Core.Path.{_≡_, ap}
-use mathlib.Core.Bool.{false}
+use mathlib.Core.Bool.{true, false}
 use native.Mathlib.Omega.{arith}
 use denote.Ref.{now}
 use Rattle.rules.specs.Tables.{Tables, tables}
@@ -27,6 +27,22 @@ use Rattle.boundary.proofs.soodhiqune_run.Reads as run
 use Rattle.boundary.proofs.soodhiqune_run.Kinds as run-kinds
 use Rattle.boundary.proofs.soodhiqune_board.Reads as board
 use Rattle.boundary.proofs.soodhiqune_board.Kinds as board-kinds
+use Rattle.boundary.proofs.soodhiqune_sheet_clear.Reads as sheet-clear
+use Rattle.boundary.proofs.soodhiqune_sheet_clear.Kinds as sheet-clear-kinds
+use Rattle.boundary.proofs.soodhiqune_sheet_reserve.Reads as sheet-reserve
+use Rattle.boundary.proofs.soodhiqune_sheet_reserve.Kinds as sheet-reserve-kinds
+use Rattle.boundary.proofs.soodhiqune_sheet_enter.Reads as sheet-enter
+use Rattle.boundary.proofs.soodhiqune_sheet_enter.Kinds as sheet-enter-kinds
+use Rattle.boundary.proofs.soodhiqune_sheet_step.Reads as sheet-step
+use Rattle.boundary.proofs.soodhiqune_sheet_step.Kinds as sheet-step-kinds
+use Rattle.boundary.proofs.soodhiqune_sheet_release.Reads as sheet-release
+use Rattle.boundary.proofs.soodhiqune_sheet_release.Kinds as sheet-release-kinds
+use Rattle.boundary.proofs.soodhiqune_sheet_free_count.Reads as sheet-free-count
+use Rattle.boundary.proofs.soodhiqune_sheet_free_count.Kinds as sheet-free-count-kinds
+use Rattle.boundary.proofs.soodhiqune_sheet_run.Reads as sheet-run
+use Rattle.boundary.proofs.soodhiqune_sheet_run.Kinds as sheet-run-kinds
+use Rattle.boundary.proofs.soodhiqune_sheet_board.Reads as sheet-board
+use Rattle.boundary.proofs.soodhiqune_sheet_board.Kinds as sheet-board-kinds
 use Rattle.boundary.proofs.soodhiqune_import.Reads as import-reads
 use Rattle.boundary.proofs.soodhiqune_import.Kinds as import-kinds
 use Rattle.boundary.proofs.soodhiqune_export.Reads as export-reads
@@ -94,6 +110,32 @@ one-run κs args a b s t = one-number _ a b _ _
 pub one-board : Settles board-kinds.ps board-kinds.r {B = List ℕ × ℕ} board.Post (λ κs s. (now (s .1 .1 .0), now (s .1 .1 .1 .0)))
 one-board κs args a b s t = one-board-number _ a b _ _ _ _
 
+-- ---- the same on a writers' sheet
+pub one-sheet-clear : Settles sheet-clear-kinds.ps sheet-clear-kinds.r sheet-clear.Post (λ κs s. tables true (now (s .0)) (now (s .1 .0)))
+one-sheet-clear κs args a b s t = one-result _ a b _ _
+
+pub one-sheet-reserve : Settles sheet-reserve-kinds.ps sheet-reserve-kinds.r sheet-reserve.Post (λ κs s. tables true (now (s .0)) (now (s .1 .0)))
+one-sheet-reserve κs args a b s t = one-number _ a b _ _
+
+pub one-sheet-enter : Settles sheet-enter-kinds.ps sheet-enter-kinds.r sheet-enter.Post (λ κs s. now (s .1 .0))
+one-sheet-enter κs args a b s t p q = let w = one-number _ a b _ _ p q in (w .0, ap (λ (u : Tables). u .seats) (w .1))
+
+pub one-sheet-step : Settles sheet-step-kinds.ps sheet-step-kinds.r {B = Tables × List ℕ} sheet-step.Post (λ κs s. (tables true (now (s .0)) (now (s .1 .0)), now (s .1 .1 .1 .0)))
+one-sheet-step κs args a b s t = one-step-number _ a b _ _ _ _
+
+pub one-sheet-release : Settles sheet-release-kinds.ps sheet-release-kinds.r sheet-release.Post (λ κs s. tables true (now (s .0)) (now (s .1 .0)))
+one-sheet-release κs args a b s t = one-number _ a b _ _
+
+pub one-sheet-free-count : SettlesAnswer sheet-free-count-kinds.ps sheet-free-count-kinds.r sheet-free-count.Post
+one-sheet-free-count κs args a b s t p q = same-halves a b (one-value p q)
+
+pub one-sheet-run : Settles sheet-run-kinds.ps sheet-run-kinds.r sheet-run.Post (λ κs s. tables true (now (s .0)) (now (s .1 .0)))
+one-sheet-run κs args a b s t = one-number _ a b _ _
+
+pub one-sheet-board : Settles sheet-board-kinds.ps sheet-board-kinds.r {B = List ℕ × ℕ} sheet-board.Post (λ κs s. (now (s .1 .1 .0), now (s .1 .1 .1 .0)))
+one-sheet-board κs args a b s t = one-board-number _ a b _ _ _ _
+
+-- ---- the calls on lists and scripts
 -- the list lent for the output
 pub one-import : Settles import-kinds.ps import-kinds.r import-reads.Post (λ κs s. now (s .1 .1 .0))
 one-import κs args a b s t = one-list _ a b _ _

@@ -1,21 +1,23 @@
 // The public calls for C and Rust to link: over numbers and slices alone, each answer encoded as one number, a wait's shared run in two words beside it. A
-// slice crosses as its address and its length, an array as its address. The tables of each call are ordinary ones.
+// slice crosses as its address and its length, an array as its address. The calls on tables stand here twice: on the ordinary ones and, as
+// `soodhiqune_sheet_..`, on a writers' sheet. It is by their names that a caller says which tables it lends.
 ghost use mathlib.Core.Path.{_≡_};
-ghost use mathlib.Core.Bool.{false};
+ghost use mathlib.Core.Bool.{true, false};
+ghost use mathlib.Core.List.{[]};
 ghost use Prim.Native.Nat.{_+_, _≤_};
 ghost use lib.ListN.{length, take, drop};
 ghost use Rattle.rules.specs.Script.{readScript};
 ghost use Rattle.rules.specs.Tables.{tables};
 ghost use Rattle.rules.specs.Comparison.{claim};
 ghost use Rattle.rules.specs.Answers.{done};
-ghost use Rattle.rules.specs.Means.{means, meansCount};
+ghost use Rattle.rules.specs.Means.{means, meansCount, meansBoard};
 ghost use Rattle.rules.specs.Calls as call;
 ghost use Rattle.rules.specs.FreeCount.{freeCount};
 ghost use Rattle.rules.specs.Run as running;
 ghost use Rattle.rules.specs.Board.{boardNumbers};
 ghost use Rattle.rules.specs.Locks.{listed, importLocks, exportClaims};
 ghost use Rattle.rules.specs.Play.{play as Play·play};
-ghost use Rattle.boundary.specs.Encoded.{halves, halvesOf, encode, encodeCount, encoded, encodedRun, stepTold, sharedAfter, tellStep, told, tell, putLine, linesAfter, scriptNumbers, readAs, encodeScript};
+ghost use Rattle.boundary.specs.Encoded.{halves, halvesOf, encode, encodeCount, encoded, encodedRun, stepTold, sharedAfter, tellStep, told, tellAnswer, tell, putLine, linesAfter, scriptNumbers, readAs, encodeScript};
 use rules::BoardReply;
 use rules::CountReply;
 use rules::Line;
@@ -61,7 +63,20 @@ fn number_of_count(reply: CountReply) -> u64
     }
 }
 
-// ---- the calls
+// the board's number; the word for the covered frames is stored where it is not refused
+fn tell_board(reply: BoardReply, covered: &mut u64) -> u64
+    ensures { λ r. ⌜ told (halvesOf r) (now (covered .exit)) [] ≡ tellAnswer (now (covered .entry)) (meansBoard reply) [] ⌝ }
+{
+    match reply {
+        BoardReply::Rows(count, frames) => {
+            *covered = frames;
+            joined(1, count)
+        }
+        BoardReply::Refused(number) => joined(0, number),
+    }
+}
+
+// ---- the calls on the ordinary tables
 
 #[no_mangle]
 pub extern "C" fn soodhiqune_clear(nodes: &mut [u32], seats: &mut [u32], title: u32) -> u64
@@ -147,13 +162,96 @@ pub extern "C" fn soodhiqune_board(
     ensures { λ r. ⌜ told (halvesOf r) (now (covered .exit)) (now (rows .exit)) ≡ tell (now (covered .entry)) (boardNumbers (tables false (now (nodes .entry)) (now (seats .entry))) (now (rows .entry))) ⌝ }
 {
     let reply = board::board(false, nodes, seats, rows);
-    match reply {
-        BoardReply::Rows(count, frames) => {
-            *covered = frames;
-            joined(1, count)
-        }
-        BoardReply::Refused(number) => joined(0, number),
-    }
+    tell_board(reply, covered)
+}
+
+// ---- the same on a writers' sheet
+
+#[no_mangle]
+pub extern "C" fn soodhiqune_sheet_clear(nodes: &mut [u32], seats: &mut [u32], title: u32) -> u64
+    ensures { λ r. ⌜ done r (tables true (now (nodes .exit)) (now (seats .exit))) ≡ call.clear (tables true (now (nodes .entry)) (now (seats .entry))) title ⌝ }
+{
+    let number = claims::clear(true, nodes, seats, title);
+    number as u64
+}
+
+#[no_mangle]
+pub extern "C" fn soodhiqune_sheet_reserve(
+    nodes: &mut [u32],
+    seats: &mut [u32],
+    seat: u32,
+    start: u32,
+    end: u32,
+    kind: u32,
+) -> u64
+    ensures { λ r. ⌜ done (halvesOf r) (tables true (now (nodes .exit)) (now (seats .exit))) ≡ encoded (call.reserve (tables true (now (nodes .entry)) (now (seats .entry))) seat (claim start end kind)) ⌝ }
+{
+    let reply = claims::reserve(true, nodes, seats, seat, start, end, kind);
+    number_of(reply)
+}
+
+#[no_mangle]
+pub extern "C" fn soodhiqune_sheet_enter(nodes: &[u32], seats: &mut [u32], seat: u32) -> u64
+    ensures { λ r. ⌜ done (halvesOf r) (tables true (now (nodes .entry)) (now (seats .exit))) ≡ encoded (call.enter (tables true (now (nodes .entry)) (now (seats .entry))) seat) ⌝ }
+{
+    let reply = claims::enter(true, nodes, seats, seat);
+    number_of(reply)
+}
+
+#[no_mangle]
+pub extern "C" fn soodhiqune_sheet_step(
+    nodes: &mut [u32],
+    seats: &mut [u32],
+    seat: u32,
+    shared: &mut [u32; 2],
+) -> u64
+    ensures { λ r. ⌜ stepTold (halvesOf r) (now (shared .exit)) (tables true (now (nodes .exit)) (now (seats .exit))) ≡ tellStep (now (shared .entry)) (call.step (tables true (now (nodes .entry)) (now (seats .entry))) seat) ⌝ }
+{
+    let reply = claims::step(true, nodes, seats, seat);
+    put_shared(shared, reply);
+    number_of(reply)
+}
+
+#[no_mangle]
+pub extern "C" fn soodhiqune_sheet_release(nodes: &mut [u32], seats: &mut [u32], seat: u32) -> u64
+    ensures { λ r. ⌜ done (halvesOf r) (tables true (now (nodes .exit)) (now (seats .exit))) ≡ encoded (call.release (tables true (now (nodes .entry)) (now (seats .entry))) seat) ⌝ }
+{
+    let reply = claims::release(true, nodes, seats, seat);
+    number_of(reply)
+}
+
+#[no_mangle]
+pub extern "C" fn soodhiqune_sheet_free_count(nodes: &[u32], seats: &[u32]) -> u64
+    ensures { λ r. ⌜ halvesOf r ≡ encodeCount (freeCount (tables true (now (nodes .entry)) (now (seats .entry)))) ⌝ }
+{
+    let reply = claims::free_count(true, nodes, seats);
+    number_of_count(reply)
+}
+
+#[no_mangle]
+pub extern "C" fn soodhiqune_sheet_run(
+    nodes: &mut [u32],
+    seats: &mut [u32],
+    schedule: &[u32],
+    budget: u32,
+) -> u64
+    ensures { λ r. ⌜ done (halvesOf r) (tables true (now (nodes .exit)) (now (seats .exit))) ≡ encodedRun (running.run (tables true (now (nodes .entry)) (now (seats .entry))) (now (schedule .entry)) budget) ⌝ }
+{
+    let ran = run::run(true, nodes, seats, schedule, budget);
+    joined(ran.refusal, ran.steps)
+}
+
+#[no_mangle]
+pub extern "C" fn soodhiqune_sheet_board(
+    nodes: &[u32],
+    seats: &[u32],
+    rows: &mut [u32],
+    covered: &mut u64,
+) -> u64
+    ensures { λ r. ⌜ told (halvesOf r) (now (covered .exit)) (now (rows .exit)) ≡ tell (now (covered .entry)) (boardNumbers (tables true (now (nodes .entry)) (now (seats .entry))) (now (rows .entry))) ⌝ }
+{
+    let reply = board::board(true, nodes, seats, rows);
+    tell_board(reply, covered)
 }
 
 // ---- locks of the archive's file system, three numbers to a record. The place of a refused record is handed back by value, beside the refusal, so that

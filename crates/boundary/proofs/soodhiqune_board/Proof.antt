@@ -1,5 +1,5 @@
 -- `boundary::soodhiqune_board` meets its promise.
-use Rattle.boundary.proofs.Codes.{told-rows, told-refused}
+use Rattle.boundary.proofs.Codes.{board-told-is}
 use borrow.Author.Needs.{needs}
 use Rattle.boundary.proofs.soodhiqune_board.Statement.{statement}
 use Rattle.boundary.proofs.soodhiqune_board.Tie as tie
@@ -7,40 +7,14 @@ use Rattle.boundary.proofs.soodhiqune_board.Tie as tie
 board-requires : tie.Need-board-requires
 board-requires c κs = search needs
 
-enum-known-reply : tie.Need-enum-known-reply
-enum-known-reply c = search needs
-
-joined-requires : tie.Need-joined-requires
-joined-requires c κs = search needs
-
-enum-known-reply-2 : tie.Need-enum-known-reply-2
-enum-known-reply-2 c = search needs
-
-joined-requires-2 : tie.Need-joined-requires-2
-joined-requires-2 c κs = search needs
+tell-board-requires : tie.Need-tell-board-requires
+tell-board-requires c κs = search needs
 
 same-length : tie.Need-same-length
 same-length c = search needs
 
 returns : tie.Need-returns
-returns c = search told-rows
-
-same-length-2 : tie.Need-same-length-2
-same-length-2 c = search needs
-
-returns-2 : tie.Need-returns-2
-returns-2 c = search told-refused
+returns c = search board-told-is
 
 pub soodhiqune-board-spec : {M : Type 1} → statement M
-soodhiqune-board-spec =
-    tie.close
-    (tie.spec
-    board-requires
-    enum-known-reply
-    joined-requires
-    enum-known-reply-2
-    joined-requires-2
-    same-length
-    returns
-    same-length-2
-    returns-2)
+soodhiqune-board-spec = tie.close (tie.spec board-requires tell-board-requires same-length returns)

@@ -1,0 +1,24 @@
+-- `boundary::soodhiqune_sheet_run` meets its promise.
+use Rattle.boundary.proofs.Codes.{run-is}
+use borrow.Author.Needs.{needs}
+use Rattle.boundary.proofs.soodhiqune_sheet_run.Statement.{statement}
+use Rattle.boundary.proofs.soodhiqune_sheet_run.Tie as tie
+
+run-requires : tie.Need-run-requires
+run-requires c κs = search needs
+
+joined-requires : tie.Need-joined-requires
+joined-requires c κs = search needs
+
+same-length : tie.Need-same-length
+same-length c = search needs
+
+same-length-2 : tie.Need-same-length-2
+same-length-2 c = search needs
+
+returns : tie.Need-returns
+returns c = search run-is
+
+pub soodhiqune-sheet-run-spec : {M : Type 1} → statement M
+soodhiqune-sheet-run-spec =
+    tie.close (tie.spec run-requires joined-requires same-length same-length-2 returns)
