@@ -1,5 +1,5 @@
 -- The demands, of the library: what is proved of the rules, of the library's own promises. The words are those of Made and of the rules'
--- specs/Refusing.antt, Apart.antt, Shared.antt, Cause.antt, Covered.antt, HowMany.antt, Title.antt, Archive.antt and Reserved.antt; each proof cites what stands at the
+-- specs/Refusing.antt, Apart.antt, Shared.antt, Cause.antt, Covered.antt, HowMany.antt, Title.antt, Archive.antt, Reserved.antt and Sheets.antt; each proof cites what stands at the
 -- door of the rules' proofs.
 use Prim.Native.Nat.{ℕ, _+_, _*_, _/_, _≤_}
 use mathlib.Core.Path.{_≡_, sym, ap, _∙_}
@@ -8,11 +8,11 @@ use mathlib.Core.List.{List, _++_}
 use mathlib.Core.Logic.{_≢_, _⊎_}
 use lib.IntN.{ℤ}
 use lib.ListN.{length, take, drop, replicate}
-use Rattle.rules.specs.Tables.{Tables, readers, writers, title, start, phase, own, cur}
+use Rattle.rules.specs.Tables.{Tables, readers, writers, title, start, kind, phase, own, cur}
 use Rattle.rules.specs.Comparison.{Claim, claimOf}
 use Rattle.rules.specs.Shape.{sound}
 use Rattle.rules.specs.Reach.{listOf}
-use Rattle.rules.specs.Answers.{Answer, node, on, wait, refused, Done, done}
+use Rattle.rules.specs.Answers.{Answer, node, on, wait, back as sent-back, refused, Done, done}
 use Rattle.rules.specs.FreeCount.{Counted}
 use Rattle.rules.specs.Board.{Boarded, Shown, rowWidth, holders, coveredBy}
 use Rattle.rules.specs.Play.{Call, reserveCall, enterCall, stepCall, call, seatOf}
@@ -28,6 +28,7 @@ use Rattle.rules.specs.HowMany.{CountsRight, CountsMove}
 use Rattle.rules.specs.Title.{AllWithin, perCent}
 use Rattle.rules.specs.Archive.{SameFrames, Pairwise, recordNumbers}
 use Rattle.rules.specs.Reserved.{HasReserved, HasEntered}
+use Rattle.rules.specs.Sheets.{OnSheet, SheetPhase, SheetKind, WaitsAtHolder, SheetSettled, SheetTold}
 use Rattle.rules.specs.declared.Moved.{Moved}
 use Rattle.rules.specs.declared.Ran.{Ran}
 use Rattle.rules.proofs.Refusing as refusing
@@ -39,6 +40,7 @@ use Rattle.rules.proofs.HowMany as many
 use Rattle.rules.proofs.Title as titled
 use Rattle.rules.proofs.Archive as archive
 use Rattle.rules.proofs.Reserved as kept
+use Rattle.rules.proofs.Sheets as sheets
 use Rattle.demands.proofs.Made.{ClearMade, CallMade, RunMade, CountMade, BoardMade, ImportMade, ExportMade, RequestsMade, StepsMade, Lent}
 use Rattle.demands.proofs.MadeByRules.{made-clear, made-accepted, made-call, made-run, made-count, made-board, made-import, made-export, made-requests, made-steps, count-not-1, board-not-1, board-accepted, lent-reached}
 
@@ -209,6 +211,17 @@ pub may-enter : {t u : Tables} {s : ℕ} {a : Answer} → sound t ≡ true → p
 unfolding call
 may-enter {t} {s = s} e p m = ap (λ (x : Done Answer). x .answer) (made-call m) ∙ kept.may-enter t s e p
 
+-- ---- writers' sheets, of any tables: no call makes a sheet of ordinary tables or the other way round, and no step of a sheet is refused 8, nor is a run
+pub profile-stays : {t u : Tables} {requests : List Request} → RequestsMade t requests u → u .sheet ≡ t .sheet
+profile-stays {t} {requests = requests} m = rw (made-requests m) (sheets.requests-keep-profile t requests)
+
+pub sheet-never-8 : {t u : Tables} {s : ℕ} {a : Answer} → OnSheet t → CallMade t (stepCall s) a u → a ≢ refused 8
+unfolding call
+sheet-never-8 {t} {s = s} q m = rw (ap (λ (x : Done Answer). x .answer) (made-call m)) (sheets.step-never-8 t s q)
+
+pub sheet-run-never-8 : {t u : Tables} {schedule : List ℕ} {budget : ℕ} {r : Ran} → OnSheet t → RunMade t schedule budget r u → r .refusal ≢ 8
+sheet-run-never-8 {t} {schedule = schedule} {budget} q m = rw (ap (λ (x : Done Ran). x .answer) (made-run m)) (sheets.run-never-8 t schedule budget q)
+
 -- ---- demand 2, of tables that the library cleared and that only its calls have changed since
 module _ {N S : ℕ} {t : Tables} (l : Lent N S t) where
   -- two holders share a frame only if both read
@@ -294,3 +307,52 @@ module _ {N S : ℕ} {t : Tables} (l : Lent N S t) where
   -- so does one run of as many entries of the seat, with a budget as large
   pub run-settles : (s : ℕ) → phase t s ≢ 0 → {budget : ℕ} {r : Ran} {u : Tables} → 6 * N + 10 ≤ budget → RunMade t (replicate (6 * N + 10) s) budget r u → Settled u s
   run-settles s d {budget} h m = rw (ap (λ (d : Done Ran). d .after) (made-run m)) (cause.run-settles (lent-reached l) s d budget h)
+
+-- ---- writers' sheets that the library cleared and that only its calls have changed since
+module _ {N S : ℕ} {t : Tables} (l : Lent N S t) (q : OnSheet t) where
+  -- two holders share no frame, so covered is the sum over the rows
+  pub sheet-holders-apart : (i j frame : ℕ) → i ≢ j → Holds t i → Holds t j → Covers (claimOfSeat t i) frame → Covers (claimOfSeat t j) frame → ⊥
+  sheet-holders-apart = sheets.apart (lent-reached l) q
+
+  pub sheet-covered : {rows after : List ℕ} {n covered : ℕ} → BoardMade t rows (Boarded.filled n covered) after → covered ≡ addedUp (holders t)
+  sheet-covered m = board-covers m .1 ∙ sheets.covered-is-the-sum (lent-reached l) q
+
+  -- only its phases and kinds are there, and whoever is linked in holds
+  pub sheet-phases : (s : ℕ) → SheetPhase (phase t s)
+  sheet-phases = sheets.always-in-these-phases (lent-reached l) q
+
+  pub sheet-kinds : (a : ℕ) → SheetKind (kind t a)
+  sheet-kinds = sheets.always-of-these-kinds (lent-reached l) q
+
+  pub sheet-linked-holds : (s : ℕ) → LinkedIn t s → Holds t s
+  sheet-linked-holds = sheets.linked-holds (lent-reached l) q
+
+  -- nobody is sent back, and whoever waits waits at a holder
+  pub sheet-never-back : {s : ℕ} {a : Answer} {u : Tables} → CallMade t (stepCall s) a u → a ≢ sent-back
+  unfolding call
+  sheet-never-back {s} m = rw (ap (λ (x : Done Answer). x .answer) (made-call m)) (sheets.step-never-back (lent-reached l) q s)
+
+  pub sheet-waits-at-holder : (s n first end : ℕ) {u : Tables} → CallMade t (stepCall s) (wait n first end) u → WaitsAtHolder u s n first end
+  unfolding call
+  sheet-waits-at-holder s n first end m =
+      let e = made-call m in
+      rw (ap (λ (d : Done Answer). d .after) e) (sheets.every-wait-is-at-a-holder (lent-reached l) q s n first end (sym (ap (λ (d : Done Answer). d .answer) e)))
+
+  -- 4·N + 8 steps of a seat with a claim settle it, and the last of them tells the worker how
+  pub sheet-settles : (s : ℕ) → phase t s ≢ 0 → {u : Tables} → StepsMade s (4 * N + 8) t u → SheetSettled u s
+  sheet-settles s d m = rw (made-steps m) (sheets.sheet-settles (lent-reached l) q s d)
+
+  pub sheet-last-step-tells : (s : ℕ) → phase t s ≢ 0 → {u v : Tables} {a : Answer} → StepsMade s (4 * N + 7) t u → CallMade u (stepCall s) a v → SheetTold s a v
+  unfolding call
+  sheet-last-step-tells s d m last =
+      let e = made-call last in
+      rw (ap (λ (d : Done Answer). d .answer) e, ap (λ (d : Done Answer). d .after) e, made-steps m) (sheets.last-step-tells (lent-reached l) q s d)
+
+  -- so does one run of as many entries of the seat, with a budget as large, and it takes them all
+  pub sheet-run-settles : (s : ℕ) → phase t s ≢ 0 → {budget : ℕ} {r : Ran} {u : Tables} → 4 * N + 8 ≤ budget → RunMade t (replicate (4 * N + 8) s) budget r u
+      → SheetSettled u s × (r ≡ ran (4 * N + 8) 0)
+  sheet-run-settles s d {budget} h m =
+      let e = made-run m in (
+        rw (ap (λ (d : Done Ran). d .after) e) (sheets.run-settles (lent-reached l) q s d budget h),
+        ap (λ (d : Done Ran). d .answer) e ∙ sheets.solo-run-ends (lent-reached l) q s d (4 * N + 8) budget h,
+      )
