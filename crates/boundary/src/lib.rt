@@ -17,7 +17,7 @@ ghost use Rattle.rules.specs.Run as running;
 ghost use Rattle.rules.specs.Board.{boardNumbers};
 ghost use Rattle.rules.specs.Locks.{listed, importLocks, exportClaims};
 ghost use Rattle.rules.specs.Play.{play as Play·play};
-ghost use Rattle.boundary.specs.Encoded.{halves, halvesOf, encode, encodeCount, encoded, encodedRun, stepTold, sharedAfter, tellStep, told, tellAnswer, tell, putLine, linesAfter, scriptNumbers, readAs, encodeScript};
+ghost use Rattle.boundary.specs.Encoded.{halves, halvesOf, encode, encodeCount, encodeRan, encoded, encodedRun, stepTold, sharedAfter, tellStep, told, tellAnswer, tell, putLine, linesAfter, scriptNumbers, readAs, encodeScript};
 use rules::BoardReply;
 use rules::CountReply;
 use rules::Line;
@@ -61,6 +61,12 @@ fn number_of_count(reply: CountReply) -> u64
         CountReply::Refused(number) => joined(0, number),
         CountReply::Count(n) => joined(1, n),
     }
+}
+
+fn number_of_run(ran: Ran) -> u64
+    ensures { λ r. ⌜ halvesOf r ≡ encodeRan ran ⌝ }
+{
+    joined(ran.refusal, ran.steps)
 }
 
 // the board's number; the word for the covered frames is stored where it is not refused
@@ -149,7 +155,7 @@ pub extern "C" fn soodhiqune_run(
     ensures { λ r. ⌜ done (halvesOf r) (tables false (now (nodes .exit)) (now (seats .exit))) ≡ encodedRun (running.run (tables false (now (nodes .entry)) (now (seats .entry))) (now (schedule .entry)) budget) ⌝ }
 {
     let ran = run::run(false, nodes, seats, schedule, budget);
-    joined(ran.refusal, ran.steps)
+    number_of_run(ran)
 }
 
 #[no_mangle]
@@ -238,7 +244,7 @@ pub extern "C" fn soodhiqune_sheet_run(
     ensures { λ r. ⌜ done (halvesOf r) (tables true (now (nodes .exit)) (now (seats .exit))) ≡ encodedRun (running.run (tables true (now (nodes .entry)) (now (seats .entry))) (now (schedule .entry)) budget) ⌝ }
 {
     let ran = run::run(true, nodes, seats, schedule, budget);
-    joined(ran.refusal, ran.steps)
+    number_of_run(ran)
 }
 
 #[no_mangle]
