@@ -28,7 +28,7 @@ use Rattle.rules.specs.HowMany.{CountsRight, CountsMove}
 use Rattle.rules.specs.Title.{AllWithin, perCent}
 use Rattle.rules.specs.Archive.{SameFrames, Pairwise, recordNumbers}
 use Rattle.rules.specs.Reserved.{HasReserved, HasEntered}
-use Rattle.rules.specs.Sheets.{OnSheet, SheetPhase, SheetKind, WaitsAtHolder, SheetSettled, SheetTold}
+use Rattle.rules.specs.Sheets.{OnSheet, SheetPhase, SheetKind, OneAfterTheOther, WaitsAtHolder, SheetSettled, SheetTold}
 use Rattle.rules.specs.declared.Moved.{Moved}
 use Rattle.rules.specs.declared.Ran.{Ran}
 use Rattle.rules.proofs.Refusing as refusing
@@ -310,9 +310,12 @@ module _ {N S : ℕ} {t : Tables} (l : Lent N S t) where
 
 -- ---- writers' sheets that the library cleared and that only its calls have changed since
 module _ {N S : ℕ} {t : Tables} (l : Lent N S t) (q : OnSheet t) where
-  -- two holders share no frame, so covered is the sum over the rows
+  -- two holders share no frame, each claim on the list ends before the next one starts, and covered is the sum over the rows
   pub sheet-holders-apart : (i j frame : ℕ) → i ≢ j → Holds t i → Holds t j → Covers (claimOfSeat t i) frame → Covers (claimOfSeat t j) frame → ⊥
   sheet-holders-apart = sheets.apart (lent-reached l) q
+
+  pub sheet-one-after-the-other : OneAfterTheOther t (listOf t)
+  sheet-one-after-the-other = sheets.one-after-the-other (lent-reached l) q
 
   pub sheet-covered : {rows after : List ℕ} {n covered : ℕ} → BoardMade t rows (Boarded.filled n covered) after → covered ≡ addedUp (holders t)
   sheet-covered m = board-covers m .1 ∙ sheets.covered-is-the-sum (lent-reached l) q

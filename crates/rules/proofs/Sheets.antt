@@ -10,6 +10,7 @@ use native.Mathlib.Omega.{arith}
 use lib.ListN.{replicate}
 use Rattle.rules.specs.Tables.{Tables, readers, kind, phase}
 use Rattle.rules.specs.Shape.{sound}
+use Rattle.rules.specs.Reach.{listOf}
 use Rattle.rules.specs.Answers.{wait, back, refused}
 use Rattle.rules.specs.Calls.{clear, step}
 use Rattle.rules.specs.Run.{refusalOf, ran, run}
@@ -19,7 +20,7 @@ use Rattle.rules.specs.Reached.{Request, afterRequests, Reached}
 use Rattle.rules.specs.Apart.{Covers, claimOfSeat, Holds, LinkedIn, Stands}
 use Rattle.rules.specs.Cause.{stepTimes}
 use Rattle.rules.specs.Covered.{addedUp}
-use Rattle.rules.specs.Sheets.{OnSheet, SheetPhase, SheetKind, HolderOf, WaitsAtHolder, SheetSettled, SheetTold}
+use Rattle.rules.specs.Sheets.{OnSheet, SheetPhase, SheetKind, OneAfterTheOther, HolderOf, WaitsAtHolder, SheetSettled, SheetTold}
 use Rattle.rules.proofs.Soundness.SoundReached.{reached-sound}
 use Rattle.rules.proofs.Soundness.SoundSheets as sound-sheets
 use Rattle.rules.proofs.Holding.SheetsApart as holding
@@ -55,6 +56,10 @@ always-of-these-kinds {t = t} r = kinds t (reached-sound r)
 pub apart : {N S : ℕ} {t : Tables} → Reached N S t → OnSheet t → (i j frame : ℕ) → i ≢ j → Holds t i → Holds t j
     → Covers (claimOfSeat t i) frame → Covers (claimOfSeat t j) frame → ⊥
 apart = holding.sheet-apart
+
+-- 000's Invariant 1: of two neighbours on the list, marked ones too, the first ends before the second starts
+pub one-after-the-other : {N S : ℕ} {t : Tables} → Reached N S t → OnSheet t → OneAfterTheOther t (listOf t)
+one-after-the-other = holding.one-after-the-other
 
 -- so the frames that are covered are the sum of what each holder has
 pub covered-is-the-sum : {N S : ℕ} {t : Tables} → Reached N S t → OnSheet t → coveredBy (holders t) ≡ addedUp (holders t)

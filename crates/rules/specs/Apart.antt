@@ -44,11 +44,15 @@ pub record OfOneSeat (t : Tables) (a : ℕ) : Type 0 where
   pub owns : own t seat ≡ a
   pub no-other : (r : ℕ) → phase t r ≢ 0 → own t r ≡ a → r ≡ seat
 
--- of each two neighbours the second has no lower key
-pub data Rising (key : ℕ → ℕ) : List ℕ → Type 0 where
-  none : Rising key []
-  one : {a : ℕ} → Rising key (a ∷ [])
-  more : {a b : ℕ} {rest : List ℕ} → key a ≤ key b → Rising key (b ∷ rest) → Rising key (a ∷ b ∷ rest)
+-- of each two neighbours the first stands so to the second
+pub data Neighbours (so : ℕ → ℕ → Type 0) : List ℕ → Type 0 where
+  none : Neighbours so []
+  one : {a : ℕ} → Neighbours so (a ∷ [])
+  more : {a b : ℕ} {rest : List ℕ} → so a b → Neighbours so (b ∷ rest) → Neighbours so (a ∷ b ∷ rest)
+
+-- the second has no lower key
+abbrev pub Rising : (ℕ → ℕ) → List ℕ → Type 0
+Rising key = Neighbours (λ a b. key a ≤ key b)
 
 -- ---- what a call may touch
 -- u has its profile and every word of every seat but s from t

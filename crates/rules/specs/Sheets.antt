@@ -1,13 +1,14 @@
 -- The words in which request (viii) of 02 is proved: a catalogue of writers only. proofs/Sheets.antt says with them what is so of a sheet and not of the
 -- ordinary tables; all else that is proved is proved of both.
-use Prim.Native.Nat.{ℕ}
+use Prim.Native.Nat.{ℕ, _≤_}
 use mathlib.Core.Path.{_≡_}
 use mathlib.Core.Bool.{true}
+use mathlib.Core.List.{List}
 use mathlib.Core.Logic.{_≢_}
-use Rattle.rules.specs.Tables.{Tables, own}
+use Rattle.rules.specs.Tables.{Tables, start, end, own}
 use Rattle.rules.specs.Answers.{Answer, held, wait, done}
 use Rattle.rules.specs.Calls.{step}
-use Rattle.rules.specs.Apart.{Holds}
+use Rattle.rules.specs.Apart.{Holds, Neighbours}
 use Rattle.rules.specs.Cause.{Cause}
 
 -- the tables are a writers' sheet
@@ -26,6 +27,10 @@ pub data SheetPhase (p : ℕ) : Type 0 where
 pub data SheetKind (k : ℕ) : Type 0 where
   none : k ≡ 0 → SheetKind k
   writes : k ≡ 2 → SheetKind k
+
+-- 000's Invariant 1, "R1.end ≤ R2.start" of two neighbours: the first ends before the second starts, or where it does
+abbrev pub OneAfterTheOther : Tables → List ℕ → Type 0
+OneAfterTheOther t = Neighbours (λ a b. end t a ≤ start t b)
 
 -- the node is that of a seat that holds
 pub record HolderOf (t : Tables) (a : ℕ) : Type 0 where

@@ -3,27 +3,32 @@ use Prim.Native.Nat.{ℕ}
 use mathlib.Core.Path.{_≡_, refl, _∙_}
 use mathlib.Core.Bool.{true, false, not}
 use mathlib.Core.List.{List}
-use mathlib.Core.Logic.{_≢_}
+use mathlib.Core.Logic.{_≢_, inl, inr}
 use native.Mathlib.Omega.{arith}
 use Rattle.rules.specs.Notation.{_is_}
-use Rattle.rules.specs.Tables.{Tables, phase, own, fresh, nodeCount, seatCount}
+use Rattle.rules.specs.Tables.{Tables, kind, link, phase, own, fresh, nodeCount, seatCount}
 use Rattle.rules.specs.Shape.{lengthsFit}
 use Rattle.rules.specs.Answers.{Done, done}
 use Rattle.rules.specs.Calls.{clear}
+use Rattle.rules.specs.Reach.{listOf}
 use Rattle.rules.specs.Board.{holders, coveredBy}
 use Rattle.rules.specs.Play.{Call, seatOf, call}
 use Rattle.rules.specs.Reached.{Request, afterRequests, Reached}
 use Rattle.rules.specs.Apart.{Covers, claimOfSeat, Holds, LinkedIn, Stands}
 use Rattle.rules.specs.Covered.{addedUp}
-use Rattle.rules.specs.Sheets.{OnSheet, idle, walking, waiting, holding, reserved, HolderOf}
+use Rattle.rules.specs.Sheets.{OnSheet, idle, walking, waiting, holding, reserved, HolderOf, OneAfterTheOther}
 use Rattle.rules.proofs.Ground.Logic.{branch}
 use Rattle.rules.proofs.Laws.Covered.{holders-apart}
 use Rattle.rules.proofs.Laws.RunSteps.{requests-keep}
+use Rattle.rules.proofs.Invariant.View.{seatsOf}
+use Rattle.rules.proofs.Invariant.Clauses.{Seen}
+use Rattle.rules.proofs.Invariant.Known.{seen-proper}
 use Rattle.rules.proofs.Frames.SeatFrames.{other-seats-kept}
 use Rattle.rules.proofs.Keeping.CallKeeps.{good}
 use Rattle.rules.proofs.Soundness.SoundReached.{reached-sound}
 use Rattle.rules.proofs.Soundness.SoundSheets.{sheet-phase}
 use Rattle.rules.proofs.Holding.Exclusion.{both-read}
+use Rattle.rules.proofs.Holding.ListOrder.{in-turn}
 use Rattle.rules.proofs.Holding.Standing.{of-one-seat}
 
 -- ---- the profile
@@ -60,3 +65,10 @@ module _ {N S : ℕ} {t : Tables} (r : Reached N S t) (q : OnSheet t) where
 
   pub sheet-sum : coveredBy (holders t) ≡ addedUp (holders t)
   sheet-sum = holders-apart t (λ i j frame d hi hj. sheet-apart i j frame d (hi .1) (hj .1) (hi .2) (hj .2))
+
+  -- ---- the list
+  all-write : (a : ℕ) → Seen (link t) (seatsOf t) a → kind t a ≡ 2
+  all-write a p = elim (seen-proper (good r .inv) p .reads-or-writes) [ inl k ↦ absurd (good r .aside .kinds q a k) | inr k ↦ k ]
+
+  pub one-after-the-other : OneAfterTheOther t (listOf t)
+  one-after-the-other = in-turn (good r) all-write
