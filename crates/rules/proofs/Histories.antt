@@ -369,22 +369,24 @@ H1onSheet =
     × (readers (afterAll (sheet 4 3) H1calls) ≡ 0)
     × (writers (afterAll (sheet 4 3) H1calls) ≡ 1)
 
--- a claim that ends where the other starts holds beside it; behind a marked prev a claim is not linked, it looks again from the head; and a released node
--- is taken again, but none where nodes have run out (H2, H6 and H7 on a sheet)
+-- a claim that ends where the other starts holds beside it; behind a marked prev a claim is not linked, it looks again from the head, nor where the link
+-- has moved on; and a released node is taken again, but none where nodes have run out (H2, H6 and H7 on a sheet)
 abbrev pub BesideAndBehind : Type 0
 BesideAndBehind =
     (answers (sheet 4 4) (v 0 10 20 2 ∷ e 0 ∷ s 0 ∷ v 1 20 30 2 ∷ e 1 ∷ s 1 ∷ s 1 ∷ v 2 0 10 2 ∷ e 2 ∷ s 2 ∷ [])
     ≡ node 1 ∷ on ∷ held ∷ node 2 ∷ on ∷ on ∷ held ∷ node 3 ∷ on ∷ held ∷ [])
     × (answers (sheet 4 4) (v 0 0 10 2 ∷ e 0 ∷ s 0 ∷ v 1 20 30 2 ∷ e 1 ∷ s 1 ∷ r 0 ∷ s 1 ∷ s 1 ∷ s 1 ∷ [])
     ≡ node 1 ∷ on ∷ held ∷ node 2 ∷ on ∷ on ∷ out ∷ on ∷ on ∷ held ∷ [])
+    × (answers (sheet 4 4) (v 0 10 20 2 ∷ e 0 ∷ v 1 15 25 2 ∷ e 1 ∷ s 1 ∷ s 0 ∷ s 0 ∷ []) ≡ node 1 ∷ on ∷ node 2 ∷ on ∷ held ∷ on ∷ wait 2 15 20 ∷ [])
     × (answers (sheet 1 2) (v 0 0 10 2 ∷ e 0 ∷ s 0 ∷ v 1 0 10 2 ∷ r 0 ∷ v 1 0 10 2 ∷ []) ≡ node 1 ∷ on ∷ held ∷ refused 8 ∷ out ∷ node 1 ∷ [])
 
--- "kind 1 is 4": after 2, 3 and 11 and before 5, like every kind that is none; the ordinary table takes it
+-- "kind 1 is 4": after 2, 3 and 11 and before 5, like every kind that is none; the ordinary table takes it. A sheet that is cleared is a sheet
 abbrev pub KindOneIsFour : Type 0
 KindOneIsFour =
     (answers (fresh true 2 2 20) (v 2 10 10 1 ∷ v 0 10 10 1 ∷ v 0 10 21 1 ∷ v 0 10 20 1 ∷ v 0 10 20 3 ∷ v 0 10 20 2 ∷ v 0 0 5 1 ∷ v 0 0 5 2 ∷ [])
     ≡ refused 2 ∷ refused 3 ∷ refused 11 ∷ refused 4 ∷ refused 4 ∷ node 1 ∷ refused 4 ∷ refused 5 ∷ [])
     × (answers (fresh false 2 2 20) (v 0 10 20 1 ∷ []) ≡ node 1 ∷ [])
+    × (answers (clear (fresh true 1 1 20) 30 .after) (v 0 10 30 1 ∷ v 0 10 30 2 ∷ s 0 ∷ s 0 ∷ []) ≡ refused 4 ∷ node 1 ∷ on ∷ held ∷ [])
 
 -- "phases 0, 1, 2, 5 and 7 and kind 2 only": what else is sound in the ordinary tables is damage in a sheet. A seat in this phase, with its cur, and its node
 abbrev withPhase : Bool → ℕ → ℕ → ℕ → Tables
@@ -415,7 +417,7 @@ LinkedTwice =
 
 pub sheets : LifeOfAClaim × H1onSheet × BesideAndBehind × KindOneIsFour
 unfolding rules
-sheets = ((refl, refl, refl, refl), (refl, refl, refl, refl, refl), (refl, refl, refl), (refl, refl))
+sheets = ((refl, refl, refl, refl), (refl, refl, refl, refl, refl), (refl, refl, refl, refl), (refl, refl, refl))
 
 pub sheets-sound : PhasesAndKinds × LinkedTwice
 unfolding rules
