@@ -9,17 +9,17 @@ use native.Mathlib.Numerals.{add-one}
 use lib.Dec.{eqb, leb, ltb}
 use lib.ListN.{length, drop}
 use borrow.Author.Tests.{not-true, not-false, eq-eqb, ne-eqb, eqb-true, eqb-false, ltb-true, ltb-false, le-leb, lt-leb}
-use Rattle.rules.specs.Notation.{_≤?_, all}
+use Rattle.rules.specs.Notation.{if_then_else_, _≤?_, all}
 use Rattle.rules.specs.Tables.{Tables, tables, beforeNodes, seatWidth, title, countWord, nodeWord, linkWord, seatWord, nodeCountOf, seatCountOf, startAt, endAt, kindAt, markAt, phaseAt, ownAt, prevAt, curAt}
 use Rattle.rules.specs.Shape.{nodesFit, seatsFit, lengthsFit, isKind, mayClaim, zeroNode, claimNode, names, nodeSound, mayBeIn, isPhase, zeroSeat, idleOrOwning, restingAtZero, waitingAtCur, seatSound, countsFit, endsBy, titleFits, endsWithin, nodesSound, seatsSound, sound}
 use Rattle.rules.proofs.Ground.Logic.{clash, not-of, or-case, or-neither, and-left, all-fails, all-and}
 use Rattle.rules.proofs.Laws.Words.{link-past}
-use Rattle.rules.proofs.Laws.Shape.{MayBeIn, NoneOfSheet, phase-allowed, allowed-phase, nodes-fit, named, name-of, name-small, lengths-fit}
+use Rattle.rules.proofs.Laws.Shape.{MayBeIn, NoneOfSheet, phase-allowed, allowed-phase, none-left, nodes-fit, named, name-of, name-small, lengths-fit}
 use Rattle.rules.proofs.Laws.NodesAlone.{ends-alone, nodes-alone, ends-by-alone}
 use Rattle.words.specs.Parts.{withZeros}
 use Rattle.words.proofs.Places.{same-count}
 use Rattle.shape.proofs.Part.{same-names, same-nodes, same-ends, same-seats, same-holders}
-use Rattle.shape.specs.Parts.{leastKind, lacksPhase, nodeSoundBy, nodesSoundBy, busySound, waitingSound, restingSound, seatsAndCountsSound, listEnds}
+use Rattle.shape.specs.Parts.{leastKind, nodeSoundBy, nodesSoundBy, busySound, waitingSound, restingSound, ordinarySound, seatsAndCountsSound, listEnds}
 use Rattle.rules.proofs.Ground.Deciding.{if-same}
 
 pub lengths-is : (sheet : Bool) (l t : List ℕ) (u v : Bool) → u ≡ nodesFit (tables sheet l []) → v ≡ seatsFit (tables sheet [] t) → (u && v) ≡ lengthsFit (tables sheet l t)
@@ -47,22 +47,16 @@ unfolding mayBeIn
 may-be-idle true = refl
 may-be-idle false = refl
 
-not-lacked : (sheet : Bool) (p : ℕ) → lacksPhase sheet p ≡ false → NoneOfSheet sheet p
-not-lacked true p e q =
-    let n = or-neither (eqb p 3 || eqb p 4) (eqb p 6) e in
-    let m = or-neither (eqb p 3) (eqb p 4) (n .0) in
-    (eqb-false p 3 (m .0), eqb-false p 4 (m .1), eqb-false p 6 (n .1))
-not-lacked false p e q = absurd (clash false q refl)
-
-lacked : (sheet : Bool) (p : ℕ) → lacksPhase sheet p ≡ true → NoneOfSheet sheet p → ⊥
-lacked true p e n = elim (or-case (eqb p 3 || eqb p 4) (eqb p 6) e) [
-  | inl w ↦ elim (or-case (eqb p 3) (eqb p 4) w) [ inl z ↦ n refl .0 (eqb-true p 3 z) | inr z ↦ n refl .1 (eqb-true p 4 z) ]
-  | inr w ↦ n refl .2 (eqb-true p 6 w)
-]
-lacked false p e n = clash false e refl
+-- in ordinary tables every phase up to 7
+ordinary : (p : ℕ) → p ≤ 7 → MayBeIn false p
+ordinary p l = (l, λ q. absurd (clash false q refl))
 
 none-allowed : (sheet : Bool) (p : ℕ) → (MayBeIn sheet p → ⊥) → mayBeIn sheet p ≡ false
 none-allowed sheet p f = not-of (mayBeIn sheet p) (λ e. f (phase-allowed sheet p e))
+
+by-profile : (sheet b : Bool) → sheet ≡ false → (if sheet then false else b) ≡ b
+by-profile true b e = absurd (clash true refl e)
+by-profile false b e = refl
 
 -- ---- a name
 module _ (sheet : Bool) (l : List ℕ) (n a : ℕ) (isCount : n ≡ nodeCountOf sheet l) where
@@ -210,6 +204,21 @@ module _ (sheet : Bool) (l : List ℕ) (o v c : ℕ) where
   pub rests : (w : Bool) → w ≡ names (tables sheet l []) o → (eqb o 0 || not (eqb v 0) || not (eqb c 0)) ≡ false → w ≡ restingSound (tables sheet l []) o v c
   rests w q e = rw (rests-case (eqb o 0) (eqb v 0) (eqb c 0) (names (tables sheet l []) o), e) q
 
+-- ---- in the phases that a sheet lacks
+module _ (sheet : Bool) (l : List ℕ) (p o v c : ℕ) where
+  pub lacks : sheet ≡ true → false ≡ ordinarySound (tables sheet l []) p o v c
+  lacks e = sym (rw e)
+
+  module _ (w : Bool) (e : sheet ≡ false) where
+    pub has-3 : w ≡ busySound (tables sheet l []) o v c → p ≡ 3 → w ≡ ordinarySound (tables sheet l []) p o v c
+    has-3 h q = h ∙ rw (eq-eqb p 3 q) (sym (by-profile sheet _ e))
+
+    pub has-4 : w ≡ waitingSound (tables sheet l []) o v c → p ≡ 4 → w ≡ ordinarySound (tables sheet l []) p o v c
+    has-4 h q = h ∙ rw (ne-eqb p 3 (omega arith), eq-eqb p 4 q) (sym (by-profile sheet _ e))
+
+    pub has-other : w ≡ restingSound (tables sheet l []) o v c → p ≢ 3 → p ≢ 4 → w ≡ ordinarySound (tables sheet l []) p o v c
+    has-other h d d′ = h ∙ rw (ne-eqb p 3 d, ne-eqb p 4 d′) (sym (by-profile sheet _ e))
+
 -- ---- a seat by its phase
 idle-case : (a b c f g h : Bool) → (a ≡ true → f ≡ true) → (b ≡ true → g ≡ true) → (c ≡ true → h ≡ true)
     → (a && b && c) ≡ (a && b && c && true && true && f && g && h)
@@ -244,9 +253,6 @@ unfolding all
 four-words true t s = refl
 four-words false t s = refl
 
-seven : {p : ℕ} → 5 ≤ p → p < 8 → p ≢ 5 → p ≢ 6 → p ≡ 7
-seven g h d d′ = omega arith
-
 module _ (sheet : Bool) (l t : List ℕ) (s p o v c : ℕ) (isCur : c ≡ seatWord sheet t s curAt) (isPrev : v ≡ seatWord sheet t s prevAt) (isOwn : o ≡ seatWord sheet t s ownAt) (isPhaseOf : p ≡ seatWord sheet t s phaseAt) where
   zero-named : (a : ℕ) → eqb a 0 ≡ true → names (tables sheet l []) a ≡ true
   zero-named a z = name-of (tables sheet l []) a (inl (eqb-true a 0 z))
@@ -261,45 +267,83 @@ module _ (sheet : Bool) (l t : List ℕ) (s p o v c : ℕ) (isCur : c ≡ seatWo
   clauses : Bool → Bool → Bool
   clauses resting waiting = not (eqb o 0) && resting && waiting && names (tables sheet l []) o && names (tables sheet l []) v && names (tables sheet l []) c
 
-  in-phase : lacksPhase sheet p ≡ false → (P : ℕ) → p ≡ P → P ≢ 0 → P ≤ 7 → clauses (not (eqb P 5 || eqb P 6 || eqb P 7) || eqb v 0 && eqb c 0) (not (eqb P 2 || eqb P 4) || not (eqb c 0)) ≡ seatSound (tables sheet l t) s
+  in-phase : (P : ℕ) → p ≡ P → P ≢ 0 → MayBeIn sheet P → clauses (not (eqb P 5 || eqb P 6 || eqb P 7) || eqb v 0 && eqb c 0) (not (eqb P 2 || eqb P 4) || not (eqb c 0)) ≡ seatSound (tables sheet l t) s
   unfolding seatSound isPhase idleOrOwning restingAtZero waitingAtCur names clauses
-  in-phase n P e d h = rw (← isPhaseOf, ← isCur, ← isPrev, ← isOwn, e, ne-eqb P 0 d, allowed-phase sheet P (h, not-lacked sheet P (rw e at n)))
+  in-phase P e d h = rw (← isPhaseOf, ← isCur, ← isPrev, ← isOwn, e, ne-eqb P 0 d, allowed-phase sheet P h)
 
-  pub seat-on-foot : (w : Bool) → w ≡ busySound (tables sheet l []) o v c → (p ≡ 1) ⊎ (p ≡ 3) → (b : Bool) → b ≡ lacksPhase sheet p → b ≡ false → w ≡ seatSound (tables sheet l t) s
+  -- walking or validating; waiting; at rest
+  on-foot : busySound (tables sheet l []) o v c ≡ clauses true true
   unfolding clauses
-  seat-on-foot w h (inl e) b q n = h ∙ foot-case (not (eqb o 0)) (names (tables sheet l []) o) (names (tables sheet l []) v) (names (tables sheet l []) c) ∙ in-phase (sym q ∙ n) 1 e (omega arith) (omega arith)
-  seat-on-foot w h (inr e) b q n = h ∙ foot-case (not (eqb o 0)) (names (tables sheet l []) o) (names (tables sheet l []) v) (names (tables sheet l []) c) ∙ in-phase (sym q ∙ n) 3 e (omega arith) (omega arith)
+  on-foot = foot-case (not (eqb o 0)) (names (tables sheet l []) o) (names (tables sheet l []) v) (names (tables sheet l []) c)
 
-  pub seat-waiting : (w : Bool) → w ≡ waitingSound (tables sheet l []) o v c → (p ≡ 2) ⊎ (p ≡ 4) → (b : Bool) → b ≡ lacksPhase sheet p → b ≡ false → w ≡ seatSound (tables sheet l t) s
+  waited : waitingSound (tables sheet l []) o v c ≡ clauses true (not (eqb c 0))
   unfolding clauses
-  seat-waiting w h (inl e) b q n =
-      h ∙ waiting-case (not (eqb o 0)) (not (eqb c 0)) (names (tables sheet l []) o) (names (tables sheet l []) v) (names (tables sheet l []) c) ∙ in-phase (sym q ∙ n) 2 e (omega arith) (omega arith)
-  seat-waiting w h (inr e) b q n =
-      h ∙ waiting-case (not (eqb o 0)) (not (eqb c 0)) (names (tables sheet l []) o) (names (tables sheet l []) v) (names (tables sheet l []) c) ∙ in-phase (sym q ∙ n) 4 e (omega arith) (omega arith)
+  waited = waiting-case (not (eqb o 0)) (not (eqb c 0)) (names (tables sheet l []) o) (names (tables sheet l []) v) (names (tables sheet l []) c)
 
   rested : restingSound (tables sheet l []) o v c ≡ clauses (eqb v 0 && eqb c 0) true
   unfolding clauses
   rested = resting-case (not (eqb o 0)) (eqb v 0) (eqb c 0) (names (tables sheet l []) o) (names (tables sheet l []) v) (names (tables sheet l []) c) (zero-named v) (zero-named c)
 
-  -- 5, 6 or 7 is what is left below 8
-  pub seat-resting : (w : Bool) → w ≡ restingSound (tables sheet l []) o v c → p ≢ 0 → ((p ≡ 1) ⊎ (p ≡ 3) → ⊥) → ((p ≡ 2) ⊎ (p ≡ 4) → ⊥) → p < 8 → (b : Bool) → b ≡ lacksPhase sheet p → b ≡ false → w ≡ seatSound (tables sheet l t) s
-  seat-resting w h z f g small b q n =
-      let no-1 : p ≢ 1 = λ e. f (inl e) in
-      let no-2 : p ≢ 2 = λ e. g (inl e) in
-      let no-3 : p ≢ 3 = λ e. f (inr e) in
-      let no-4 : p ≢ 4 = λ e. g (inr e) in
-      let large : 5 ≤ p = omega arith in
-      if-same p 5 (λ e. h ∙ rested ∙ in-phase (sym q ∙ n) 5 e (omega arith) (omega arith)) (λ d.
-      if-same p 6 (λ e. h ∙ rested ∙ in-phase (sym q ∙ n) 6 e (omega arith) (omega arith)) (λ d′.
-      h ∙ rested ∙ in-phase (sym q ∙ n) 7 (seven large small d d′) (omega arith) (omega arith)))
+  pub seat-walking : (w : Bool) → w ≡ busySound (tables sheet l []) o v c → p ≡ 1 → w ≡ seatSound (tables sheet l t) s
+  unfolding clauses
+  seat-walking w h e = h ∙ on-foot ∙ in-phase 1 e (omega arith) (omega arith, λ q. (omega arith, omega arith, omega arith))
 
-  pub seat-no-phase : 8 ≤ p → false ≡ seatSound (tables sheet l t) s
-  unfolding seatSound isPhase
-  seat-no-phase h = rw (← isPhaseOf, none-allowed sheet p (λ w. let l = w .0 in omega arith))
+  pub seat-waiting : (w : Bool) → w ≡ waitingSound (tables sheet l []) o v c → p ≡ 2 → w ≡ seatSound (tables sheet l t) s
+  unfolding clauses
+  seat-waiting w h e = h ∙ waited ∙ in-phase 2 e (omega arith) (omega arith, λ q. (omega arith, omega arith, omega arith))
 
-  pub seat-lacks : (b : Bool) → b ≡ lacksPhase sheet p → b ≡ true → false ≡ seatSound (tables sheet l t) s
+  pub seat-holding : (w : Bool) → w ≡ restingSound (tables sheet l []) o v c → p ≡ 5 → w ≡ seatSound (tables sheet l t) s
+  unfolding clauses
+  seat-holding w h e = h ∙ rested ∙ in-phase 5 e (omega arith) (omega arith, λ q. (omega arith, omega arith, omega arith))
+
+  pub seat-resting : (w : Bool) → w ≡ restingSound (tables sheet l []) o v c → p ≡ 7 → w ≡ seatSound (tables sheet l t) s
+  unfolding clauses
+  seat-resting w h e = h ∙ rested ∙ in-phase 7 e (omega arith) (omega arith, λ q. (omega arith, omega arith, omega arith))
+
+  pub seat-no-phase : p ≢ 0 → p ≢ 1 → p ≢ 2 → p ≢ 3 → p ≢ 4 → p ≢ 5 → p ≢ 6 → p ≢ 7 → false ≡ seatSound (tables sheet l t) s
   unfolding seatSound isPhase
-  seat-lacks b q e = rw (← isPhaseOf, none-allowed sheet p (λ w. lacked sheet p (sym q ∙ e) (w .1)))
+  seat-no-phase d₀ d₁ d₂ d₃ d₄ d₅ d₆ d₇ = rw (← isPhaseOf, none-allowed sheet p (λ w. none-left p (w .0) d₀ d₁ d₂ d₃ d₄ d₅ d₆ d₇))
+
+-- 3, 4 and 6, by the profile
+module _ (l t : List ℕ) (s p o v c : ℕ) where
+  abbrev Reads : Bool → Type 0
+  Reads sheet = (c ≡ seatWord sheet t s curAt) × (v ≡ seatWord sheet t s prevAt) × (o ≡ seatWord sheet t s ownAt) × (p ≡ seatWord sheet t s phaseAt)
+
+  lacking : Reads true → (NoneOfSheet true p → ⊥) → false ≡ seatSound (tables true l t) s
+  unfolding seatSound isPhase
+  lacking r n = rw (← r .3, none-allowed true p (λ m. n (m .1)))
+
+  in-3 : (sheet : Bool) → Reads sheet → p ≡ 3 → ordinarySound (tables sheet l []) p o v c ≡ seatSound (tables sheet l t) s
+  in-3 true r e = lacking r (λ n. n refl .0 e)
+  in-3 false r e =
+      rw (eq-eqb p 3 e)
+      (on-foot false l t s p o v c (r .0) (r .1) (r .2) (r .3)
+      ∙ (unfold clauses in in-phase false l t s p o v c (r .0) (r .1) (r .2) (r .3) 3 e (omega arith) (ordinary 3 (omega arith))))
+
+  in-4 : (sheet : Bool) → Reads sheet → p ≡ 4 → ordinarySound (tables sheet l []) p o v c ≡ seatSound (tables sheet l t) s
+  in-4 true r e = lacking r (λ n. n refl .1 e)
+  in-4 false r e =
+      rw (ne-eqb p 3 (omega arith), eq-eqb p 4 e)
+      (waited false l t s p o v c (r .0) (r .1) (r .2) (r .3)
+      ∙ (unfold clauses in in-phase false l t s p o v c (r .0) (r .1) (r .2) (r .3) 4 e (omega arith) (ordinary 4 (omega arith))))
+
+  in-6 : (sheet : Bool) → Reads sheet → p ≡ 6 → ordinarySound (tables sheet l []) p o v c ≡ seatSound (tables sheet l t) s
+  in-6 true r e = lacking r (λ n. n refl .2 e)
+  in-6 false r e =
+      rw (ne-eqb p 3 (omega arith), ne-eqb p 4 (omega arith))
+      (rested false l t s p o v c (r .0) (r .1) (r .2) (r .3)
+      ∙ (unfold clauses in in-phase false l t s p o v c (r .0) (r .1) (r .2) (r .3) 6 e (omega arith) (ordinary 6 (omega arith))))
+
+module _ (sheet : Bool) (l t : List ℕ) (s p o v c : ℕ) (isCur : c ≡ seatWord sheet t s curAt) (isPrev : v ≡ seatWord sheet t s prevAt) (isOwn : o ≡ seatWord sheet t s ownAt) (isPhaseOf : p ≡ seatWord sheet t s phaseAt)
+    (w : Bool) (isOrdinary : w ≡ ordinarySound (tables sheet l []) p o v c) where
+  pub seat-validating : p ≡ 3 → w ≡ seatSound (tables sheet l t) s
+  seat-validating e = isOrdinary ∙ in-3 l t s p o v c sheet (isCur, isPrev, isOwn, isPhaseOf) e
+
+  pub seat-reader-waiting : p ≡ 4 → w ≡ seatSound (tables sheet l t) s
+  seat-reader-waiting e = isOrdinary ∙ in-4 l t s p o v c sheet (isCur, isPrev, isOwn, isPhaseOf) e
+
+  pub seat-withdrawn : p ≡ 6 → w ≡ seatSound (tables sheet l t) s
+  seat-withdrawn e = isOrdinary ∙ in-6 l t s p o v c sheet (isCur, isPrev, isOwn, isPhaseOf) e
 
 -- ---- the walk along next: what is left gives the whole
 ends-zero : (t : Tables) (left a : ℕ) → a ≡ 0 → endsWithin left t a ≡ true

@@ -1,7 +1,7 @@
 -- Parts of sound shape: what it leaves out by the profile, its two clauses on the nodes together, what it asks of a seat's own, prev and cur by the seat's phase, its two clauses on
 -- the seats together, and its last clause alone.
 use Prim.Native.Nat.{ℕ}
-use mathlib.Core.Bool.{Bool, true, false, not, _&&_, _||_}
+use mathlib.Core.Bool.{Bool, true, false, not, _&&_}
 use Rattle.rules.specs.Notation.{if_then_else_, _is_, _≤?_}
 use Rattle.rules.specs.Tables.{Tables, nodeCount, end, kind, head, phase, own}
 use Rattle.rules.specs.Shape.{names, nodeSound, nodesSound, seatsSound, holdersOfKind, endsBy, endsWithin}
@@ -10,10 +10,6 @@ use Rattle.rules.specs.Shape.{names, nodeSound, nodesSound, seatsSound, holders
 abbrev pub leastKind : Bool → ℕ
 leastKind true = 2
 leastKind false = 1
-
--- a phase that a sheet lacks
-abbrev pub lacksPhase : Bool → ℕ → Bool
-lacksPhase sheet p = sheet && (p is 3 || p is 4 || p is 6)
 
 -- a node ends by so many frames and is sound, and each node does and is
 abbrev pub nodeSoundBy : Tables → ℕ → ℕ → Bool
@@ -33,6 +29,14 @@ waitingSound t own prev cur = not (cur is 0) && busySound t own prev cur
 -- in phases 5, 6 and 7
 abbrev pub restingSound : Tables → ℕ → ℕ → ℕ → Bool
 restingSound t own prev cur = not (own is 0) && prev is 0 && cur is 0 && names t own
+
+-- in phases 3, 4 and 6, which a sheet lacks
+abbrev pub ordinarySound : Tables → ℕ → ℕ → ℕ → ℕ → Bool
+ordinarySound t phase own prev cur =
+    if t .sheet then false
+    else if phase is 3 then busySound t own prev cur
+    else if phase is 4 then waitingSound t own prev cur
+    else restingSound t own prev cur
 
 -- the kind of the claim that a seat holds with, 0 if it holds with none
 abbrev pub heldKind : Tables → ℕ → ℕ

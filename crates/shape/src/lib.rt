@@ -8,7 +8,7 @@ ghost use Rattle.rules.specs.Notation.{_is_};
 ghost use Rattle.rules.specs.Tables.{tables, nodeCountOf, seatCountOf, phase};
 ghost use Rattle.rules.specs.Shape.{nodesFit, lengthsFit, mayClaim, names, seatSound, sound};
 ghost use Rattle.words.specs.Parts.{withZeros};
-ghost use Rattle.shape.specs.Parts.{leastKind, lacksPhase, nodeSoundBy, nodesSoundBy, busySound, waitingSound, restingSound, heldKind, seatsAndCountsSound, listEnds};
+ghost use Rattle.shape.specs.Parts.{leastKind, nodeSoundBy, nodesSoundBy, busySound, waitingSound, restingSound, ordinarySound, heldKind, seatsAndCountsSound, listEnds};
 
 pub fn lengths_fit(sheet: bool, nodes: &[u32], seats: &[u32]) -> bool
     ensures { λ r. ⌜ r ≡ lengthsFit (tables sheet (now (nodes .entry)) (now (seats .entry))) ⌝ }
@@ -31,13 +31,6 @@ pub fn may_claim(sheet: bool, k: u32) -> bool
     ensures { λ r. ⌜ r ≡ mayClaim sheet k ⌝ }
 {
     (k == least_kind(sheet)) | (k == 2)
-}
-
-// phases 3, 4 and 6, of a sheet
-fn lacks_phase(sheet: bool, phase: u32) -> bool
-    ensures { λ r. ⌜ r ≡ lacksPhase sheet phase ⌝ }
-{
-    sheet & ((phase == 3) | (phase == 4) | (phase == 6))
 }
 
 // ---- the nodes, in that part, and the seats beside it; n is N
@@ -133,6 +126,29 @@ fn resting_sound(sheet: bool, part: &[u32], n: u32, own: u32, prev: u32, cur: u3
     names_node(sheet, part, n, own)
 }
 
+// in phases 3, 4 and 6, which a sheet lacks: the profile is looked at in these alone
+fn ordinary_sound(
+    sheet: bool,
+    part: &[u32],
+    n: u32,
+    phase: u32,
+    own: u32,
+    prev: u32,
+    cur: u32,
+) -> bool
+    requires { ⌜ n ≡ nodeCountOf sheet (withZeros sheet (now part)) ⌝ }
+    ensures { λ r. ⌜ r ≡ ordinarySound (tables sheet (withZeros sheet (now (part .entry))) []) phase own prev cur ⌝ }
+{
+    if sheet {
+        return false;
+    }
+    match phase {
+        3 => busy_sound(sheet, part, n, own, prev, cur),
+        4 => waiting_sound(sheet, part, n, own, prev, cur),
+        _ => resting_sound(sheet, part, n, own, prev, cur),
+    }
+}
+
 // An idle seat is all zeros; any other is held to what its phase allows.
 fn seat_sound(sheet: bool, part: &[u32], seats: &[u32], n: u32, s: u32) -> bool
     requires { ⌜ n ≡ nodeCountOf sheet (withZeros sheet (now part)) ⌝ }
@@ -143,14 +159,15 @@ fn seat_sound(sheet: bool, part: &[u32], seats: &[u32], n: u32, s: u32) -> bool
     let own = words::seat_word_within(sheet, seats, s, words::OWN);
     let prev = words::seat_word_within(sheet, seats, s, words::PREV);
     let cur = words::seat_word_within(sheet, seats, s, words::CUR);
-    if lacks_phase(sheet, phase) {
-        return false;
-    }
     match phase {
         0 => (own == 0) & (prev == 0) & (cur == 0),
-        1 | 3 => busy_sound(sheet, part, n, own, prev, cur),
-        2 | 4 => waiting_sound(sheet, part, n, own, prev, cur),
-        5 | 6 | 7 => resting_sound(sheet, part, n, own, prev, cur),
+        1 => busy_sound(sheet, part, n, own, prev, cur),
+        2 => waiting_sound(sheet, part, n, own, prev, cur),
+        3 => ordinary_sound(sheet, part, n, phase, own, prev, cur),
+        4 => ordinary_sound(sheet, part, n, phase, own, prev, cur),
+        5 => resting_sound(sheet, part, n, own, prev, cur),
+        6 => ordinary_sound(sheet, part, n, phase, own, prev, cur),
+        7 => resting_sound(sheet, part, n, own, prev, cur),
         8..=4294967295 => false,
     }
 }

@@ -144,11 +144,16 @@ phase-allowed true p e =
     absurd (clash false (rw (ne-eqb p 0 d₀, ne-eqb p 1 d₁, ne-eqb p 2 d₂, ne-eqb p 5 d₅, ne-eqb p 7 d₇) at e) refl))))))
 phase-allowed false p e = (leb-true p 7 e, λ q. absurd (clash false q refl))
 
+-- a phase up to 7 is one of eight
 below : (p n : ℕ) → p ≤ n + 1 → p ≢ n + 1 → p ≤ n
 below p n l d = omega arith
 
 at-zero : (p : ℕ) → p ≤ 0 → p ≡ 0
 at-zero p l = omega arith
+
+pub none-left : (p : ℕ) → p ≤ 7 → p ≢ 0 → p ≢ 1 → p ≢ 2 → p ≢ 3 → p ≢ 4 → p ≢ 5 → p ≢ 6 → p ≢ 7 → ⊥
+none-left p l d₀ d₁ d₂ d₃ d₄ d₅ d₆ d₇ =
+    d₀ (at-zero p (below p 0 (below p 1 (below p 2 (below p 3 (below p 4 (below p 5 (below p 6 l d₇) d₆) d₅) d₄) d₃) d₂) d₁))
 
 pub allowed-phase : (sheet : Bool) (p : ℕ) → MayBeIn sheet p → mayBeIn sheet p ≡ true
 unfolding mayBeIn
@@ -161,7 +166,7 @@ allowed-phase true p w =
     if-same p 3 (λ q. absurd (w .1 refl .0 q)) (λ d₃.
     if-same p 4 (λ q. absurd (w .1 refl .1 q)) (λ d₄.
     if-same p 6 (λ q. absurd (w .1 refl .2 q)) (λ d₆.
-    absurd (d₀ (at-zero p (below p 0 (below p 1 (below p 2 (below p 3 (below p 4 (below p 5 (below p 6 (w .0) d₇) d₆) d₅) d₄) d₃) d₂) d₁)))))))))))
+    absurd (none-left p (w .0) d₀ d₁ d₂ d₃ d₄ d₅ d₆ d₇)))))))))
 allowed-phase false p w = le-leb p 7 (w .0)
 
 pub record SeatSound (t : Tables) (s : ℕ) : Type 0 where

@@ -12,17 +12,11 @@ use Rattle.rules.specs.Sheets.{OnSheet, SheetPhase, idle, walking, waiti
 use Rattle.rules.proofs.Ground.Deciding.{if-same}
 use Rattle.rules.proofs.Ground.Counting.{count-none, count-gap}
 use Rattle.rules.proofs.Laws.Words.{node-zero}
-use Rattle.rules.proofs.Laws.Shape.{is-sound}
+use Rattle.rules.proofs.Laws.Shape.{none-left, is-sound}
 use Rattle.rules.proofs.Laws.Counts.{sound-right}
 use Rattle.rules.proofs.Soundness.SoundShape.{Shaped, sound-shaped}
 
 -- of the phases up to 7, those that a sheet has
-above-3 : (p : ℕ) → p ≢ 0 → p ≢ 1 → p ≢ 2 → p ≢ 3 → 4 ≤ p
-above-3 p d₀ d₁ d₂ d₃ = omega arith
-
-none-there : (p : ℕ) → 4 ≤ p → p ≤ 7 → p ≢ 4 → p ≢ 5 → p ≢ 6 → p ≢ 7 → ⊥
-none-there p h l d₄ d₅ d₆ d₇ = omega arith
-
 named-phase : (p : ℕ) → p ≤ 7 → p ≢ 3 → p ≢ 4 → p ≢ 6 → SheetPhase p
 named-phase p l d₃ d₄ d₆ =
     if-same p 0 idle (λ d₀.
@@ -30,7 +24,7 @@ named-phase p l d₃ d₄ d₆ =
     if-same p 2 waiting (λ d₂.
     if-same p 5 holding (λ d₅.
     if-same p 7 reserved (λ d₇.
-    absurd (none-there p (above-3 p d₀ d₁ d₂ d₃) l d₄ d₅ d₆ d₇))))))
+    absurd (none-left p l d₀ d₁ d₂ d₃ d₄ d₅ d₆ d₇))))))
 
 and-no : (a : Bool) {b : Bool} → b ≡ false → (a && b) ≡ false
 and-no true e = e
