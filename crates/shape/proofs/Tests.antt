@@ -3,7 +3,7 @@ use mathlib.Core.Path.{_≡_, refl, sym, _∙_}
 use mathlib.Core.Bool.{Bool, true, false, not, _&&_, _||_}
 use mathlib.Core.List.{List, []}
 use mathlib.Core.Logic.{_≢_, _⊎_, inl, inr}
-use Prim.Native.Nat.{ℕ, zero, suc, _+_, _-_, _≤_, _<_}
+use Prim.Native.Nat.{ℕ, zero, suc, _+_, _-_, _%_, _≤_, _<_}
 use native.Mathlib.Omega.{arith}
 use native.Mathlib.Numerals.{add-one}
 use lib.Dec.{eqb, leb, ltb}
@@ -27,14 +27,23 @@ unfolding lengthsFit nodesFit seatsFit
 lengths-is sheet l t u v p q = rw (p, q)
 
 -- ---- the profile: what the code tests of it
-or-same : (b : Bool) → (b || b) ≡ b
-or-same true = refl
-or-same false = refl
+pub least-small : (sheet : Bool) (x : ℕ) → x ≡ leastKind sheet → x ≤ 2
+least-small true x e = omega arith
+least-small false x e = omega arith
 
-pub may-claim-is : (sheet : Bool) (k x : ℕ) → x ≡ leastKind sheet → (eqb k x || eqb k 2) ≡ mayClaim sheet k
+-- r is how far k lies above the least kind, in numbers that wrap
+pub may-claim-is : (sheet : Bool) (k least r : ℕ) → least ≡ leastKind sheet → r < 4294967296 → (r + least) % 4294967296 ≡ k → leb r (2 - least) ≡ mayClaim sheet k
 unfolding mayClaim isKind
-may-claim-is true k x e = rw e (or-same (eqb k 2))
-may-claim-is false k x e = rw e
+may-claim-is true k least r e h q =
+    if-same k 2
+    (λ z. rw (eq-eqb k 2 z) (le-leb r (2 - least) (omega arith)))
+    (λ d. rw (ne-eqb k 2 d) (lt-leb r (2 - least) (omega arith)))
+may-claim-is false k least r e h q =
+    if-same k 1
+    (λ z. rw (eq-eqb k 1 z) (le-leb r (2 - least) (omega arith)))
+    (λ d. if-same k 2
+    (λ z. rw (ne-eqb k 1 d, eq-eqb k 2 z) (le-leb r (2 - least) (omega arith)))
+    (λ d′. rw (ne-eqb k 1 d, ne-eqb k 2 d′) (lt-leb r (2 - least) (omega arith))))
 
 -- no claim is of kind 0, and every seat may be idle
 no-claim-of-0 : (sheet : Bool) → mayClaim sheet 0 ≡ false
