@@ -6,6 +6,8 @@
  *   nodes   the head word, how many readers hold and how many writers, the title's frame count, then N nodes of five words: start, end,
  *           kind, next, mark (N is 1 to 256)
  *   seats   S seats of four words: phase, own, prev, cur (S is 1 to 64)
+ * Where all claims write, such a pair may be a writers' sheet instead: it has calls of its own, soodhiqune_sheet_clear and so on, at the
+ * end, where it is said what differs.
  * Claims may be kept elsewhere as POSIX advisory record locks: import makes claims of a list of locks, export locks of a list of claims.
  *
  * What is asked of the caller:
@@ -35,6 +37,8 @@ extern "C" {
 #define SOODHIQUNE_MOST_SEATS 64
 #define SOODHIQUNE_NODE_WORDS(nodes) (SOODHIQUNE_BEFORE_NODES + 5 * (size_t)(nodes))
 #define SOODHIQUNE_SEAT_WORDS(seats) (4 * (size_t)(seats))
+#define SOODHIQUNE_SHEET_NODE_WORDS(nodes) (SOODHIQUNE_SHEET_BEFORE_NODES + 5 * (size_t)(nodes))
+#define SOODHIQUNE_SHEET_SEAT_WORDS(seats) (4 * (size_t)(seats))
 #define SOODHIQUNE_ROW_WORDS(rows) (4 * (size_t)(rows))
 #define SOODHIQUNE_LOCK_WORDS(locks) (3 * (size_t)(locks))
 #define SOODHIQUNE_CLAIM_WORDS(claims) (3 * (size_t)(claims))
@@ -44,9 +48,10 @@ extern "C" {
 #define SOODHIQUNE_SCRIPT_NUMBERS SOODHIQUNE_SCRIPT_ROW(SOODHIQUNE_MOST_SCRIPT_ROWS)
 #define SOODHIQUNE_PRINTED_BYTES 49152
 
-/* Room for the deepest stack seen, arguments and return address included: reserve 432 bytes, step 496, run 528, board 1,224, every other
- * call on tables or lists fewer; read 80,704 and play 87,024. tests/stack.c paints a stack, makes the calls on it, and fails if one needs
- * more than is said here. The first use of memset or memcpy in a program may take more, while the C library finds it. */
+/* Room for the deepest stack seen, arguments and return address included: reserve 432 bytes, step 512, run 608, board 1,272, on a writers'
+ * sheet as many or fewer, every other call on tables or lists fewer; read 80,704 and play 87,024. tests/stack.c paints a stack, makes the
+ * calls on it, and fails if one needs more than is said here. The first use of memset or memcpy in a program may take more, while the C
+ * library finds it. */
 #define SOODHIQUNE_STACK_BYTES 2048
 #define SOODHIQUNE_SCRIPT_STACK_BYTES 98304
 
@@ -61,7 +66,8 @@ enum soodhiqune_before_nodes {
     SOODHIQUNE_HOLDING_READERS,
     SOODHIQUNE_HOLDING_WRITERS,
     SOODHIQUNE_TITLE,           /* the title's frame count, from 1: a claim may end at it and not beyond */
-    SOODHIQUNE_BEFORE_NODES     /* so many words stand before node 1 */
+    SOODHIQUNE_BEFORE_NODES,    /* so many words stand before node 1 */
+    SOODHIQUNE_SHEET_BEFORE_NODES = SOODHIQUNE_BEFORE_NODES /* and before node 1 of a writers' sheet */
 };
 
 /* ---- the two words in which a step that answers wait tells what it waits for: the frames from shared[SOODHIQUNE_SHARED_FIRST] up to but
@@ -148,11 +154,11 @@ enum soodhiqune_refusal {
     SOODHIQUNE_NO_SUCH_SEAT,    /* seat number not below S */
     SOODHIQUNE_EMPTY_CLAIM,     /* reserve, export: start not below end */
     SOODHIQUNE_EMPTY_TITLE = SOODHIQUNE_EMPTY_CLAIM, /* clear, import, export: a title of no frames. 3 too, under the name that fits */
-    SOODHIQUNE_NO_SUCH_KIND,    /* kind not 1 or 2 */
+    SOODHIQUNE_NO_SUCH_KIND,    /* kind not 1 or 2; on a writers' sheet, not 2 */
     SOODHIQUNE_SEAT_HAS_CLAIM,  /* reserve wants an idle seat */
     SOODHIQUNE_SEAT_IDLE,       /* step wants a seat with a claim */
     SOODHIQUNE_NOT_HOLDING,     /* release wants a seat that holds */
-    SOODHIQUNE_NO_NODE_FREE,    /* reserve, or a step that takes a node anew */
+    SOODHIQUNE_NO_NODE_FREE,    /* reserve, or a step that takes a node anew; on a writers' sheet, reserve alone */
     SOODHIQUNE_BOARD_TOO_SHORT, /* fewer rows than holders */
     SOODHIQUNE_LIST_TOO_SHORT = SOODHIQUNE_BOARD_TOO_SHORT, /* import, export: room for fewer records than there are. 9 too */
     SOODHIQUNE_BAD_SCRIPT,      /* script not well formed */
@@ -270,6 +276,45 @@ struct soodhiqune_moved soodhiqune_import(uint32_t title, const int64_t *locks, 
  * into the same claims again. Lengths of lists as above. Refused: empty title; then the first bad claim, empty claim before beyond title
  * before no such kind; then list too short. */
 struct soodhiqune_moved soodhiqune_export(uint32_t title, const uint32_t *claims, size_t claim_words, int64_t *locks, size_t lock_words);
+
+/* ---- the calls on a writers' sheet, such as one on which subtitles are burnt in: those above, with the same arguments, answers and
+ * refusals, but for this.
+ *   kinds    every claim writes: reserve refuses SOODHIQUNE_READS as no such kind (4), and nodes[SOODHIQUNE_HOLDING_READERS] stays 0
+ *   steps    a claim holds as soon as it is linked, and the step that links it answers held. None is withdrawn: no step answers back, and
+ *            none is refused for want of a node (8)
+ *   damage   a seat is idle, has reserved, walks the list, waits or holds (phases 0, 7, 1, 2 and 5); with phase 3, 4 or 6, or with a node
+ *            of kind 1, listed or not, a sheet is damaged
+ * A pair of tables belongs to the set of calls that cleared it, and its lengths come from that set: those of a sheet are
+ * SOODHIQUNE_SHEET_NODE_WORDS and SOODHIQUNE_SHEET_SEAT_WORDS, and a program should not take the others for them. No word in a table says
+ * whose it is. Lent to the other set it is refused only if it is damaged there, as ordinary tables with a reader or with phase 3, 4 or 6
+ * are on a sheet's calls; else it is taken, and that claims stay apart is then not promised. Clear it first. */
+
+/* Refused: damaged, empty title. */
+uint64_t soodhiqune_sheet_clear(uint32_t *nodes, size_t node_words, uint32_t *seats, size_t seat_words, uint32_t title);
+
+/* Answers: node. Refused: damaged, no such seat, empty claim, beyond title, no such kind, seat has claim, no node free. */
+uint64_t soodhiqune_sheet_reserve(uint32_t *nodes, size_t node_words, uint32_t *seats, size_t seat_words,
+                                  uint32_t seat, uint32_t start, uint32_t end, uint32_t kind);
+
+/* Answers: on. Refused: damaged, no such seat, not reserved. */
+uint64_t soodhiqune_sheet_enter(const uint32_t *nodes, size_t node_words, uint32_t *seats, size_t seat_words, uint32_t seat);
+
+/* Answers: on, wait, held. Refused: damaged, no such seat, seat idle. */
+uint64_t soodhiqune_sheet_step(uint32_t *nodes, size_t node_words, uint32_t *seats, size_t seat_words, uint32_t seat, uint32_t *shared);
+
+/* Answers: out. Refused: damaged, no such seat, not holding. */
+uint64_t soodhiqune_sheet_release(uint32_t *nodes, size_t node_words, uint32_t *seats, size_t seat_words, uint32_t seat);
+
+/* Stops at what step refuses. */
+uint64_t soodhiqune_sheet_run(uint32_t *nodes, size_t node_words, uint32_t *seats, size_t seat_words,
+                              const uint32_t *schedule, size_t entries, uint32_t budget);
+
+/* Every row's kind is SOODHIQUNE_WRITES. Refused: damaged, board too short. */
+uint64_t soodhiqune_sheet_board(const uint32_t *nodes, size_t node_words, const uint32_t *seats, size_t seat_words,
+                                uint32_t *rows, size_t row_words, uint64_t *covered);
+
+/* Refused: damaged. */
+uint64_t soodhiqune_sheet_free_count(const uint32_t *nodes, size_t node_words, const uint32_t *seats, size_t seat_words);
 
 #ifdef __cplusplus
 }

@@ -1,21 +1,24 @@
 /* H1 of document 01, every refusal, how many hold, where the title ends, which frames clash, locks read and written, nodes reserved before
  * a seat enters, and the edges of what may be lent, through include/soodhiqune.h and the archive: that the header says how each call is
- * made, and that its names and sizes are those of the library. It is C99 and C++. Prints what differs, and a closing line 'N passed, M
- * failed'. */
+ * made, and that its names and sizes are those of the library. What a writers' sheet has in common with the ordinary tables is tried on
+ * both, and then what it has alone. It is C99 and C++. Prints what differs, and a closing line 'N passed, M failed'. */
 #include "../include/soodhiqune.h"
+
+#include "calls.h"
 
 #include <stdio.h>
 #include <string.h>
 
 enum { NODES = 4, SEATS = 3, FRAMES = 25, UNTOUCHED = 9, LENT_WORDS = SOODHIQUNE_SHARED_WORDS + 2 };
 
-#define NODE_TABLE nodes, SOODHIQUNE_NODE_WORDS(NODES)
-#define SEAT_TABLE seats, SOODHIQUNE_SEAT_WORDS(SEATS)
+#define NODE_TABLE nodes, on->node_words(NODES)
+#define SEAT_TABLE seats, on->seat_words(SEATS)
 #define TABLES NODE_TABLE, SEAT_TABLE
 #define ENTRIES(schedule) schedule, sizeof schedule / sizeof schedule[0]
 #define TEXT(script) (const uint8_t *)script, strlen(script)
 
 static int passed, failed;
+/* a sheet's tables are no longer than these */
 static uint32_t nodes[SOODHIQUNE_NODE_WORDS(SOODHIQUNE_MOST_NODES + 1)], seats[SOODHIQUNE_SEAT_WORDS(SOODHIQUNE_MOST_SEATS + 1)];
 
 static void check(const char *what, int holds)
@@ -24,7 +27,7 @@ static void check(const char *what, int holds)
         passed++;
     } else {
         failed++;
-        printf("differs: %s\n", what);
+        printf("differs: %s%s\n", on->whose, what);
     }
 }
 
@@ -67,7 +70,7 @@ static uint64_t stepped(uint32_t *table, size_t node_words, uint32_t *seat_table
     for (word = 0; word < LENT_WORDS; word++) {
         lent[word] = UNTOUCHED;
     }
-    given = soodhiqune_step(table, node_words, seat_table, seat_words, seat, lent + 1);
+    given = on->step(table, node_words, seat_table, seat_words, seat, lent + 1);
     if (soodhiqune_answer_of(given) != SOODHIQUNE_WAIT) {
         check("shared words as found", tells(UNTOUCHED, UNTOUCHED));
     }
@@ -83,32 +86,36 @@ static int waits(uint64_t given, uint32_t node, uint32_t first, uint32_t end)
 static void enters(uint32_t *table, size_t node_words, uint32_t *seat_table, size_t seat_words, uint32_t seat, uint32_t start, uint32_t end,
                    uint32_t kind)
 {
-    const uint64_t given = soodhiqune_reserve(table, node_words, seat_table, seat_words, seat, start, end, kind);
+    const uint64_t given = on->reserve(table, node_words, seat_table, seat_words, seat, start, end, kind);
     check("reserved", soodhiqune_answer_of(given) == SOODHIQUNE_NODE);
-    check("entered", answers(soodhiqune_enter(table, node_words, seat_table, seat_words, seat), SOODHIQUNE_ON, 0));
+    check("entered", answers(on->enter(table, node_words, seat_table, seat_words, seat), SOODHIQUNE_ON, 0));
 }
 
-static int accepts_lengths(size_t node_words, size_t seat_words)
+static void check_numbers(void)
 {
-    return soodhiqune_clear(nodes, node_words, seats, seat_words, 1) == SOODHIQUNE_ACCEPTED;
-}
-
-static void check_lengths(void)
-{
-    const size_t node_words = SOODHIQUNE_NODE_WORDS(1), seat_words = SOODHIQUNE_SEAT_WORDS(1);
     check("the numbers that documents 01 and 02 say", SOODHIQUNE_NODE_WORDS(4) == 24 && SOODHIQUNE_SEAT_WORDS(3) == 12 &&
-          SOODHIQUNE_ROW_WORDS(2) == 8 && SOODHIQUNE_SHARED_WORDS == 2 && SOODHIQUNE_SCRIPT_NUMBERS == 5004 &&
+          SOODHIQUNE_SHEET_NODE_WORDS(4) == 24 && SOODHIQUNE_SHEET_SEAT_WORDS(3) == 12 && SOODHIQUNE_ROW_WORDS(2) == 8 && SOODHIQUNE_SHARED_WORDS == 2 && SOODHIQUNE_SCRIPT_NUMBERS == 5004 &&
           SOODHIQUNE_EMPTY_CLAIM == 3 && SOODHIQUNE_EMPTY_TITLE == 3 && SOODHIQUNE_NO_SUCH_KIND == 4 && SOODHIQUNE_BAD_SCRIPT == 10 &&
           SOODHIQUNE_BEYOND_TITLE == 11 && SOODHIQUNE_BOARD_TOO_SHORT == 9 && SOODHIQUNE_LIST_TOO_SHORT == 9 && SOODHIQUNE_NO_RUN == 12 &&
           SOODHIQUNE_NO_SUCH_TYPE == 13 && SOODHIQUNE_NOT_RESERVED == 14 && SOODHIQUNE_LOCK_WORDS(2) == 6 &&
           SOODHIQUNE_CLAIM_WORDS(2) == 6 && SOODHIQUNE_RESERVE == 1 && SOODHIQUNE_STEP == 2 && SOODHIQUNE_RELEASE == 3 &&
           SOODHIQUNE_ENTER == 4);
+}
+
+static int accepts_lengths(size_t node_words, size_t seat_words)
+{
+    return on->clear(nodes, node_words, seats, seat_words, 1) == SOODHIQUNE_ACCEPTED;
+}
+
+static void check_lengths(void)
+{
+    const size_t node_words = on->node_words(1), seat_words = on->seat_words(1);
     check("the fewest", accepts_lengths(node_words, seat_words));
-    check("the most", accepts_lengths(SOODHIQUNE_NODE_WORDS(SOODHIQUNE_MOST_NODES), SOODHIQUNE_SEAT_WORDS(SOODHIQUNE_MOST_SEATS)));
-    check("a node too many", !accepts_lengths(SOODHIQUNE_NODE_WORDS(SOODHIQUNE_MOST_NODES + 1), seat_words));
-    check("a seat too many", !accepts_lengths(node_words, SOODHIQUNE_SEAT_WORDS(SOODHIQUNE_MOST_SEATS + 1)));
-    check("no node", !accepts_lengths(SOODHIQUNE_BEFORE_NODES, seat_words));
-    check("a word too few before the nodes", !accepts_lengths(SOODHIQUNE_BEFORE_NODES - 1, seat_words));
+    check("the most", accepts_lengths(on->node_words(SOODHIQUNE_MOST_NODES), on->seat_words(SOODHIQUNE_MOST_SEATS)));
+    check("a node too many", !accepts_lengths(on->node_words(SOODHIQUNE_MOST_NODES + 1), seat_words));
+    check("a seat too many", !accepts_lengths(node_words, on->seat_words(SOODHIQUNE_MOST_SEATS + 1)));
+    check("no node", !accepts_lengths(on->node_words(0), seat_words));
+    check("a word too few before the nodes", !accepts_lengths(on->node_words(0) - 1, seat_words));
     check("a word too few for the node", !accepts_lengths(node_words - 1, seat_words));
     check("a word too many for the node", !accepts_lengths(node_words + 1, seat_words));
     check("a word too few for the seat", !accepts_lengths(node_words, seat_words - 1));
@@ -122,47 +129,47 @@ static void check_claims(void)
     memset(nodes, 7, sizeof nodes);
     memset(seats, 7, sizeof seats);
     check("a table of sevens is damaged", refuses(stepped(TABLES, 0), SOODHIQUNE_DAMAGED));
-    check("clear", soodhiqune_clear(TABLES, FRAMES) == SOODHIQUNE_ACCEPTED);
-    check("seat 0 reserves", answers(soodhiqune_reserve(TABLES, 0, 10, 20, SOODHIQUNE_WRITES), SOODHIQUNE_NODE, 1));
-    check("seat 0 enters", answers(soodhiqune_enter(TABLES, 0), SOODHIQUNE_ON, 0));
-    check("seat 0 is listed", answers(stepped(TABLES, 0), SOODHIQUNE_ON, 0));
+    check("clear", on->clear(TABLES, FRAMES) == SOODHIQUNE_ACCEPTED);
+    check("seat 0 reserves", answers(on->reserve(TABLES, 0, 10, 20, SOODHIQUNE_WRITES), SOODHIQUNE_NODE, 1));
+    check("seat 0 enters", answers(on->enter(TABLES, 0), SOODHIQUNE_ON, 0));
+    check("seat 0 is linked", answers(stepped(TABLES, 0), on->links, 0));
     check("seat 0 holds", answers(stepped(TABLES, 0), SOODHIQUNE_HELD, 0));
-    check("seat 1 reserves", answers(soodhiqune_reserve(TABLES, 1, 15, 25, SOODHIQUNE_WRITES), SOODHIQUNE_NODE, 2));
-    check("seat 1 enters", answers(soodhiqune_enter(TABLES, 1), SOODHIQUNE_ON, 0));
+    check("seat 1 reserves", answers(on->reserve(TABLES, 1, 15, 25, SOODHIQUNE_WRITES), SOODHIQUNE_NODE, 2));
+    check("seat 1 enters", answers(on->enter(TABLES, 1), SOODHIQUNE_ON, 0));
     check("seat 1 waits at node 1, which shares frames 15 up to 20", waits(stepped(TABLES, 1), 1, 15, 20));
     check("seat 1 waits on, and is told so again", waits(stepped(TABLES, 1), 1, 15, 20));
-    check("nodes 3 and 4 are free", counts(soodhiqune_free_count(TABLES), 2));
-    check("seat 1 does not hold", refuses(soodhiqune_release(TABLES, 1), SOODHIQUNE_NOT_HOLDING));
-    check("seat 0 releases", answers(soodhiqune_release(TABLES, 0), SOODHIQUNE_OUT, 0));
-    check("an empty schedule", ran(soodhiqune_run(TABLES, holds, 0, 9), 0, SOODHIQUNE_ACCEPTED));
-    check("a budget of 1", ran(soodhiqune_run(TABLES, ENTRIES(holds), 1), 1, SOODHIQUNE_ACCEPTED));
-    check("seat 1 comes to hold, and steps on; seat 0 is idle", ran(soodhiqune_run(TABLES, ENTRIES(holds), 9), 4, SOODHIQUNE_SEAT_IDLE));
+    check("nodes 3 and 4 are free", counts(on->free_count(TABLES), 2));
+    check("seat 1 does not hold", refuses(on->release(TABLES, 1), SOODHIQUNE_NOT_HOLDING));
+    check("seat 0 releases", answers(on->release(TABLES, 0), SOODHIQUNE_OUT, 0));
+    check("an empty schedule", ran(on->run(TABLES, holds, 0, 9), 0, SOODHIQUNE_ACCEPTED));
+    check("a budget of 1", ran(on->run(TABLES, ENTRIES(holds), 1), 1, SOODHIQUNE_ACCEPTED));
+    check("seat 1 comes to hold, and steps on; seat 0 is idle", ran(on->run(TABLES, ENTRIES(holds), 9), 4, SOODHIQUNE_SEAT_IDLE));
 }
 
 static void check_refusals(void)
 {
-    check("no such seat", refuses(soodhiqune_reserve(TABLES, SEATS, 26, 26, 9), SOODHIQUNE_NO_SUCH_SEAT));
-    check("an empty claim", refuses(soodhiqune_reserve(TABLES, 1, 26, 26, 9), SOODHIQUNE_EMPTY_CLAIM));
-    check("beyond the title", refuses(soodhiqune_reserve(TABLES, 1, 7, 26, 9), SOODHIQUNE_BEYOND_TITLE));
-    check("no such kind", refuses(soodhiqune_reserve(TABLES, 1, 7, 25, 9), SOODHIQUNE_NO_SUCH_KIND));
-    check("the seat has a claim", refuses(soodhiqune_reserve(TABLES, 1, 7, 25, SOODHIQUNE_READS), SOODHIQUNE_SEAT_HAS_CLAIM));
+    check("no such seat", refuses(on->reserve(TABLES, SEATS, 26, 26, 9), SOODHIQUNE_NO_SUCH_SEAT));
+    check("an empty claim", refuses(on->reserve(TABLES, 1, 26, 26, 9), SOODHIQUNE_EMPTY_CLAIM));
+    check("beyond the title", refuses(on->reserve(TABLES, 1, 7, 26, 9), SOODHIQUNE_BEYOND_TITLE));
+    check("no such kind", refuses(on->reserve(TABLES, 1, 7, 25, 9), SOODHIQUNE_NO_SUCH_KIND));
+    check("the seat has a claim", refuses(on->reserve(TABLES, 1, 7, 25, SOODHIQUNE_WRITES), SOODHIQUNE_SEAT_HAS_CLAIM));
     check("the seat is idle", refuses(stepped(TABLES, 0), SOODHIQUNE_SEAT_IDLE));
-    check("no such seat to enter", refuses(soodhiqune_enter(TABLES, SEATS), SOODHIQUNE_NO_SUCH_SEAT));
-    check("an idle seat has not reserved", refuses(soodhiqune_enter(TABLES, 0), SOODHIQUNE_NOT_RESERVED));
-    check("nor has one that holds", refuses(soodhiqune_enter(TABLES, 1), SOODHIQUNE_NOT_RESERVED));
+    check("no such seat to enter", refuses(on->enter(TABLES, SEATS), SOODHIQUNE_NO_SUCH_SEAT));
+    check("an idle seat has not reserved", refuses(on->enter(TABLES, 0), SOODHIQUNE_NOT_RESERVED));
+    check("nor has one that holds", refuses(on->enter(TABLES, 1), SOODHIQUNE_NOT_RESERVED));
 }
 
 /* H7 */
 static void check_no_node(void)
 {
     uint32_t node[SOODHIQUNE_NODE_WORDS(1)], both[SOODHIQUNE_SEAT_WORDS(2)];
-    const size_t node_words = SOODHIQUNE_NODE_WORDS(1), both_words = SOODHIQUNE_SEAT_WORDS(2);
-    soodhiqune_clear(node, node_words, both, both_words, 10);
-    soodhiqune_reserve(node, node_words, both, both_words, 0, 0, 10, SOODHIQUNE_WRITES);
+    const size_t node_words = on->node_words(1), both_words = on->seat_words(2);
+    on->clear(node, node_words, both, both_words, 10);
+    on->reserve(node, node_words, both, both_words, 0, 0, 10, SOODHIQUNE_WRITES);
     check("no node is free",
-          refuses(soodhiqune_reserve(node, node_words, both, both_words, 1, 0, 10, SOODHIQUNE_WRITES), SOODHIQUNE_NO_NODE_FREE));
+          refuses(on->reserve(node, node_words, both, both_words, 1, 0, 10, SOODHIQUNE_WRITES), SOODHIQUNE_NO_NODE_FREE));
     check("beyond the title, and no node is free",
-          refuses(soodhiqune_reserve(node, node_words, both, both_words, 1, 0, 11, SOODHIQUNE_WRITES), SOODHIQUNE_BEYOND_TITLE));
+          refuses(on->reserve(node, node_words, both, both_words, 1, 0, 11, SOODHIQUNE_WRITES), SOODHIQUNE_BEYOND_TITLE));
 }
 
 /* a writer that meets a reader goes back, and takes a node anew though its claim ends with the title: document 01's H9 and H10 */
@@ -170,22 +177,22 @@ static void check_back(void)
 {
     const uint32_t first[] = {0, 0}, second[] = {1, 1, 1}, others[] = {3, 3, 2, 2, 3, 2};
     uint32_t table[SOODHIQUNE_NODE_WORDS(8)], four[SOODHIQUNE_SEAT_WORDS(4)];
-#define H9 table, SOODHIQUNE_NODE_WORDS(8), four, SOODHIQUNE_SEAT_WORDS(4)
-    soodhiqune_clear(H9, 20);
+#define H9 table, on->node_words(8), four, on->seat_words(4)
+    on->clear(H9, 20);
     enters(H9, 0, 1, 10, SOODHIQUNE_READS);
-    soodhiqune_run(H9, ENTRIES(first), 9);
+    on->run(H9, ENTRIES(first), 9);
     enters(H9, 1, 12, 14, SOODHIQUNE_READS);
-    soodhiqune_run(H9, ENTRIES(second), 9);
+    on->run(H9, ENTRIES(second), 9);
     enters(H9, 2, 5, 20, SOODHIQUNE_READS);
     enters(H9, 3, 15, 20, SOODHIQUNE_WRITES);
-    soodhiqune_run(H9, ENTRIES(others), 9);
+    on->run(H9, ENTRIES(others), 9);
     check("a reader meets a writer that it shares frames with", waits(stepped(H9, 2), 4, 15, 20));
     check("it waits on, and is told so again", waits(stepped(H9, 2), 4, 15, 20));
     check("the writer looks at the readers", answers(stepped(H9, 3), SOODHIQUNE_ON, 0));
     check("the writer goes back", answers(stepped(H9, 3), SOODHIQUNE_BACK, 0));
-    check("what is withdrawn has not reserved", refuses(soodhiqune_enter(H9, 3), SOODHIQUNE_NOT_RESERVED));
+    check("what is withdrawn has not reserved", refuses(on->enter(H9, 3), SOODHIQUNE_NOT_RESERVED));
     check("the writer takes a node anew", answers(stepped(H9, 3), SOODHIQUNE_ON, 0) && table[SOODHIQUNE_TITLE] == 20);
-    check("and enters with it", answers(soodhiqune_enter(H9, 3), SOODHIQUNE_ON, 0));
+    check("and enters with it", answers(on->enter(H9, 3), SOODHIQUNE_ON, 0));
     check("the reader's wait is over", answers(stepped(H9, 2), SOODHIQUNE_ON, 0));
 }
 
@@ -203,9 +210,9 @@ static void check_board(void)
     wanted[SOODHIQUNE_ROW_END] = 25;
     wanted[SOODHIQUNE_ROW_KIND] = SOODHIQUNE_WRITES;
     check("no room for a row",
-          refuses(soodhiqune_board(TABLES, rows, SOODHIQUNE_ROW_WORDS(1) - 1, &covered), SOODHIQUNE_BOARD_TOO_SHORT));
+          refuses(on->board(TABLES, rows, SOODHIQUNE_ROW_WORDS(1) - 1, &covered), SOODHIQUNE_BOARD_TOO_SHORT));
     check("nothing stored", memcmp(rows, untouched, sizeof rows) == 0 && covered == UNTOUCHED);
-    check("seat 1 holds", counts(soodhiqune_board(TABLES, rows, row_words, &covered), 1));
+    check("seat 1 holds", counts(on->board(TABLES, rows, row_words, &covered), 1));
     check("its row, and the next kept", memcmp(rows, wanted, sizeof rows) == 0 && covered == 10);
 }
 
@@ -215,13 +222,13 @@ static void check_covered(void)
     const uint32_t first[] = {0, 0}, second[] = {1, 1, 1};
     uint32_t table[SOODHIQUNE_NODE_WORDS(2)], both[SOODHIQUNE_SEAT_WORDS(2)], rows[SOODHIQUNE_ROW_WORDS(2)];
     uint64_t covered = UNTOUCHED;
-#define BOTH table, SOODHIQUNE_NODE_WORDS(2), both, SOODHIQUNE_SEAT_WORDS(2)
-    soodhiqune_clear(BOTH, 100);
+#define BOTH table, on->node_words(2), both, on->seat_words(2)
+    on->clear(BOTH, 100);
     enters(BOTH, 0, 0, 100, SOODHIQUNE_READS);
-    soodhiqune_run(BOTH, ENTRIES(first), 9);
+    on->run(BOTH, ENTRIES(first), 9);
     enters(BOTH, 1, 50, 60, SOODHIQUNE_READS);
-    soodhiqune_run(BOTH, ENTRIES(second), 9);
-    check("two readers hold", counts(soodhiqune_board(BOTH, rows, SOODHIQUNE_ROW_WORDS(2), &covered), 2));
+    on->run(BOTH, ENTRIES(second), 9);
+    check("two readers hold", counts(on->board(BOTH, rows, SOODHIQUNE_ROW_WORDS(2), &covered), 2));
     check("their shared frames are covered once, which is the whole title", covered == 100 && covered == table[SOODHIQUNE_TITLE]);
 }
 
@@ -229,9 +236,9 @@ static void check_covered(void)
 static int waits_at(uint32_t *table, uint32_t *both, uint32_t start, uint32_t end, uint32_t first, uint32_t shared_end)
 {
     const uint32_t holds[] = {0, 0};
-    soodhiqune_clear(BOTH, UINT32_MAX);
+    on->clear(BOTH, UINT32_MAX);
     enters(BOTH, 0, start, end, SOODHIQUNE_READS);
-    soodhiqune_run(BOTH, ENTRIES(holds), 9);
+    on->run(BOTH, ENTRIES(holds), 9);
     enters(BOTH, 1, 15, 25, SOODHIQUNE_WRITES);
     return waits(stepped(BOTH, 1), 1, first, shared_end);
 }
@@ -240,7 +247,7 @@ static int waits_at(uint32_t *table, uint32_t *both, uint32_t start, uint32_t en
 static void check_shared(void)
 {
     uint32_t table[SOODHIQUNE_NODE_WORDS(2)], both[SOODHIQUNE_SEAT_WORDS(2)];
-    uint32_t *end_of_node_1 = table + SOODHIQUNE_BEFORE_NODES + 1, *cur_of_seat_1 = both + SOODHIQUNE_SEAT_WORDS(1) + 3;
+    uint32_t *end_of_node_1 = table + on->node_words(0) + 1, *cur_of_seat_1 = both + on->seat_words(1) + 3;
     check("a part of each claim is shared", waits_at(table, both, 10, 20, 15, 20) && waits_at(table, both, 20, 30, 20, 25));
     check("all of the waiting claim", waits_at(table, both, 0, 100, 15, 25) && waits_at(table, both, 0, UINT32_MAX, 15, 25));
     check("all of the claim waited at", waits_at(table, both, 17, 19, 17, 19));
@@ -250,7 +257,7 @@ static void check_shared(void)
     check("no frame, in a table that no call leaves", waits(stepped(BOTH, 1), 1, 0, 0));
     *cur_of_seat_1 = 2;
     check("at its own node, in such a table", waits(stepped(BOTH, 1), 2, 15, 25));
-    soodhiqune_clear(BOTH, UINT32_MAX);
+    on->clear(BOTH, UINT32_MAX);
     enters(BOTH, 0, 0, UINT32_MAX, SOODHIQUNE_WRITES);
     stepped(BOTH, 0);
     enters(BOTH, 1, 0, UINT32_MAX, SOODHIQUNE_WRITES);
@@ -267,7 +274,7 @@ static int damages(uint32_t *table, const uint32_t *four, uint32_t readers, uint
 {
     table[SOODHIQUNE_HOLDING_READERS] = readers;
     table[SOODHIQUNE_HOLDING_WRITERS] = writers;
-    return refuses(soodhiqune_free_count(table, SOODHIQUNE_NODE_WORDS(4), four, SOODHIQUNE_SEAT_WORDS(4)), SOODHIQUNE_DAMAGED) &&
+    return refuses(on->free_count(table, on->node_words(4), four, on->seat_words(4)), SOODHIQUNE_DAMAGED) &&
            holding(table, readers, writers);
 }
 
@@ -276,19 +283,19 @@ static void check_counts(void)
 {
     const uint32_t first[] = {0, 0}, second[] = {1, 1, 1}, third[] = {2, 2, 2, 2, 2, 2};
     uint32_t table[SOODHIQUNE_NODE_WORDS(4)], four[SOODHIQUNE_SEAT_WORDS(4)];
-#define FOUR table, SOODHIQUNE_NODE_WORDS(4), four, SOODHIQUNE_SEAT_WORDS(4)
-    check("nobody holds in fresh tables", soodhiqune_clear(FOUR, 30) == SOODHIQUNE_ACCEPTED && holding(table, 0, 0));
-    soodhiqune_reserve(FOUR, 0, 0, 10, SOODHIQUNE_READS);
+#define FOUR table, on->node_words(4), four, on->seat_words(4)
+    check("nobody holds in fresh tables", on->clear(FOUR, 30) == SOODHIQUNE_ACCEPTED && holding(table, 0, 0));
+    on->reserve(FOUR, 0, 0, 10, SOODHIQUNE_READS);
     check("a claim that has a node does not hold", holding(table, 0, 0));
-    check("nor does one that entered", answers(soodhiqune_enter(FOUR, 0), SOODHIQUNE_ON, 0) && holding(table, 0, 0));
-    check("a reader holds", ran(soodhiqune_run(FOUR, ENTRIES(first), 9), 2, SOODHIQUNE_ACCEPTED) && holding(table, 1, 0));
+    check("nor does one that entered", answers(on->enter(FOUR, 0), SOODHIQUNE_ON, 0) && holding(table, 0, 0));
+    check("a reader holds", ran(on->run(FOUR, ENTRIES(first), 9), 2, SOODHIQUNE_ACCEPTED) && holding(table, 1, 0));
     enters(FOUR, 1, 5, 10, SOODHIQUNE_READS);
-    check("two readers hold", ran(soodhiqune_run(FOUR, ENTRIES(second), 9), 3, SOODHIQUNE_ACCEPTED) && holding(table, 2, 0));
+    check("two readers hold", ran(on->run(FOUR, ENTRIES(second), 9), 3, SOODHIQUNE_ACCEPTED) && holding(table, 2, 0));
     enters(FOUR, 2, 20, 30, SOODHIQUNE_WRITES);
-    check("a writer is on its way", ran(soodhiqune_run(FOUR, ENTRIES(third), 5), 5, SOODHIQUNE_ACCEPTED) && holding(table, 2, 0));
+    check("a writer is on its way", ran(on->run(FOUR, ENTRIES(third), 5), 5, SOODHIQUNE_ACCEPTED) && holding(table, 2, 0));
     check("the writer holds", answers(stepped(FOUR, 2), SOODHIQUNE_HELD, 0) && holding(table, 2, 1));
     check("a holder that steps is counted once", answers(stepped(FOUR, 2), SOODHIQUNE_HELD, 0) && holding(table, 2, 1));
-    check("a refused call", refuses(soodhiqune_release(FOUR, 3), SOODHIQUNE_NOT_HOLDING) && holding(table, 2, 1));
+    check("a refused call", refuses(on->release(FOUR, 3), SOODHIQUNE_NOT_HOLDING) && holding(table, 2, 1));
     check("a reader too many is damage", damages(table, four, 3, 1));
     check("a reader too few is damage", damages(table, four, 1, 1));
     check("a writer too many is damage", damages(table, four, 2, 2));
@@ -296,16 +303,16 @@ static void check_counts(void)
     check("the two the other way round are damage", damages(table, four, 1, 2));
     table[SOODHIQUNE_HOLDING_READERS] = 2;
     table[SOODHIQUNE_HOLDING_WRITERS] = 1;
-    check("a reader releases", answers(soodhiqune_release(FOUR, 0), SOODHIQUNE_OUT, 0) && holding(table, 1, 1));
-    check("the writer releases", answers(soodhiqune_release(FOUR, 2), SOODHIQUNE_OUT, 0) && holding(table, 1, 0));
-    check("cleared, nobody holds", soodhiqune_clear(FOUR, 30) == SOODHIQUNE_ACCEPTED && holding(table, 0, 0));
+    check("a reader releases", answers(on->release(FOUR, 0), SOODHIQUNE_OUT, 0) && holding(table, 1, 1));
+    check("the writer releases", answers(on->release(FOUR, 2), SOODHIQUNE_OUT, 0) && holding(table, 1, 0));
+    check("cleared, nobody holds", on->clear(FOUR, 30) == SOODHIQUNE_ACCEPTED && holding(table, 0, 0));
 }
 
 /* a call refuses a table with this title, and leaves it */
 static int damages_title(uint32_t *table, const uint32_t *four, uint32_t title)
 {
     table[SOODHIQUNE_TITLE] = title;
-    return refuses(soodhiqune_free_count(table, SOODHIQUNE_NODE_WORDS(4), four, SOODHIQUNE_SEAT_WORDS(4)), SOODHIQUNE_DAMAGED) &&
+    return refuses(on->free_count(table, on->node_words(4), four, on->seat_words(4)), SOODHIQUNE_DAMAGED) &&
            table[SOODHIQUNE_TITLE] == title;
 }
 
@@ -318,32 +325,32 @@ static void check_title(void)
     int zeros = 1;
     memset(table, 7, sizeof table);
     memset(four, 7, sizeof four);
-    check("a title of no frames", refuses(soodhiqune_clear(FOUR, 0), SOODHIQUNE_EMPTY_TITLE) && table[SOODHIQUNE_TITLE] == 0x07070707);
+    check("a title of no frames", refuses(on->clear(FOUR, 0), SOODHIQUNE_EMPTY_TITLE) && table[SOODHIQUNE_TITLE] == 0x07070707);
     check("no frames, and a word too few",
-          refuses(soodhiqune_clear(table, SOODHIQUNE_NODE_WORDS(4) - 1, four, SOODHIQUNE_SEAT_WORDS(4), 0), SOODHIQUNE_DAMAGED));
-    check("a title of 20 frames", soodhiqune_clear(FOUR, 20) == SOODHIQUNE_ACCEPTED && table[SOODHIQUNE_TITLE] == 20);
-    for (word = 0; word < SOODHIQUNE_NODE_WORDS(4); word++) {
+          refuses(on->clear(table, on->node_words(4) - 1, four, on->seat_words(4), 0), SOODHIQUNE_DAMAGED));
+    check("a title of 20 frames", on->clear(FOUR, 20) == SOODHIQUNE_ACCEPTED && table[SOODHIQUNE_TITLE] == 20);
+    for (word = 0; word < on->node_words(4); word++) {
         zeros = zeros && (word == SOODHIQUNE_TITLE || table[word] == 0);
     }
     check("0 everywhere else", zeros);
-    check("a frame beyond", refuses(soodhiqune_reserve(FOUR, 0, 10, 21, SOODHIQUNE_WRITES), SOODHIQUNE_BEYOND_TITLE));
-    check("beyond, and empty", refuses(soodhiqune_reserve(FOUR, 0, 21, 21, SOODHIQUNE_WRITES), SOODHIQUNE_EMPTY_CLAIM));
-    check("beyond, and of no known kind", refuses(soodhiqune_reserve(FOUR, 0, 10, 21, 9), SOODHIQUNE_BEYOND_TITLE));
-    check("up to the end", answers(soodhiqune_reserve(FOUR, 0, 10, 20, SOODHIQUNE_WRITES), SOODHIQUNE_NODE, 1));
+    check("a frame beyond", refuses(on->reserve(FOUR, 0, 10, 21, SOODHIQUNE_WRITES), SOODHIQUNE_BEYOND_TITLE));
+    check("beyond, and empty", refuses(on->reserve(FOUR, 0, 21, 21, SOODHIQUNE_WRITES), SOODHIQUNE_EMPTY_CLAIM));
+    check("beyond, and of no known kind", refuses(on->reserve(FOUR, 0, 10, 21, 9), SOODHIQUNE_BEYOND_TITLE));
+    check("up to the end", answers(on->reserve(FOUR, 0, 10, 20, SOODHIQUNE_WRITES), SOODHIQUNE_NODE, 1));
     check("beyond, by a seat that has a claim",
-          refuses(soodhiqune_reserve(FOUR, 0, 10, 21, SOODHIQUNE_WRITES), SOODHIQUNE_BEYOND_TITLE));
+          refuses(on->reserve(FOUR, 0, 10, 21, SOODHIQUNE_WRITES), SOODHIQUNE_BEYOND_TITLE));
     check("it holds, and the title stays",
-          ran(soodhiqune_run(FOUR, ENTRIES(first), 9), 3, SOODHIQUNE_ACCEPTED) && table[SOODHIQUNE_TITLE] == 20);
+          ran(on->run(FOUR, ENTRIES(first), 9), 3, SOODHIQUNE_ACCEPTED) && table[SOODHIQUNE_TITLE] == 20);
     check("no title is damage", damages_title(table, four, 0));
     check("a frame short of an end is damage", damages_title(table, four, 19));
     table[SOODHIQUNE_TITLE] = 20;
-    check("released, and the title stays", answers(soodhiqune_release(FOUR, 0), SOODHIQUNE_OUT, 0) && table[SOODHIQUNE_TITLE] == 20);
+    check("released, and the title stays", answers(on->release(FOUR, 0), SOODHIQUNE_OUT, 0) && table[SOODHIQUNE_TITLE] == 20);
     check("a released claim still needs its frames", damages_title(table, four, 19));
-    check("the longest title", soodhiqune_clear(FOUR, UINT32_MAX) == SOODHIQUNE_ACCEPTED && table[SOODHIQUNE_TITLE] == UINT32_MAX);
-    check("and all of it", answers(soodhiqune_reserve(FOUR, 0, 0, UINT32_MAX, SOODHIQUNE_WRITES), SOODHIQUNE_NODE, 1));
-    check("the shortest title", soodhiqune_clear(FOUR, 1) == SOODHIQUNE_ACCEPTED && table[SOODHIQUNE_TITLE] == 1);
-    check("a frame that it does not have", refuses(soodhiqune_reserve(FOUR, 0, 1, 2, SOODHIQUNE_READS), SOODHIQUNE_BEYOND_TITLE));
-    check("its frame", answers(soodhiqune_reserve(FOUR, 0, 0, 1, SOODHIQUNE_READS), SOODHIQUNE_NODE, 1));
+    check("the longest title", on->clear(FOUR, UINT32_MAX) == SOODHIQUNE_ACCEPTED && table[SOODHIQUNE_TITLE] == UINT32_MAX);
+    check("and all of it", answers(on->reserve(FOUR, 0, 0, UINT32_MAX, SOODHIQUNE_WRITES), SOODHIQUNE_NODE, 1));
+    check("the shortest title", on->clear(FOUR, 1) == SOODHIQUNE_ACCEPTED && table[SOODHIQUNE_TITLE] == 1);
+    check("a frame that it does not have", refuses(on->reserve(FOUR, 0, 1, 2, SOODHIQUNE_WRITES), SOODHIQUNE_BEYOND_TITLE));
+    check("its frame", answers(on->reserve(FOUR, 0, 0, 1, SOODHIQUNE_WRITES), SOODHIQUNE_NODE, 1));
 }
 
 /* enter is refused for a seat that has not reserved, and leaves both tables */
@@ -352,7 +359,7 @@ static int not_reserved(uint32_t *table, uint32_t *four, uint32_t seat)
     uint32_t table_found[SOODHIQUNE_NODE_WORDS(4)], four_found[SOODHIQUNE_SEAT_WORDS(4)];
     memcpy(table_found, table, sizeof table_found);
     memcpy(four_found, four, sizeof four_found);
-    return refuses(soodhiqune_enter(FOUR, seat), SOODHIQUNE_NOT_RESERVED) && memcmp(table, table_found, sizeof table_found) == 0 &&
+    return refuses(on->enter(FOUR, seat), SOODHIQUNE_NOT_RESERVED) && memcmp(table, table_found, sizeof table_found) == 0 &&
            memcmp(four, four_found, sizeof four_found) == 0;
 }
 
@@ -360,29 +367,98 @@ static int not_reserved(uint32_t *table, uint32_t *four, uint32_t seat)
 static void check_reserved(void)
 {
     uint32_t table[SOODHIQUNE_NODE_WORDS(4)], four[SOODHIQUNE_SEAT_WORDS(4)], table_found[SOODHIQUNE_NODE_WORDS(4)];
-    const uint32_t *words = four + SOODHIQUNE_SEAT_WORDS(1);
-    soodhiqune_clear(FOUR, 100);
+    const uint32_t *words = four + on->seat_words(1);
+    on->clear(FOUR, 100);
     check("an idle seat does not enter", not_reserved(table, four, 0));
-    check("two reserve", answers(soodhiqune_reserve(FOUR, 0, 0, 10, SOODHIQUNE_WRITES), SOODHIQUNE_NODE, 1) &&
-          answers(soodhiqune_reserve(FOUR, 1, 5, 15, SOODHIQUNE_WRITES), SOODHIQUNE_NODE, 2));
-    check("their nodes are not free", counts(soodhiqune_free_count(FOUR), 2));
+    check("two reserve", answers(on->reserve(FOUR, 0, 0, 10, SOODHIQUNE_WRITES), SOODHIQUNE_NODE, 1) &&
+          answers(on->reserve(FOUR, 1, 5, 15, SOODHIQUNE_WRITES), SOODHIQUNE_NODE, 2));
+    check("their nodes are not free", counts(on->free_count(FOUR), 2));
     check("the list is as it was", table[SOODHIQUNE_HEAD] == 0 && words[0] == 7 && words[1] == 2 && words[2] == 0 && words[3] == 0);
-    check("a reserved seat has a claim", refuses(soodhiqune_reserve(FOUR, 1, 5, 15, SOODHIQUNE_WRITES), SOODHIQUNE_SEAT_HAS_CLAIM));
-    check("and does not hold", refuses(soodhiqune_release(FOUR, 1), SOODHIQUNE_NOT_HOLDING));
+    check("a reserved seat has a claim", refuses(on->reserve(FOUR, 1, 5, 15, SOODHIQUNE_WRITES), SOODHIQUNE_SEAT_HAS_CLAIM));
+    check("and does not hold", refuses(on->release(FOUR, 1), SOODHIQUNE_NOT_HOLDING));
     check("the first enters by a step", answers(stepped(FOUR, 0), SOODHIQUNE_ON, 0) && not_reserved(table, four, 0));
-    check("it is listed", answers(stepped(FOUR, 0), SOODHIQUNE_ON, 0) && not_reserved(table, four, 0));
+    check("it is linked", answers(stepped(FOUR, 0), on->links, 0) && not_reserved(table, four, 0));
     check("it holds", answers(stepped(FOUR, 0), SOODHIQUNE_HELD, 0) && not_reserved(table, four, 0));
     memcpy(table_found, table, sizeof table_found);
-    check("the second enters at the head as it is now", answers(soodhiqune_enter(FOUR, 1), SOODHIQUNE_ON, 0) && words[0] == 1 &&
+    check("the second enters at the head as it is now", answers(on->enter(FOUR, 1), SOODHIQUNE_ON, 0) && words[0] == 1 &&
           words[1] == 2 && words[2] == 0 && words[3] == 1);
     check("no node changed", memcmp(table, table_found, sizeof table_found) == 0);
     check("it waits", waits(stepped(FOUR, 1), 1, 5, 10) && not_reserved(table, four, 1));
-    check("no such seat", refuses(soodhiqune_enter(FOUR, 4), SOODHIQUNE_NO_SUCH_SEAT));
-    four[SOODHIQUNE_SEAT_WORDS(2)] = 8;
-    four[SOODHIQUNE_SEAT_WORDS(2) + 1] = 1;
-    check("there is no phase 8", refuses(soodhiqune_enter(FOUR, 4), SOODHIQUNE_DAMAGED));
-    four[SOODHIQUNE_SEAT_WORDS(2)] = 7;
-    check("phase 7 has a node", answers(soodhiqune_enter(FOUR, 2), SOODHIQUNE_ON, 0));
+    check("no such seat", refuses(on->enter(FOUR, 4), SOODHIQUNE_NO_SUCH_SEAT));
+    four[on->seat_words(2)] = 8;
+    four[on->seat_words(2) + 1] = 1;
+    check("there is no phase 8", refuses(on->enter(FOUR, 4), SOODHIQUNE_DAMAGED));
+    four[on->seat_words(2)] = 7;
+    check("phase 7 has a node", answers(on->enter(FOUR, 2), SOODHIQUNE_ON, 0));
+}
+
+/* tables of the set in which seat 0 has reserved node 1, with this phase and this cur there, and this kind in the node */
+static void put_reserved(uint32_t *table, uint32_t *four, uint32_t phase, uint32_t cur, uint32_t kind)
+{
+    on->clear(FOUR, 30);
+    on->reserve(FOUR, 0, 0, 10, SOODHIQUNE_WRITES);
+    four[0] = phase;
+    four[3] = cur;
+    table[on->node_words(0) + 2] = kind;
+}
+
+static int takes(uint32_t phase, uint32_t cur, uint32_t kind)
+{
+    uint32_t table[SOODHIQUNE_NODE_WORDS(4)], four[SOODHIQUNE_SEAT_WORDS(4)];
+    put_reserved(table, four, phase, cur, kind);
+    return counts(on->free_count(FOUR), 3);
+}
+
+static int all_find_damage(uint32_t *table, uint32_t *four)
+{
+    const uint32_t first[] = {0};
+    uint32_t rows[SOODHIQUNE_ROW_WORDS(4)];
+    uint64_t covered = UNTOUCHED;
+    return refuses(on->reserve(FOUR, 1, 10, 20, SOODHIQUNE_WRITES), SOODHIQUNE_DAMAGED) &&
+           refuses(on->enter(FOUR, 0), SOODHIQUNE_DAMAGED) && refuses(stepped(FOUR, 0), SOODHIQUNE_DAMAGED) &&
+           refuses(on->release(FOUR, 0), SOODHIQUNE_DAMAGED) && ran(on->run(FOUR, ENTRIES(first), 9), 0, SOODHIQUNE_DAMAGED) &&
+           refuses(on->board(FOUR, rows, SOODHIQUNE_ROW_WORDS(4), &covered), SOODHIQUNE_DAMAGED) && covered == UNTOUCHED &&
+           refuses(on->free_count(FOUR), SOODHIQUNE_DAMAGED);
+}
+
+/* the phases and the kind that a writers' sheet does not have are sound in ordinary tables */
+static void check_phases_and_kinds(void)
+{
+    const int sound = on == &ordinary;
+    check("phases 1, 2 and 7", takes(1, 0, SOODHIQUNE_WRITES) && takes(2, 1, SOODHIQUNE_WRITES) && takes(7, 0, SOODHIQUNE_WRITES));
+    check("phase 3", takes(3, 0, SOODHIQUNE_WRITES) == sound);
+    check("phase 4", takes(4, 1, SOODHIQUNE_WRITES) == sound);
+    check("phase 6", takes(6, 0, SOODHIQUNE_WRITES) == sound);
+    check("phase 8", !takes(8, 0, SOODHIQUNE_WRITES));
+    check("a node that reads", takes(7, 0, SOODHIQUNE_READS) == sound);
+}
+
+/* a catalogue of writers only: document 02's eighth request */
+static void check_sheet(void)
+{
+    const uint32_t third[] = {2, 2, 2, 9}, second[] = {1, 1, 1};
+    uint32_t table[SOODHIQUNE_NODE_WORDS(4)], four[SOODHIQUNE_SEAT_WORDS(4)], rows[SOODHIQUNE_ROW_WORDS(4)];
+    uint64_t covered = UNTOUCHED;
+    check("nobody holds in a fresh one", on->clear(FOUR, 30) == SOODHIQUNE_ACCEPTED && holding(table, 0, 0));
+    check("a claim that reads", refuses(on->reserve(FOUR, 0, 0, 10, SOODHIQUNE_READS), SOODHIQUNE_NO_SUCH_KIND));
+    check("one that reads beyond the title", refuses(on->reserve(FOUR, 0, 0, 31, SOODHIQUNE_READS), SOODHIQUNE_BEYOND_TITLE));
+    enters(FOUR, 0, 0, 10, SOODHIQUNE_WRITES);
+    check("seat 0 holds once it is linked", answers(stepped(FOUR, 0), SOODHIQUNE_HELD, 0) && holding(table, 0, 1));
+    check("a seat that has a claim reads", refuses(on->reserve(FOUR, 0, 0, 10, SOODHIQUNE_READS), SOODHIQUNE_NO_SUCH_KIND));
+    enters(FOUR, 1, 5, 15, SOODHIQUNE_WRITES);
+    check("seat 1 waits for the frames that both write", waits(stepped(FOUR, 1), 1, 5, 10) && holding(table, 0, 1));
+    enters(FOUR, 2, 10, 20, SOODHIQUNE_WRITES);
+    check("seat 2 starts where seat 0 ends, and holds", ran(on->run(FOUR, ENTRIES(third), 9), 3, SOODHIQUNE_NO_SUCH_SEAT) &&
+          holding(table, 0, 2));
+    check("what both cover", counts(on->board(FOUR, rows, SOODHIQUNE_ROW_WORDS(4), &covered), 2) && covered == 20 &&
+          rows[SOODHIQUNE_ROW_WORDS(1) + SOODHIQUNE_ROW_SEAT] == 2 && rows[SOODHIQUNE_ROW_KIND] == SOODHIQUNE_WRITES);
+    check("a node is free", counts(on->free_count(FOUR), 1));
+    check("seat 0 releases", answers(on->release(FOUR, 0), SOODHIQUNE_OUT, 0) && holding(table, 0, 1));
+    check("seat 1 comes to seat 2", ran(on->run(FOUR, ENTRIES(second), 9), 3, SOODHIQUNE_ACCEPTED) && waits(stepped(FOUR, 1), 3, 10, 15));
+    check("seat 2 releases", answers(on->release(FOUR, 2), SOODHIQUNE_OUT, 0) && holding(table, 0, 0));
+    check("seat 1 holds at last", ran(on->run(FOUR, ENTRIES(second), 9), 3, SOODHIQUNE_ACCEPTED) && holding(table, 0, 1));
+    put_reserved(table, four, 7, 0, SOODHIQUNE_READS);
+    check("calls find a node that reads", all_find_damage(table, four));
 }
 
 static int wrong_first_line(const char *script, uint32_t *numbers)
@@ -600,34 +676,39 @@ static void check_there_and_back(void)
     check("what was written is read", moves(soodhiqune_import(20, locks, MOVED_WORDS, claims, MOVED_WORDS), SOODHIQUNE_ACCEPTED, 0));
     check("as the same claims", is_claim(0, 10, 15, SOODHIQUNE_READS) && is_claim(1, 0, 1, SOODHIQUNE_WRITES) &&
           is_claim(2, 15, 20, SOODHIQUNE_WRITES));
-    soodhiqune_clear(BOTH, 20);
+    on->clear(BOTH, 20);
     check("and such a claim is reserved",
-          answers(soodhiqune_reserve(BOTH, 0, last[SOODHIQUNE_CLAIM_START], last[SOODHIQUNE_CLAIM_END], last[SOODHIQUNE_CLAIM_KIND]),
+          answers(on->reserve(BOTH, 0, last[SOODHIQUNE_CLAIM_START], last[SOODHIQUNE_CLAIM_END], last[SOODHIQUNE_CLAIM_KIND]),
                   SOODHIQUNE_NODE, 1));
 }
 
-static void check_null(void)
+/* seat 1 holds in the tables that there are, and releases */
+static void check_no_tables(void)
+{
+    uint64_t covered = UNTOUCHED;
+    check("no tables to clear", refuses(on->clear(NULL, 0, NULL, 0, 1), SOODHIQUNE_DAMAGED));
+    check("no tables to clear, and no title", refuses(on->clear(NULL, 0, NULL, 0, 0), SOODHIQUNE_DAMAGED));
+    check("no tables to reserve on", refuses(on->reserve(NULL, 0, NULL, 0, 0, 1, 2, SOODHIQUNE_WRITES), SOODHIQUNE_DAMAGED));
+    check("no tables to enter on", refuses(on->enter(NULL, 0, NULL, 0, 0), SOODHIQUNE_DAMAGED));
+    check("no nodes to enter on", refuses(on->enter(NULL, 0, SEAT_TABLE, 0), SOODHIQUNE_DAMAGED));
+    check("no seats to enter", refuses(on->enter(NODE_TABLE, NULL, 0, 0), SOODHIQUNE_DAMAGED));
+    check("no nodes to step on", refuses(stepped(NULL, 0, SEAT_TABLE, 0), SOODHIQUNE_DAMAGED));
+    check("no seats to step", refuses(stepped(NODE_TABLE, NULL, 0, 0), SOODHIQUNE_DAMAGED));
+    check("no tables to release on", refuses(on->release(NULL, 0, NULL, 0, 0), SOODHIQUNE_DAMAGED));
+    check("no tables to run on", ran(on->run(NULL, 0, NULL, 0, NULL, 0, 9), 0, SOODHIQUNE_DAMAGED));
+    check("no schedule", ran(on->run(TABLES, NULL, 0, 9), 0, SOODHIQUNE_ACCEPTED));
+    check("no tables to show", refuses(on->board(NULL, 0, NULL, 0, NULL, 0, &covered), SOODHIQUNE_DAMAGED));
+    check("no rows for a holder", refuses(on->board(TABLES, NULL, 0, &covered), SOODHIQUNE_BOARD_TOO_SHORT));
+    check("covered as found", covered == UNTOUCHED);
+    on->release(TABLES, 1);
+    check("no rows for no holder", counts(on->board(TABLES, NULL, 0, &covered), 0) && covered == 0);
+    check("no tables to count on", refuses(on->free_count(NULL, 0, NULL, 0), SOODHIQUNE_DAMAGED));
+}
+
+static void check_no_lists(void)
 {
     static uint32_t numbers[SOODHIQUNE_SCRIPT_NUMBERS];
     static uint8_t printed[SOODHIQUNE_PRINTED_BYTES];
-    uint64_t covered = UNTOUCHED;
-    check("no tables to clear", refuses(soodhiqune_clear(NULL, 0, NULL, 0, 1), SOODHIQUNE_DAMAGED));
-    check("no tables to clear, and no title", refuses(soodhiqune_clear(NULL, 0, NULL, 0, 0), SOODHIQUNE_DAMAGED));
-    check("no tables to reserve on", refuses(soodhiqune_reserve(NULL, 0, NULL, 0, 0, 1, 2, SOODHIQUNE_READS), SOODHIQUNE_DAMAGED));
-    check("no tables to enter on", refuses(soodhiqune_enter(NULL, 0, NULL, 0, 0), SOODHIQUNE_DAMAGED));
-    check("no nodes to enter on", refuses(soodhiqune_enter(NULL, 0, SEAT_TABLE, 0), SOODHIQUNE_DAMAGED));
-    check("no seats to enter", refuses(soodhiqune_enter(NODE_TABLE, NULL, 0, 0), SOODHIQUNE_DAMAGED));
-    check("no nodes to step on", refuses(stepped(NULL, 0, SEAT_TABLE, 0), SOODHIQUNE_DAMAGED));
-    check("no seats to step", refuses(stepped(NODE_TABLE, NULL, 0, 0), SOODHIQUNE_DAMAGED));
-    check("no tables to release on", refuses(soodhiqune_release(NULL, 0, NULL, 0, 0), SOODHIQUNE_DAMAGED));
-    check("no tables to run on", ran(soodhiqune_run(NULL, 0, NULL, 0, NULL, 0, 9), 0, SOODHIQUNE_DAMAGED));
-    check("no schedule", ran(soodhiqune_run(TABLES, NULL, 0, 9), 0, SOODHIQUNE_ACCEPTED));
-    check("no tables to show", refuses(soodhiqune_board(NULL, 0, NULL, 0, NULL, 0, &covered), SOODHIQUNE_DAMAGED));
-    check("no rows for a holder", refuses(soodhiqune_board(TABLES, NULL, 0, &covered), SOODHIQUNE_BOARD_TOO_SHORT));
-    check("covered as found", covered == UNTOUCHED);
-    soodhiqune_release(TABLES, 1);
-    check("no rows for no holder", counts(soodhiqune_board(TABLES, NULL, 0, &covered), 0) && covered == 0);
-    check("no tables to count on", refuses(soodhiqune_free_count(NULL, 0, NULL, 0), SOODHIQUNE_DAMAGED));
     check("no script to read", soodhiqune_wrong_line(soodhiqune_read(NULL, 0, numbers)) == 1);
     check("no locks to read", moves(soodhiqune_import(20, NULL, 0, NULL, 0), SOODHIQUNE_ACCEPTED, 0));
     check("no locks to read, and no title", moves(soodhiqune_import(0, NULL, 0, NULL, 0), SOODHIQUNE_EMPTY_TITLE, 0));
@@ -638,25 +719,37 @@ static void check_null(void)
     check("no script to play", soodhiqune_play(NULL, 0, printed) == strlen("bad 1\n") && memcmp(printed, "bad 1\n", 6) == 0);
 }
 
-int main(void)
+/* what both sets of calls promise */
+static void check_calls(const struct calls *set)
 {
+    on = set;
     check_lengths();
     check_claims();
     check_refusals();
     check_no_node();
-    check_back();
     check_board();
+    check_title();
+    check_reserved();
+    check_phases_and_kinds();
+    check_no_tables();
+}
+
+int main(void)
+{
+    check_numbers();
+    check_calls(&sheet);
+    check_sheet();
+    check_calls(&ordinary);
+    check_back();
     check_covered();
     check_shared();
     check_counts();
-    check_title();
-    check_reserved();
     check_scripts();
     check_longest_waits();
     check_import();
     check_export();
     check_there_and_back();
-    check_null();
+    check_no_lists();
     printf("%d passed, %d failed\n", passed, failed);
     return failed != 0;
 }
