@@ -48,14 +48,14 @@ extern "C" {
     pub fn soodhiqune_free_count(nodes: *const u32, node_words: usize, seats: *const u32, seat_words: usize) -> u64;
     pub fn soodhiqune_read(script: *const u8, bytes: usize, numbers: *mut u32) -> u64;
     pub fn soodhiqune_play(script: *const u8, bytes: usize, printed: *mut u8) -> u64;
-    pub fn soodhiqune_import(
+    pub(crate) fn soodhiqune_import(
         title: u32,
         locks: *const i64,
         lock_words: usize,
         claims: *mut u32,
         claim_words: usize,
     ) -> Moved;
-    pub fn soodhiqune_export(
+    pub(crate) fn soodhiqune_export(
         title: u32,
         claims: *const u32,
         claim_words: usize,
