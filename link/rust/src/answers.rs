@@ -63,7 +63,8 @@ pub enum Answer {
     Wait { node: u32, first: u32, end: u32 },
     /// Step: the claim holds its frames. The worker may write.
     Held,
-    /// Step: the claim was withdrawn, since a reader was there first. Step it again, and it takes a node anew, to enter with.
+    /// Step: the claim was withdrawn, since a reader was there first. Step it again, and it takes a node anew, to enter with. No step on
+    /// a writers' sheet answers so.
     Back,
 }
 
@@ -108,7 +109,7 @@ pub enum Refused {
     NoSuchType,
     /// 11: the claim, or the lock, ends beyond the title.
     BeyondTitle,
-    /// 4: the kind is neither 1 nor 2.
+    /// 4: the kind is neither 1 nor 2; on a writers' sheet, it is not 2.
     NoSuchKind,
     /// 5: reserve wants an idle seat.
     SeatHasClaim,
@@ -118,7 +119,7 @@ pub enum Refused {
     NotHolding,
     /// 14: enter wants a seat that has reserved a node and not entered.
     NotReserved,
-    /// 8: reserve, or a step that takes a node anew, found no node free.
+    /// 8: reserve, or a step that takes a node anew, found no node free. No step on a writers' sheet does.
     NoNodeFree,
     /// 9, of the board: it has fewer rows than there are holders.
     BoardTooShort,
@@ -187,7 +188,7 @@ impl Display for Refused {
             Refused::NoRun => "the lock's run starts below 0, is empty, or ends past 4294967295",
             Refused::NoSuchType => "the lock's type is neither 1 (reads) nor 2 (writes)",
             Refused::BeyondTitle => "the claim ends beyond the title",
-            Refused::NoSuchKind => "the kind is neither 1 (reads) nor 2 (writes)",
+            Refused::NoSuchKind => "the kind is neither 1 (reads) nor 2 (writes), or it is 1 on a writers' sheet",
             Refused::SeatHasClaim => "the seat has a claim already",
             Refused::SeatIdle => "the seat has no claim",
             Refused::NotHolding => "the seat does not hold",

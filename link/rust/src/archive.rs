@@ -3,49 +3,73 @@
 
 use crate::answers::Moved;
 
+/// The calls on tables stand there twice, with the same arguments; they differ in what stands before their names.
+macro_rules! calls_on_tables {
+    ($before:literal) => {
+        extern "C" {
+            #[link_name = concat!($before, "clear")]
+            pub fn clear(nodes: *mut u32, node_words: usize, seats: *mut u32, seat_words: usize, title: u32) -> u64;
+            #[link_name = concat!($before, "reserve")]
+            pub fn reserve(
+                nodes: *mut u32,
+                node_words: usize,
+                seats: *mut u32,
+                seat_words: usize,
+                seat: u32,
+                start: u32,
+                end: u32,
+                kind: u32,
+            ) -> u64;
+            #[link_name = concat!($before, "enter")]
+            pub fn enter(nodes: *const u32, node_words: usize, seats: *mut u32, seat_words: usize, seat: u32) -> u64;
+            #[link_name = concat!($before, "step")]
+            pub fn step(
+                nodes: *mut u32,
+                node_words: usize,
+                seats: *mut u32,
+                seat_words: usize,
+                seat: u32,
+                shared: *mut u32,
+            ) -> u64;
+            #[link_name = concat!($before, "release")]
+            pub fn release(nodes: *mut u32, node_words: usize, seats: *mut u32, seat_words: usize, seat: u32) -> u64;
+            #[link_name = concat!($before, "run")]
+            pub fn run(
+                nodes: *mut u32,
+                node_words: usize,
+                seats: *mut u32,
+                seat_words: usize,
+                schedule: *const u32,
+                entries: usize,
+                budget: u32,
+            ) -> u64;
+            #[link_name = concat!($before, "board")]
+            pub fn board(
+                nodes: *const u32,
+                node_words: usize,
+                seats: *const u32,
+                seat_words: usize,
+                rows: *mut u32,
+                row_words: usize,
+                covered: *mut u64,
+            ) -> u64;
+            #[link_name = concat!($before, "free_count")]
+            pub fn free_count(nodes: *const u32, node_words: usize, seats: *const u32, seat_words: usize) -> u64;
+        }
+    };
+}
+
+/// On the ordinary tables.
+pub mod ordinary {
+    calls_on_tables!("soodhiqune_");
+}
+
+/// On a writers' sheet.
+pub mod sheet {
+    calls_on_tables!("soodhiqune_sheet_");
+}
+
 extern "C" {
-    pub fn soodhiqune_clear(nodes: *mut u32, node_words: usize, seats: *mut u32, seat_words: usize, title: u32) -> u64;
-    pub fn soodhiqune_reserve(
-        nodes: *mut u32,
-        node_words: usize,
-        seats: *mut u32,
-        seat_words: usize,
-        seat: u32,
-        start: u32,
-        end: u32,
-        kind: u32,
-    ) -> u64;
-    pub fn soodhiqune_enter(nodes: *const u32, node_words: usize, seats: *mut u32, seat_words: usize, seat: u32)
-        -> u64;
-    pub fn soodhiqune_step(
-        nodes: *mut u32,
-        node_words: usize,
-        seats: *mut u32,
-        seat_words: usize,
-        seat: u32,
-        shared: *mut u32,
-    ) -> u64;
-    pub fn soodhiqune_release(nodes: *mut u32, node_words: usize, seats: *mut u32, seat_words: usize, seat: u32)
-        -> u64;
-    pub fn soodhiqune_run(
-        nodes: *mut u32,
-        node_words: usize,
-        seats: *mut u32,
-        seat_words: usize,
-        schedule: *const u32,
-        entries: usize,
-        budget: u32,
-    ) -> u64;
-    pub fn soodhiqune_board(
-        nodes: *const u32,
-        node_words: usize,
-        seats: *const u32,
-        seat_words: usize,
-        rows: *mut u32,
-        row_words: usize,
-        covered: *mut u64,
-    ) -> u64;
-    pub fn soodhiqune_free_count(nodes: *const u32, node_words: usize, seats: *const u32, seat_words: usize) -> u64;
     pub fn soodhiqune_read(script: *const u8, bytes: usize, numbers: *mut u32) -> u64;
     pub fn soodhiqune_play(script: *const u8, bytes: usize, printed: *mut u8) -> u64;
     pub(crate) fn soodhiqune_import(

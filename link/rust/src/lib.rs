@@ -10,4 +10,4 @@ mod tables;
 pub use answers::{Answer, BadScript, Claim, Kind, Lock, NotMoved, Ran, Refused, Row, Shown};
 pub use locks::{export, import};
 pub use script::{play, read, Line, Script};
-pub use tables::{Board, Tables};
+pub use tables::{Board, Sheet, Tables};
