@@ -166,7 +166,7 @@ pub mod sheet {
     use crate::archive;
     use std::ops::Range;
 
-    // the same words; those that the ordinary tables may get it has not
+    // the same words today; what the ordinary tables are given beside them, a sheet is not
     calls_on_tables!(sheet, 4, 4);
 }
 
