@@ -3,21 +3,20 @@
 //! behind the functions that `library.rs` names.
 //! Nothing is assumed of the tables.
 
-use crate::generate::{self, around};
+use crate::damages::{damaged, damages, miscounted, miscounts, mistitled, MISTITLES};
+use crate::generate::{around, some_rows, Rows};
 use crate::library::{Moved, Numbers, Printed, Shared};
 use crate::lists::Lists;
-use crate::machine;
+use crate::machine::Profile::{self, Ordinary, Sheet};
+use crate::machine::TITLE;
 use crate::random::Random;
-use crate::script::{read_script, ENTER, RESERVE, STEP};
-use crate::tables::{
-    any_words, damaged, many_holders, many_reserved, many_waiters, miscounted, mistitled, sound_words,
-};
-use crate::tables::{Tables, DAMAGES, MISCOUNTS, MISTITLES};
+use crate::script::{ENTER, RESERVE, STEP};
+use crate::tables::{kinds, many_holders, many_reserved, many_waiters, many_walkers, sound_words, Tables};
 
-/// The functions of one machine.
+/// The functions of one machine that are lent tables of one profile.
 #[derive(Clone, Copy)]
 #[allow(clippy::type_complexity)]
-pub struct Library {
+pub struct Calls {
     pub clear: fn(&mut [u32], &mut [u32], u32) -> u64,
     pub reserve: fn(&mut [u32], &mut [u32], u32, u32, u32, u32) -> u64,
     pub enter: fn(&[u32], &mut [u32], u32) -> u64,
@@ -26,10 +25,44 @@ pub struct Library {
     pub run: fn(&mut [u32], &mut [u32], &[u32], u32) -> u64,
     pub board: fn(&[u32], &[u32], &mut [u32], &mut u64) -> u64,
     pub free_count: fn(&[u32], &[u32]) -> u64,
+}
+
+/// The functions of one machine.
+#[derive(Clone, Copy)]
+pub struct Library {
+    pub ordinary: Calls,
+    pub sheet: Calls,
     pub read: fn(&[u8], &mut Numbers) -> u64,
     pub play: fn(&[u8], &mut Printed) -> u64,
     pub import: fn(u32, &[i64], &mut [u32]) -> Moved,
     pub export: fn(u32, &[u32], &mut [i64]) -> Moved,
+}
+
+impl Library {
+    pub fn calls(&self, profile: Profile) -> &Calls {
+        match profile {
+            Profile::Ordinary => &self.ordinary,
+            Profile::Sheet => &self.sheet,
+        }
+    }
+}
+
+/// The functions of a module for one profile as `Calls`.
+#[macro_export]
+macro_rules! calls_of {
+    ($module:path, $sheet:literal) => {{
+        use $module as side;
+        $crate::driver::Calls {
+            clear: side::clear::<$sheet>,
+            reserve: side::reserve::<$sheet>,
+            enter: side::enter::<$sheet>,
+            step: side::step::<$sheet>,
+            release: side::release::<$sheet>,
+            run: side::run::<$sheet>,
+            board: side::board::<$sheet>,
+            free_count: side::free_count::<$sheet>,
+        }
+    }};
 }
 
 /// The functions of a module as a `Library`.
@@ -38,14 +71,8 @@ macro_rules! library_of {
     ($module:path) => {{
         use $module as side;
         $crate::driver::Library {
-            clear: side::clear,
-            reserve: side::reserve,
-            enter: side::enter,
-            step: side::step,
-            release: side::release,
-            run: side::run,
-            board: side::board,
-            free_count: side::free_count,
+            ordinary: $crate::calls_of!($module, false),
+            sheet: $crate::calls_of!($module, true),
             read: side::read,
             play: side::play,
             import: side::import,
@@ -54,13 +81,14 @@ macro_rules! library_of {
     }};
 }
 
-/// The machines that are linked, by their names.
+/// The machines that are linked, by their names. A static, so that the second one's functions are compiled here, beside the
+/// rules that they call: made elsewhere, each would cost a call more.
 #[cfg(feature = "proved")]
-pub const MACHINES: &[(&str, Library)] =
+pub static MACHINES: &[(&str, Library)] =
     &[("second", library_of!(crate::library)), ("proved", library_of!(crate::proved))];
 
 #[cfg(not(feature = "proved"))]
-pub const MACHINES: &[(&str, Library)] = &[("second", library_of!(crate::library))];
+pub static MACHINES: &[(&str, Library)] = &[("second", library_of!(crate::library))];
 
 /// A call, with what the words hold that it is lent to fill: the board's rows, and those of a step's shared run.
 #[derive(Clone, Debug, PartialEq)]
@@ -75,12 +103,15 @@ pub enum Call {
     FreeCount,
 }
 
+/// A call of the profile that the tables are lent to.
 #[derive(Clone, Debug)]
 pub struct Case {
-    pub nodes: Vec<u32>,
-    pub seats: Vec<u32>,
+    pub tables: Tables,
     pub call: Call,
 }
+
+/// How tables of a kind are made.
+pub type Family = fn(&mut Random, Profile) -> Tables;
 
 /// What the machines do not agree on: a call on tables, a script to read and play, or a list to move.
 pub enum Difference {
@@ -128,7 +159,7 @@ impl<Word: Copy> Guarded<Word> {
 
 /// Makes the call; the board's rows and the words of the shared run are given apart.
 pub fn make(
-    library: &Library,
+    calls: &Calls,
     call: &Call,
     nodes: &mut [u32],
     seats: &mut [u32],
@@ -137,14 +168,27 @@ pub fn make(
     shared: &mut Shared,
 ) -> u64 {
     match call {
-        &Call::Clear { title } => (library.clear)(nodes, seats, title),
-        &Call::Reserve { seat, start, end, kind } => (library.reserve)(nodes, seats, seat, start, end, kind),
-        &Call::Enter { seat } => (library.enter)(nodes, seats, seat),
-        &Call::Step { seat, .. } => (library.step)(nodes, seats, seat, shared),
-        &Call::Release { seat } => (library.release)(nodes, seats, seat),
-        Call::Run { entries, budget } => (library.run)(nodes, seats, entries, *budget),
-        Call::Board { .. } => (library.board)(nodes, seats, rows, covered),
-        Call::FreeCount => (library.free_count)(nodes, seats),
+        &Call::Clear { title } => (calls.clear)(nodes, seats, title),
+        &Call::Reserve { seat, start, end, kind } => (calls.reserve)(nodes, seats, seat, start, end, kind),
+        &Call::Enter { seat } => (calls.enter)(nodes, seats, seat),
+        &Call::Step { seat, .. } => (calls.step)(nodes, seats, seat, shared),
+        &Call::Release { seat } => (calls.release)(nodes, seats, seat),
+        Call::Run { entries, budget } => (calls.run)(nodes, seats, entries, *budget),
+        Call::Board { .. } => (calls.board)(nodes, seats, rows, covered),
+        Call::FreeCount => (calls.free_count)(nodes, seats),
+    }
+}
+
+/// The refusal that a call met before it did anything, if it did; a run that makes no step is as good as refused.
+pub fn refusal(call: &Call, answer: u64) -> Option<u32> {
+    let (high, low) = ((answer >> 32) as u32, answer as u32);
+    match call {
+        Call::Clear { .. } if low != 0 => Some(low),
+        Call::Clear { .. } => None,
+        Call::Run { .. } if low == 0 => Some(high),
+        Call::Run { .. } => None,
+        _ if high == 0 => Some(low),
+        _ => None,
     }
 }
 
@@ -159,12 +203,14 @@ pub fn shared_found(call: &Call) -> Shared {
 
 pub fn outcome(library: &Library, case: &Case) -> Outcome {
     let mut covered = 0xdead_0003;
-    let mut nodes = Guarded::new(&case.nodes, GUARD);
-    let mut seats = Guarded::new(&case.seats, GUARD);
+    let Tables { profile, nodes, seats } = &case.tables;
+    let mut nodes = Guarded::new(nodes, GUARD);
+    let mut seats = Guarded::new(seats, GUARD);
     let mut rows = Guarded::new(if let Call::Board { rows } = &case.call { rows } else { &[] }, GUARD);
     let mut shared = Guarded::new(&shared_found(&case.call), GUARD);
     let two_words = shared.lend().try_into().expect("as many as are lent");
-    let answer = make(library, &case.call, nodes.lend(), seats.lend(), rows.lend(), &mut covered, two_words);
+    let calls = library.calls(*profile);
+    let answer = make(calls, &case.call, nodes.lend(), seats.lend(), rows.lend(), &mut covered, two_words);
     Outcome { answer, covered, nodes, seats, rows, shared }
 }
 
@@ -187,93 +233,84 @@ impl Driver {
             return Err(Difference::Call(case));
         }
         self.agreed += 1;
-        Ok((ours.nodes.words().to_vec(), ours.seats.words().to_vec()))
+        let (nodes, seats) = (ours.nodes.words().to_vec(), ours.seats.words().to_vec());
+        Ok(Tables { profile: case.tables.profile, nodes, seats })
     }
 
-    pub fn history(&mut self, random: &mut Random) -> Result<(), Difference> {
-        let ((mut nodes, mut seats), calls) = some_history(random);
-        for call in calls {
-            (nodes, seats) = self.compare(Case { nodes, seats, call })?;
+    /// Calls in turn from fresh tables, of one profile or, where several are given, of one or another.
+    pub fn history(&mut self, random: &mut Random, profiles: &[Profile]) -> Result<(), Difference> {
+        let (mut tables, calls) = some_history(random, profiles);
+        for (profile, call) in calls {
+            tables.profile = profile;
+            tables = self.compare(Case { tables, call })?;
         }
         Ok(())
     }
 
     /// Each call once on the tables, and a run of several steps.
-    fn every_call(&mut self, random: &mut Random, tables: Tables) -> Result<(), Difference> {
+    pub fn every_call(&mut self, random: &mut Random, tables: Tables) -> Result<(), Difference> {
         for call in every_call(random, &tables) {
-            let (nodes, seats) = tables.clone();
-            self.compare(Case { nodes, seats, call })?;
+            self.compare(Case { tables: tables.clone(), call })?;
         }
         Ok(())
     }
 
-    pub fn any_words(&mut self, random: &mut Random) -> Result<(), Difference> {
-        let tables = any_words(random);
+    /// Each call on tables of a family.
+    pub fn family(&mut self, random: &mut Random, family: Family, profile: Profile) -> Result<(), Difference> {
+        let tables = family(random, profile);
         self.every_call(random, tables)
     }
 
-    pub fn sound_words(&mut self, random: &mut Random) -> Result<(), Difference> {
-        let tables = sound_words(random);
+    /// Each call on sound tables of the other profile: what is sound for both, and what for one alone.
+    pub fn other_profile(&mut self, random: &mut Random) -> Result<(), Difference> {
+        let families = [sound_words, many_holders, many_waiters, many_reserved, many_walkers];
+        let [made_by, lent_to] = random.pick(&[[Ordinary, Sheet], [Sheet, Ordinary]]);
+        let tables = Tables { profile: lent_to, ..random.pick(&families)(random, made_by) };
         self.every_call(random, tables)
     }
 
-    pub fn many_holders(&mut self, random: &mut Random) -> Result<(), Difference> {
-        let tables = many_holders(random);
-        self.every_call(random, tables)
-    }
-
-    pub fn many_waiters(&mut self, random: &mut Random) -> Result<(), Difference> {
-        let tables = many_waiters(random);
-        self.every_call(random, tables)
-    }
-
-    pub fn many_reserved(&mut self, random: &mut Random) -> Result<(), Difference> {
-        let tables = many_reserved(random);
-        self.every_call(random, tables)
-    }
-
-    pub fn damages(&mut self, random: &mut Random) -> Result<(), Difference> {
-        for damage in DAMAGES {
-            let tables = damaged(random, damage);
+    pub fn damages(&mut self, random: &mut Random, profile: Profile) -> Result<(), Difference> {
+        for damage in damages(profile) {
+            let tables = damaged(random, profile, damage);
             self.every_call(random, tables)?;
         }
-        for miscount in MISCOUNTS {
-            let tables = miscounted(random, miscount);
+        for miscount in miscounts(profile) {
+            let tables = miscounted(random, profile, miscount);
             self.every_call(random, tables)?;
         }
         for mistitle in MISTITLES {
-            let tables = mistitled(random, mistitle);
+            let tables = mistitled(random, profile, mistitle);
             self.every_call(random, tables)?;
         }
         Ok(())
     }
 }
 
-/// Fresh tables, and the rows of a generated script as calls on them, with run, board, free count and rarely clear between.
-pub fn some_history(random: &mut Random) -> (Tables, Vec<Call>) {
-    let script = read_script(&generate::good(random)).expect("a good script");
-    let calls = script.rows[..script.count as usize].iter().map(|&row| match (random.below(1000), row) {
-        (0, _) => Call::Clear { title: random.pick(&[script.title, script.title, u32::MAX, 1, 0]) },
-        (1..=50, _) => some_run(random, script.seats),
+/// Fresh tables, and generated rows as calls on them, with run, board, free count and rarely clear between.
+pub fn some_history(random: &mut Random, profiles: &[Profile]) -> (Tables, Vec<(Profile, Call)>) {
+    let Rows { nodes, seats, title, rows } = some_rows(random, profiles);
+    let mut call = |row: [u32; 5]| match (random.below(1000), row) {
+        (0, _) => Call::Clear { title: random.pick(&[title, title, u32::MAX, 1, 0]) },
+        (1..=50, _) => some_run(random, seats),
         (51..=150, _) => some_board(random),
         (151..=250, _) => Call::FreeCount,
         (_, [RESERVE, seat, start, end, kind]) => Call::Reserve { seat, start, end, kind },
         (_, [ENTER, seat, ..]) => Call::Enter { seat },
         (_, [STEP, seat, ..]) => Call::Step { seat, shared: some_shared(random) },
         (_, [_, seat, ..]) => Call::Release { seat },
-    });
-    let calls = calls.collect();
-    (machine::fresh(script.nodes, script.seats, script.title), calls)
+    };
+    let calls = rows.into_iter().map(|(profile, row)| (profile, call(row))).collect();
+    (Tables::fresh(profiles[0], nodes, seats, title), calls)
 }
 
 /// Each call once, as it is made on these tables, and a reserve, an enter and a step more.
-pub fn every_call(random: &mut Random, (nodes, seats): &Tables) -> [Call; 11] {
-    let seat_count = (seats.len() / machine::SEAT_WORDS) as u32;
-    let title = nodes.get(machine::TITLE).copied().unwrap_or(0);
+pub fn every_call(random: &mut Random, tables: &Tables) -> [Call; 11] {
+    let seat_count = tables.seat_count();
+    let title = tables.nodes.get(TITLE).copied().unwrap_or(0);
     [
         Call::Clear { title: some_title(random, title) },
-        some_reserve(random, seat_count, title),
-        some_reserve(random, seat_count, title),
+        some_reserve(random, tables.profile, seat_count, title),
+        some_reserve(random, tables.profile, seat_count, title),
         Call::Enter { seat: some_seat(random, seat_count) },
         Call::Enter { seat: some_seat(random, seat_count) },
         some_step(random, seat_count),
@@ -312,13 +349,13 @@ fn some_step(random: &mut Random, seat_count: u32) -> Call {
     Call::Step { seat: some_seat(random, seat_count), shared: some_shared(random) }
 }
 
-fn some_reserve(random: &mut Random, seat_count: u32, title: u32) -> Call {
+fn some_reserve(random: &mut Random, profile: Profile, seat_count: u32, title: u32) -> Call {
     let seat = some_seat(random, seat_count);
     let any_kind = random.pick(&[0, 1, 2, 3, u32::MAX]);
     match random.below(10) {
         0..=5 => {
             let start = random.below(9);
-            Call::Reserve { seat, start, end: start + random.between(1, 5), kind: random.between(1, 2) }
+            Call::Reserve { seat, start, end: start + random.between(1, 5), kind: random.pick(kinds(profile)) }
         }
         6..=7 => Call::Reserve { seat, start: random.edge(), end: random.edge(), kind: any_kind },
         _ => {

@@ -1,9 +1,12 @@
 //! Scripts for comparing machines: good ones that lead many seats into each other's way, and bad ones made from these.
-//! A number gives the same script everywhere. The generator looks at the seats of the second machine as it goes.
+//! A number gives the same script everywhere. The generator looks at the seats of the second machine as it goes. A sheet has no
+//! script; the rows of one are calls there too.
 
-use crate::machine;
+use crate::machine::Profile::{self, Ordinary, Sheet};
+use crate::machine::{HOLDING, IDLE, PHASE, READER_WAITING, RESERVED, WAITING_TO_ENTER, WITHDRAWN};
 use crate::random::Random;
-use crate::script::{call, ENTER, MOST_BYTES, MOST_ROWS, RELEASE, RESERVE, STEP};
+use crate::script::{ENTER, MOST_BYTES, MOST_ROWS, RELEASE, RESERVE, STEP};
+use crate::tables::Tables;
 
 /// What a good script is made of: tables, who takes part, and how often something is done, in per cent.
 struct Mix {
@@ -99,7 +102,17 @@ fn crowd(random: &mut Random) -> Mix {
     }
 }
 
-fn mix(random: &mut Random) -> Mix {
+/// On a sheet nobody reads; now and then somebody would, and is refused.
+fn mix(random: &mut Random, profiles: &[Profile]) -> Mix {
+    let mix = some_mix(random);
+    if profiles.contains(&Sheet) {
+        Mix { reads: random.pick(&[0, 0, 4]), ..mix }
+    } else {
+        mix
+    }
+}
+
+fn some_mix(random: &mut Random) -> Mix {
     match random.below(10) {
         0..=3 => return race(random),
         4 => return crowd(random),
@@ -167,20 +180,19 @@ fn nonsense_row(random: &mut Random, mix: &Mix) -> [u32; 5] {
 
 /// What the seat can do next: reserve if it is idle, enter if it has reserved, now and then release if it holds, else a step.
 /// In the phases that are rarest it now and then enters too, which is refused.
-fn sensible_row(random: &mut Random, mix: &Mix, seats: &[u32], seat: u32, row_number: u32) -> [u32; 5] {
-    match seats[machine::SEAT_WORDS * seat as usize + machine::PHASE] {
-        machine::IDLE => reserve_row(random, mix, seat, row_number),
-        machine::RESERVED if !random.percent(mix.steps_in) => [ENTER, seat, 0, 0, 0],
-        machine::READER_WAITING | machine::WITHDRAWN if random.percent(8) => [ENTER, seat, 0, 0, 0],
-        machine::HOLDING if random.percent(mix.releases) => [RELEASE, seat, 0, 0, 0],
+fn sensible_row(random: &mut Random, mix: &Mix, phase: u32, seat: u32, row_number: u32) -> [u32; 5] {
+    match phase {
+        IDLE => reserve_row(random, mix, seat, row_number),
+        RESERVED if !random.percent(mix.steps_in) => [ENTER, seat, 0, 0, 0],
+        READER_WAITING | WITHDRAWN if random.percent(8) => [ENTER, seat, 0, 0, 0],
+        HOLDING if random.percent(mix.releases) => [RELEASE, seat, 0, 0, 0],
         _ => [STEP, seat, 0, 0, 0],
     }
 }
 
-/// Whether the seat waits or holds, most of the time: such steps are rarely worth a row.
-fn stands(random: &mut Random, seats: &[u32], seat: u32) -> bool {
-    let phase = seats[machine::SEAT_WORDS * seat as usize + machine::PHASE];
-    [machine::WAITING_TO_ENTER, machine::READER_WAITING, machine::HOLDING].contains(&phase) && random.percent(80)
+/// Whether a seat waits or holds, most of the time: such steps are rarely worth a row.
+fn stands(random: &mut Random, phase: u32) -> bool {
+    [WAITING_TO_ENTER, READER_WAITING, HOLDING].contains(&phase) && random.percent(80)
 }
 
 pub fn row_text(row: [u32; 5]) -> String {
@@ -201,35 +213,52 @@ fn script_text(nodes: u32, seats: u32, title: u32, rows: &[String]) -> Vec<u8> {
 /// The longest contents line there is.
 const CONTENTS_BYTES: usize = "256 64 1000 4294967295\n".len();
 
-/// A good script.
-pub fn good(random: &mut Random) -> Vec<u8> {
-    let mix = mix(random);
-    let (mut nodes, mut seats) = machine::fresh(mix.nodes, mix.seats, mix.title);
+/// The rows of a good script, each with the profile whose call it is.
+pub struct Rows {
+    pub nodes: u32,
+    pub seats: u32,
+    pub title: u32,
+    pub rows: Vec<(Profile, [u32; 5])>,
+}
+
+/// Rows of one profile, or of several that take turns on the same tables.
+pub fn some_rows(random: &mut Random, profiles: &[Profile]) -> Rows {
+    let mix = mix(random, profiles);
+    let mut tables = Tables::fresh(profiles[0], mix.nodes, mix.seats, mix.title);
     let mut rows = Vec::new();
     let mut bytes = CONTENTS_BYTES;
     let mut seat = 0;
     while rows.len() < mix.rows {
-        if !random.percent(mix.stays) || stands(random, &seats, seat) {
+        let phase = |seat| tables.seat(seat).expect("it takes part")[PHASE];
+        if !random.percent(mix.stays) || stands(random, phase(seat)) {
             seat = random.below(mix.active);
         }
-        if stands(random, &seats, seat) {
+        if stands(random, phase(seat)) {
             continue;
         }
         let row = if random.percent(mix.nonsense) {
             nonsense_row(random, &mix)
         } else {
-            sensible_row(random, &mix, &seats, seat, rows.len() as u32)
+            sensible_row(random, &mix, phase(seat), seat, rows.len() as u32)
         };
-        let text = row_text(row);
-        bytes += text.len();
+        bytes += row_text(row).len();
         if bytes > MOST_BYTES {
             break;
         }
-        // refused or not, the script goes on
-        let _ = call(&mut nodes, &mut seats, row);
-        rows.push(text);
+        let profile = if profiles.len() > 1 { random.pick(profiles) } else { profiles[0] };
+        // refused or not, the rows go on
+        tables.profile = profile;
+        let _ = tables.call(row);
+        rows.push((profile, row));
     }
-    script_text(mix.nodes, mix.seats, mix.title, &rows)
+    Rows { nodes: mix.nodes, seats: mix.seats, title: mix.title, rows }
+}
+
+/// A good script.
+pub fn good(random: &mut Random) -> Vec<u8> {
+    let Rows { nodes, seats, title, rows } = some_rows(random, &[Ordinary]);
+    let texts: Vec<String> = rows.into_iter().map(|(_, row)| row_text(row)).collect();
+    script_text(nodes, seats, title, &texts)
 }
 
 /// A script of this many bytes, about 16,384, with nothing wrong in it but perhaps its length.
@@ -409,8 +438,7 @@ pub fn put_change(random: &mut Random, script: &mut Vec<u8>) {
 }
 
 /// Lines and parts of lines, good ones and others.
-const PIECES: &str =
-    "s 0\n|r 1\n|e 0\n|v 0 1 2 2\n|v 0 4294967295 0 9\n|V 0 1 2 2\n|E 0\n|v |s |e |b | |\n|\r\n|\t|\
+const PIECES: &str = "s 0\n|r 1\n|e 0\n|v 0 1 2 2\n|v 0 4294967295 0 9\n|V 0 1 2 2\n|E 0\n|v |s |e |b | |\n|\r\n|\t|\
      0|1|01|64|65|256|257|1001|4294967295|4294967296";
 
 /// Any bytes, or pieces of scripts in any order; half of them behind a first line for as many. Some are good.

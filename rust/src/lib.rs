@@ -1,5 +1,6 @@
 //! A second machine for the claim tables beside the proved one, and what is needed to compare the two.
 
+pub mod damages;
 pub mod driver;
 pub mod generate;
 pub mod library;

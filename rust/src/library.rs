@@ -3,7 +3,7 @@
 //! number, or 0, below.
 //! A machine that stands in for this one offers the same functions under the same names; `proved.rs` does.
 
-use crate::machine::{self, Answer};
+use crate::machine::{Answer, Profile};
 use crate::posix;
 use crate::script;
 
@@ -41,49 +41,66 @@ fn count_word(count: Result<u32, u32>) -> u64 {
     }
 }
 
+// The calls on tables come twice, for the ordinary profile and for that of sheets, as the archive has two names for each.
+
+const fn profile(sheet: bool) -> Profile {
+    if sheet {
+        Profile::Sheet
+    } else {
+        Profile::Ordinary
+    }
+}
+
 /// 0, or the refusal.
-pub fn clear(nodes: &mut [u32], seats: &mut [u32], title: u32) -> u64 {
-    u64::from(machine::clear(nodes, seats, title).err().unwrap_or(0))
+pub fn clear<const SHEET: bool>(nodes: &mut [u32], seats: &mut [u32], title: u32) -> u64 {
+    u64::from(profile(SHEET).clear(nodes, seats, title).err().unwrap_or(0))
 }
 
-pub fn reserve(nodes: &mut [u32], seats: &mut [u32], seat: u32, start: u32, end: u32, kind: u32) -> u64 {
-    answer_word(machine::reserve(nodes, seats, seat, start, end, kind))
+pub fn reserve<const SHEET: bool>(
+    nodes: &mut [u32],
+    seats: &mut [u32],
+    seat: u32,
+    start: u32,
+    end: u32,
+    kind: u32,
+) -> u64 {
+    answer_word(profile(SHEET).reserve(nodes, seats, seat, start, end, kind))
 }
 
-pub fn enter(nodes: &[u32], seats: &mut [u32], seat: u32) -> u64 {
-    answer_word(machine::enter(nodes, seats, seat))
+pub fn enter<const SHEET: bool>(nodes: &[u32], seats: &mut [u32], seat: u32) -> u64 {
+    answer_word(profile(SHEET).enter(nodes, seats, seat))
 }
 
 /// `shared` is written if the answer is `wait`.
-pub fn step(nodes: &mut [u32], seats: &mut [u32], seat: u32, shared: &mut Shared) -> u64 {
-    let answer = machine::step(nodes, seats, seat);
+pub fn step<const SHEET: bool>(nodes: &mut [u32], seats: &mut [u32], seat: u32, shared: &mut Shared) -> u64 {
+    let answer = profile(SHEET).step(nodes, seats, seat);
     if let Ok(Answer::Wait { first, end, .. }) = answer {
         *shared = [first, end];
     }
     answer_word(answer)
 }
 
-pub fn release(nodes: &mut [u32], seats: &mut [u32], seat: u32) -> u64 {
-    answer_word(machine::release(nodes, seats, seat))
+pub fn release<const SHEET: bool>(nodes: &mut [u32], seats: &mut [u32], seat: u32) -> u64 {
+    answer_word(profile(SHEET).release(nodes, seats, seat))
 }
 
 /// The refusal in the high 32 bits, the steps below.
-pub fn run(nodes: &mut [u32], seats: &mut [u32], entries: &[u32], budget: u32) -> u64 {
-    let (steps, refusal) = machine::run(nodes, seats, entries, budget);
+pub fn run<const SHEET: bool>(nodes: &mut [u32], seats: &mut [u32], entries: &[u32], budget: u32) -> u64 {
+    let (steps, refusal) = profile(SHEET).run(nodes, seats, entries, budget);
     u64::from(refusal) << 32 | u64::from(steps)
 }
 
 /// Rows of four words each, as many as there are whole ones; `covered` is written if the call is accepted.
-pub fn board(nodes: &[u32], seats: &[u32], rows: &mut [u32], covered: &mut u64) -> u64 {
-    let shown = machine::board(nodes, seats, rows);
+pub fn board<const SHEET: bool>(nodes: &[u32], seats: &[u32], rows: &mut [u32], covered: &mut u64) -> u64 {
+    let shown = profile(SHEET).board(nodes, seats, rows);
     if let Ok((_, frames)) = shown {
         *covered = frames;
     }
     count_word(shown.map(|(count, _)| count))
 }
 
-pub fn free_count(nodes: &[u32], seats: &[u32]) -> u64 {
-    count_word(machine::free_count(nodes, seats))
+pub fn free_count<const SHEET: bool>(nodes: &[u32], seats: &[u32]) -> u64 {
+    count_word(profile(SHEET).free_count(nodes, seats))
 }
 
 /// 0; or 10 in the high 32 bits and the first wrong line below, and the numbers stay.

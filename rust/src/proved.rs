@@ -11,66 +11,94 @@ mod archive {
         pub place: usize,
     }
 
+    /// The calls on tables of a profile, under the names that the archive has for them.
+    macro_rules! calls {
+        ($clear:ident, $reserve:ident, $enter:ident, $step:ident, $release:ident, $run:ident, $board:ident, $free_count:ident) => {
+            extern "C" {
+                pub fn $clear(
+                    nodes: *mut u32,
+                    node_words: usize,
+                    seats: *mut u32,
+                    seat_words: usize,
+                    title: u32,
+                ) -> u64;
+                pub fn $reserve(
+                    nodes: *mut u32,
+                    node_words: usize,
+                    seats: *mut u32,
+                    seat_words: usize,
+                    seat: u32,
+                    start: u32,
+                    end: u32,
+                    kind: u32,
+                ) -> u64;
+                pub fn $enter(
+                    nodes: *const u32,
+                    node_words: usize,
+                    seats: *mut u32,
+                    seat_words: usize,
+                    seat: u32,
+                ) -> u64;
+                pub fn $step(
+                    nodes: *mut u32,
+                    node_words: usize,
+                    seats: *mut u32,
+                    seat_words: usize,
+                    seat: u32,
+                    shared: *mut u32,
+                ) -> u64;
+                pub fn $release(
+                    nodes: *mut u32,
+                    node_words: usize,
+                    seats: *mut u32,
+                    seat_words: usize,
+                    seat: u32,
+                ) -> u64;
+                pub fn $run(
+                    nodes: *mut u32,
+                    node_words: usize,
+                    seats: *mut u32,
+                    seat_words: usize,
+                    entries: *const u32,
+                    entry_count: usize,
+                    budget: u32,
+                ) -> u64;
+                pub fn $board(
+                    nodes: *const u32,
+                    node_words: usize,
+                    seats: *const u32,
+                    seat_words: usize,
+                    rows: *mut u32,
+                    row_words: usize,
+                    covered: *mut u64,
+                ) -> u64;
+                pub fn $free_count(nodes: *const u32, node_words: usize, seats: *const u32, seat_words: usize) -> u64;
+            }
+        };
+    }
+
+    calls!(
+        soodhiqune_clear,
+        soodhiqune_reserve,
+        soodhiqune_enter,
+        soodhiqune_step,
+        soodhiqune_release,
+        soodhiqune_run,
+        soodhiqune_board,
+        soodhiqune_free_count
+    );
+    calls!(
+        soodhiqune_sheet_clear,
+        soodhiqune_sheet_reserve,
+        soodhiqune_sheet_enter,
+        soodhiqune_sheet_step,
+        soodhiqune_sheet_release,
+        soodhiqune_sheet_run,
+        soodhiqune_sheet_board,
+        soodhiqune_sheet_free_count
+    );
+
     extern "C" {
-        pub fn soodhiqune_clear(
-            nodes: *mut u32,
-            node_words: usize,
-            seats: *mut u32,
-            seat_words: usize,
-            title: u32,
-        ) -> u64;
-        pub fn soodhiqune_reserve(
-            nodes: *mut u32,
-            node_words: usize,
-            seats: *mut u32,
-            seat_words: usize,
-            seat: u32,
-            start: u32,
-            end: u32,
-            kind: u32,
-        ) -> u64;
-        pub fn soodhiqune_enter(
-            nodes: *const u32,
-            node_words: usize,
-            seats: *mut u32,
-            seat_words: usize,
-            seat: u32,
-        ) -> u64;
-        pub fn soodhiqune_step(
-            nodes: *mut u32,
-            node_words: usize,
-            seats: *mut u32,
-            seat_words: usize,
-            seat: u32,
-            shared: *mut u32,
-        ) -> u64;
-        pub fn soodhiqune_release(
-            nodes: *mut u32,
-            node_words: usize,
-            seats: *mut u32,
-            seat_words: usize,
-            seat: u32,
-        ) -> u64;
-        pub fn soodhiqune_run(
-            nodes: *mut u32,
-            node_words: usize,
-            seats: *mut u32,
-            seat_words: usize,
-            entries: *const u32,
-            entry_count: usize,
-            budget: u32,
-        ) -> u64;
-        pub fn soodhiqune_board(
-            nodes: *const u32,
-            node_words: usize,
-            seats: *const u32,
-            seat_words: usize,
-            rows: *mut u32,
-            row_words: usize,
-            covered: *mut u64,
-        ) -> u64;
-        pub fn soodhiqune_free_count(nodes: *const u32, node_words: usize, seats: *const u32, seat_words: usize)
-            -> u64;
         pub fn soodhiqune_read(bytes: *const u8, byte_count: usize, numbers: *mut u32) -> u64;
         pub fn soodhiqune_play(bytes: *const u8, byte_count: usize, printed: *mut u8) -> u64;
         pub fn soodhiqune_import(
@@ -92,76 +120,53 @@ mod archive {
 
 // No function of the archive asks anything of its caller but that so many words stand where it is told, so each call is safe.
 
-pub fn clear(nodes: &mut [u32], seats: &mut [u32], title: u32) -> u64 {
-    unsafe { archive::soodhiqune_clear(nodes.as_mut_ptr(), nodes.len(), seats.as_mut_ptr(), seats.len(), title) }
+pub fn clear<const SHEET: bool>(nodes: &mut [u32], seats: &mut [u32], title: u32) -> u64 {
+    let clear = if SHEET { archive::soodhiqune_sheet_clear } else { archive::soodhiqune_clear };
+    unsafe { clear(nodes.as_mut_ptr(), nodes.len(), seats.as_mut_ptr(), seats.len(), title) }
 }
 
-pub fn reserve(nodes: &mut [u32], seats: &mut [u32], seat: u32, start: u32, end: u32, kind: u32) -> u64 {
+pub fn reserve<const SHEET: bool>(
+    nodes: &mut [u32],
+    seats: &mut [u32],
+    seat: u32,
+    start: u32,
+    end: u32,
+    kind: u32,
+) -> u64 {
+    let reserve = if SHEET { archive::soodhiqune_sheet_reserve } else { archive::soodhiqune_reserve };
+    unsafe { reserve(nodes.as_mut_ptr(), nodes.len(), seats.as_mut_ptr(), seats.len(), seat, start, end, kind) }
+}
+
+pub fn enter<const SHEET: bool>(nodes: &[u32], seats: &mut [u32], seat: u32) -> u64 {
+    let enter = if SHEET { archive::soodhiqune_sheet_enter } else { archive::soodhiqune_enter };
+    unsafe { enter(nodes.as_ptr(), nodes.len(), seats.as_mut_ptr(), seats.len(), seat) }
+}
+
+pub fn step<const SHEET: bool>(nodes: &mut [u32], seats: &mut [u32], seat: u32, shared: &mut Shared) -> u64 {
+    let step = if SHEET { archive::soodhiqune_sheet_step } else { archive::soodhiqune_step };
+    unsafe { step(nodes.as_mut_ptr(), nodes.len(), seats.as_mut_ptr(), seats.len(), seat, shared.as_mut_ptr()) }
+}
+
+pub fn release<const SHEET: bool>(nodes: &mut [u32], seats: &mut [u32], seat: u32) -> u64 {
+    let release = if SHEET { archive::soodhiqune_sheet_release } else { archive::soodhiqune_release };
+    unsafe { release(nodes.as_mut_ptr(), nodes.len(), seats.as_mut_ptr(), seats.len(), seat) }
+}
+
+pub fn run<const SHEET: bool>(nodes: &mut [u32], seats: &mut [u32], entries: &[u32], budget: u32) -> u64 {
+    let run = if SHEET { archive::soodhiqune_sheet_run } else { archive::soodhiqune_run };
     unsafe {
-        archive::soodhiqune_reserve(
-            nodes.as_mut_ptr(),
-            nodes.len(),
-            seats.as_mut_ptr(),
-            seats.len(),
-            seat,
-            start,
-            end,
-            kind,
-        )
+        run(nodes.as_mut_ptr(), nodes.len(), seats.as_mut_ptr(), seats.len(), entries.as_ptr(), entries.len(), budget)
     }
 }
 
-pub fn enter(nodes: &[u32], seats: &mut [u32], seat: u32) -> u64 {
-    unsafe { archive::soodhiqune_enter(nodes.as_ptr(), nodes.len(), seats.as_mut_ptr(), seats.len(), seat) }
+pub fn board<const SHEET: bool>(nodes: &[u32], seats: &[u32], rows: &mut [u32], covered: &mut u64) -> u64 {
+    let board = if SHEET { archive::soodhiqune_sheet_board } else { archive::soodhiqune_board };
+    unsafe { board(nodes.as_ptr(), nodes.len(), seats.as_ptr(), seats.len(), rows.as_mut_ptr(), rows.len(), covered) }
 }
 
-pub fn step(nodes: &mut [u32], seats: &mut [u32], seat: u32, shared: &mut Shared) -> u64 {
-    unsafe {
-        archive::soodhiqune_step(
-            nodes.as_mut_ptr(),
-            nodes.len(),
-            seats.as_mut_ptr(),
-            seats.len(),
-            seat,
-            shared.as_mut_ptr(),
-        )
-    }
-}
-
-pub fn release(nodes: &mut [u32], seats: &mut [u32], seat: u32) -> u64 {
-    unsafe { archive::soodhiqune_release(nodes.as_mut_ptr(), nodes.len(), seats.as_mut_ptr(), seats.len(), seat) }
-}
-
-pub fn run(nodes: &mut [u32], seats: &mut [u32], entries: &[u32], budget: u32) -> u64 {
-    unsafe {
-        archive::soodhiqune_run(
-            nodes.as_mut_ptr(),
-            nodes.len(),
-            seats.as_mut_ptr(),
-            seats.len(),
-            entries.as_ptr(),
-            entries.len(),
-            budget,
-        )
-    }
-}
-
-pub fn board(nodes: &[u32], seats: &[u32], rows: &mut [u32], covered: &mut u64) -> u64 {
-    unsafe {
-        archive::soodhiqune_board(
-            nodes.as_ptr(),
-            nodes.len(),
-            seats.as_ptr(),
-            seats.len(),
-            rows.as_mut_ptr(),
-            rows.len(),
-            covered,
-        )
-    }
-}
-
-pub fn free_count(nodes: &[u32], seats: &[u32]) -> u64 {
-    unsafe { archive::soodhiqune_free_count(nodes.as_ptr(), nodes.len(), seats.as_ptr(), seats.len()) }
+pub fn free_count<const SHEET: bool>(nodes: &[u32], seats: &[u32]) -> u64 {
+    let free_count = if SHEET { archive::soodhiqune_sheet_free_count } else { archive::soodhiqune_free_count };
+    unsafe { free_count(nodes.as_ptr(), nodes.len(), seats.as_ptr(), seats.len()) }
 }
 
 pub fn read(bytes: &[u8], numbers: &mut Numbers) -> u64 {

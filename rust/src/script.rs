@@ -1,7 +1,8 @@
 //! The script and its program, from documents 01 and 02 alone: reading a script, and playing it on the second machine.
 //! A script is bytes of any value and any number.
 
-use crate::machine::{self, Answer, MOST_NODES, MOST_SEATS, ROW_WORDS};
+use crate::machine::Profile::{self, Ordinary};
+use crate::machine::{Answer, MOST_NODES, MOST_SEATS, ROW_WORDS};
 
 /// "K from 0 to 1,000"; "at most 16,384 bytes".
 pub const MOST_ROWS: usize = 1000;
@@ -96,18 +97,18 @@ pub fn read_script(bytes: &[u8]) -> Result<Script, u32> {
     }
 }
 
-/// The call that a body asks for.
-pub fn call(nodes: &mut [u32], seats: &mut [u32], row: [u32; 5]) -> Result<Answer, u32> {
+/// The call that a body asks for, of the ordinary profile where a script is played.
+pub fn call(profile: Profile, nodes: &mut [u32], seats: &mut [u32], row: [u32; 5]) -> Result<Answer, u32> {
     match row {
-        [RESERVE, seat, start, end, kind] => machine::reserve(nodes, seats, seat, start, end, kind),
-        [ENTER, seat, ..] => machine::enter(nodes, seats, seat),
-        [STEP, seat, ..] => machine::step(nodes, seats, seat),
-        [_, seat, ..] => machine::release(nodes, seats, seat),
+        [RESERVE, seat, start, end, kind] => profile.reserve(nodes, seats, seat, start, end, kind),
+        [ENTER, seat, ..] => profile.enter(nodes, seats, seat),
+        [STEP, seat, ..] => profile.step(nodes, seats, seat),
+        [_, seat, ..] => profile.release(nodes, seats, seat),
     }
 }
 
 /// An answer as it is printed: "`no k` if refused". 02: "in the printed line (`wait 4 15 20`)".
-fn answer_text(answer: Result<Answer, u32>) -> String {
+pub fn answer_text(answer: Result<Answer, u32>) -> String {
     match answer {
         Ok(Answer::Node(node)) => format!("node {node}"),
         Ok(Answer::Out) => "out".to_string(),
@@ -126,15 +127,15 @@ pub fn play(bytes: &[u8]) -> String {
         Ok(script) => script,
         Err(line) => return format!("bad {line}\n"),
     };
-    let (mut nodes, mut seats) = machine::fresh(script.nodes, script.seats, script.title);
+    let (mut nodes, mut seats) = Ordinary.fresh(script.nodes, script.seats, script.title);
     let mut lines = Vec::new();
     for (number, &row) in (1..=script.count).zip(&script.rows) {
-        lines.push(format!("{number} {}", answer_text(call(&mut nodes, &mut seats, row))));
+        lines.push(format!("{number} {}", answer_text(call(Ordinary, &mut nodes, &mut seats, row))));
     }
-    let names: Vec<String> = machine::listed(&nodes).map(|node| format!(" {node}")).collect();
+    let names: Vec<String> = Ordinary.listed(&nodes).map(|node| format!(" {node}")).collect();
     lines.push(format!("list{}", names.concat()));
     let mut rows = vec![0; ROW_WORDS * MOST_SEATS];
-    let (count, covered) = machine::board(&nodes, &seats, &mut rows).expect("as many rows as seats, in tables reached");
+    let (count, covered) = Ordinary.board(&nodes, &seats, &mut rows).expect("as many rows as seats, in tables reached");
     for row in rows.chunks_exact(ROW_WORDS).take(count as usize) {
         lines.push(format!("hold {} {} {} {}", row[0], row[1], row[2], row[3]));
     }

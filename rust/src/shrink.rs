@@ -4,27 +4,29 @@
 use crate::driver::{outcome, Call, Case, Difference, Driver, Library};
 use crate::library::CONTENTS_WORDS;
 use crate::lists::{Lists, Way};
-use crate::machine::{BEFORE_NODES, CUR, HEAD, NEXT, NODE_WORDS, OWN, ROW_WORDS, SEAT_WORDS};
+use crate::machine::{Profile, CUR, HEAD, NEXT, NODE_WORDS, OWN, ROW_WORDS};
 use crate::moving::moving;
 use crate::posix::RECORD_WORDS;
 use crate::reading::reading;
-use crate::tables::counted_at;
+use crate::tables::Tables;
 
 fn without<Word: Copy>(words: &[Word], from: usize, count: usize) -> Vec<Word> {
     [&words[..from], &words[from + count..]].concat()
 }
 
-/// The table without one of its nodes. Names of later nodes fall by one, its own become 0.
+/// The tables without one of their nodes. Names of later nodes fall by one, its own become 0.
 fn without_node(case: &Case, index: usize) -> Case {
     let node = index as u32 + 1;
     let renamed = |name: u32| name - u32::from(name > node) - if name == node { name } else { 0 };
     let mut smaller = case.clone();
-    smaller.nodes = without(&case.nodes, BEFORE_NODES + NODE_WORDS * index, NODE_WORDS);
-    smaller.nodes[HEAD] = renamed(smaller.nodes[HEAD]);
-    for words in smaller.nodes[BEFORE_NODES..].chunks_exact_mut(NODE_WORDS) {
+    let Tables { profile, nodes, seats } = &mut smaller.tables;
+    let before = profile.before_nodes();
+    *nodes = without(nodes, before + NODE_WORDS * index, NODE_WORDS);
+    nodes[HEAD] = renamed(nodes[HEAD]);
+    for words in nodes[before..].chunks_exact_mut(NODE_WORDS) {
         words[NEXT] = renamed(words[NEXT]);
     }
-    for words in smaller.seats.chunks_exact_mut(SEAT_WORDS) {
+    for words in seats.chunks_exact_mut(profile.seat_words()) {
         for name in &mut words[OWN..=CUR] {
             *name = renamed(*name);
         }
@@ -32,14 +34,15 @@ fn without_node(case: &Case, index: usize) -> Case {
     smaller
 }
 
-/// The table without one of its seats. Numbers of later seats fall by one, and so does the count that it is in: right counts
+/// The tables without one of their seats. Numbers of later seats fall by one, and so does the count that it is in: right counts
 /// stay right.
 fn without_seat(case: &Case, index: usize) -> Case {
     let renumber = |seat: &mut u32| *seat -= u32::from(*seat > index as u32);
     let mut smaller = case.clone();
-    smaller.seats = without(&case.seats, SEAT_WORDS * index, SEAT_WORDS);
-    if let Some(at) = counted_at(&case.nodes, &case.seats[SEAT_WORDS * index..][..SEAT_WORDS]) {
-        smaller.nodes[at] = smaller.nodes[at].saturating_sub(1);
+    let width = case.tables.profile.seat_words();
+    smaller.tables.seats = without(&case.tables.seats, width * index, width);
+    if let Some(at) = case.tables.seat(index as u32).and_then(|seat| case.tables.counted_at(seat)) {
+        smaller.tables.nodes[at] = smaller.tables.nodes[at].saturating_sub(1);
     }
     match &mut smaller.call {
         Call::Reserve { seat, .. } | Call::Enter { seat } | Call::Step { seat, .. } | Call::Release { seat } => {
@@ -53,7 +56,7 @@ fn without_seat(case: &Case, index: usize) -> Case {
 
 /// The lists of words of a case that may lose their last word.
 fn lists(case: &mut Case) -> Vec<&mut Vec<u32>> {
-    let mut lists = vec![&mut case.nodes, &mut case.seats];
+    let mut lists = vec![&mut case.tables.nodes, &mut case.tables.seats];
     match &mut case.call {
         Call::Run { entries: list, .. } | Call::Board { rows: list } => lists.push(list),
         _ => {}
@@ -63,7 +66,7 @@ fn lists(case: &mut Case) -> Vec<&mut Vec<u32>> {
 
 /// Every word of a case, those of its call too.
 fn words(case: &mut Case) -> Vec<&mut u32> {
-    let mut words: Vec<&mut u32> = case.nodes.iter_mut().chain(&mut case.seats).collect();
+    let mut words: Vec<&mut u32> = case.tables.nodes.iter_mut().chain(&mut case.tables.seats).collect();
     match &mut case.call {
         Call::Reserve { seat, start, end, kind } => words.extend([seat, start, end, kind]),
         Call::Step { seat, shared } => words.extend([seat].into_iter().chain(shared)),
@@ -123,10 +126,10 @@ impl<Differs: Fn(&Case) -> bool> Search<Differs> {
     /// Tries everything once, and says whether anything got smaller.
     fn pass(&mut self) -> bool {
         let mut taken = false;
-        for index in (0..self.smallest.nodes.len().saturating_sub(BEFORE_NODES) / NODE_WORDS).rev() {
+        for index in (0..self.smallest.tables.each_node().len()).rev() {
             taken |= self.take(without_node(&self.smallest, index));
         }
-        for index in (0..self.smallest.seats.len() / SEAT_WORDS).rev() {
+        for index in (0..self.smallest.tables.each_seat().len()).rev() {
             taken |= self.take(without_seat(&self.smallest, index));
         }
         let entries = if let Call::Run { entries, .. } = &self.smallest.call { entries.len() } else { 0 };
@@ -287,25 +290,30 @@ fn table_text<Word: ToString>(words: &[Word], first: usize, width: usize) -> Str
     texts.join(" | ")
 }
 
+fn node_text(profile: Profile, nodes: &[u32]) -> String {
+    table_text(nodes, profile.before_nodes(), NODE_WORDS)
+}
+
+fn seat_text(profile: Profile, seats: &[u32]) -> String {
+    table_text(seats, 0, profile.seat_words())
+}
+
 /// The tables and the call on them.
 pub fn case_text(case: &Case) -> String {
-    format!(
-        "nodes   {}\nseats   {}\ncall    {:?}\n",
-        table_text(&case.nodes, BEFORE_NODES, NODE_WORDS),
-        table_text(&case.seats, 0, SEAT_WORDS),
-        case.call
-    )
+    let Tables { profile, nodes, seats } = &case.tables;
+    let (nodes, seats) = (node_text(*profile, nodes), seat_text(*profile, seats));
+    format!("nodes   {nodes}\nseats   {seats}\ncall    {profile:?}, {:?}\n", case.call)
 }
 
 /// The case, what each machine answered, and the tables each left behind.
 fn outcomes_text(case: &Case, ours: &Library, theirs: &Library) -> String {
     let mut text = case_text(case);
+    let profile = case.tables.profile;
     for (name, library) in [("second", ours), ("other", theirs)] {
         let after = outcome(library, case);
-        let (nodes, seats) = (after.nodes.words(), after.seats.words());
         text += &format!("{name}: answer {} {}\n", after.answer >> 32, after.answer as u32);
-        text += &format!("  nodes {}\n", table_text(nodes, BEFORE_NODES, NODE_WORDS));
-        text += &format!("  seats {}\n", table_text(seats, 0, SEAT_WORDS));
+        text += &format!("  nodes {}\n", node_text(profile, after.nodes.words()));
+        text += &format!("  seats {}\n", seat_text(profile, after.seats.words()));
         text += &match case.call {
             Call::Board { .. } => {
                 format!("  rows  {}\n  covered {}\n", table_text(after.rows.words(), 0, ROW_WORDS), after.covered)

@@ -1,8 +1,9 @@
 //! Which stores to the two tables a call may make, by documents 01 and 02, worked out from the tables before and after it;
 //! and whether those that a watcher sees are such. 02: "The coordinator's memory page is mirrored to a standby on every store."
 
-use crate::driver::{make, outcome, shared_found, Call, Case, Library};
+use crate::driver::{make, outcome, refusal, shared_found, Call, Case, Library};
 use crate::library_of;
+use crate::machine::Profile::{Ordinary, Sheet};
 use crate::machine::*;
 use crate::stores::{Store, Table, Watcher};
 use crate::tables::{reached, Tables};
@@ -16,26 +17,14 @@ pub struct Watched {
 }
 
 pub fn watched(watcher: &mut Watcher, library: &Library, case: &Case) -> Watched {
-    let mut tables = (case.nodes.clone(), case.seats.clone());
+    let mut tables = case.tables.clone();
+    let calls = library.calls(tables.profile);
     let mut rows = if let Call::Board { rows } = &case.call { rows.clone() } else { vec![] };
     let mut shared = shared_found(&case.call);
-    let (answer, stores) = watcher.watch(&mut tables.0, &mut tables.1, |nodes, seats| {
-        make(library, &case.call, nodes, seats, &mut rows, &mut 0, &mut shared)
+    let (answer, stores) = watcher.watch(&mut tables.nodes, &mut tables.seats, |nodes, seats| {
+        make(calls, &case.call, nodes, seats, &mut rows, &mut 0, &mut shared)
     });
     Watched { answer, tables, stores }
-}
-
-/// The refusal that a call met before it did anything, if it did; a run that makes no step is as good as refused.
-fn refusal(call: &Call, answer: u64) -> Option<u32> {
-    let (high, low) = ((answer >> 32) as u32, answer as u32);
-    match call {
-        Call::Clear { .. } if low != 0 => Some(low),
-        Call::Clear { .. } => None,
-        Call::Run { .. } if low == 0 => Some(high),
-        Call::Run { .. } => None,
-        _ if high == 0 => Some(low),
-        _ => None,
-    }
 }
 
 /// A word of the node table, and what is stored there.
@@ -59,42 +48,48 @@ fn one_word(word: usize) -> Range<usize> {
     words(word, 1)
 }
 
-fn words_of_seat(seat: u32) -> Range<usize> {
-    words(SEAT_WORDS * seat as usize, SEAT_WORDS)
+fn words_of_seat(profile: Profile, seat: u32) -> Range<usize> {
+    words(profile.seat_words() * seat as usize, profile.seat_words())
+}
+
+/// The words of a seat that is there.
+fn seat(tables: &Tables, number: u32) -> &[u32] {
+    &tables.seats[words_of_seat(tables.profile, number)]
 }
 
 /// "A node is free if it is not on the list and cannot be reached by following next from any other seat's own, prev or cur."
-fn some_node_is_free(case: &Case, asking: u32) -> bool {
-    let mut others = case.seats.clone();
-    others[words_of_seat(asking)].fill(0);
-    reached(&case.nodes, &others).len() < (case.nodes.len() - BEFORE_NODES) / NODE_WORDS
+fn some_node_is_free(tables: &Tables, asking: u32) -> bool {
+    let mut others = tables.seats.clone();
+    others[words_of_seat(tables.profile, asking)].fill(0);
+    reached(tables.profile, &tables.nodes, &others).len() < tables.each_node().len()
 }
 
 /// "Head and the unmarked listed nodes then link to the next unmarked one; marked nodes keep their next." 02: "Store only
 /// the links that differ." These, from the head on.
-fn links_that_differ(nodes: &[u32]) -> Vec<Link> {
-    let unmarked: Vec<u32> = listed(nodes).filter(|&node| !marked(nodes, node)).collect();
-    let links = std::iter::once(HEAD).chain(unmarked.iter().map(|&node| link(node)));
+fn links_that_differ(Tables { profile, nodes, .. }: &Tables) -> Vec<Link> {
+    let unmarked: Vec<u32> = profile.listed(nodes).filter(|&node| !profile.marked(nodes, node)).collect();
+    let links = std::iter::once(HEAD).chain(unmarked.iter().map(|&node| profile.link(node)));
     let then = unmarked.iter().copied().chain([0]);
     links.zip(then).filter(|&(link, then)| nodes[link] != then).collect()
 }
 
 /// "The node gets the claim, next 0, mark 0." If none was free, "the marked nodes on the list are first taken out". 02: the
 /// seat gets phase 7 and own; prev and cur, which are to be 0, are 0 already.
-fn fetch(case: &Case, seat: u32, node: u32) -> Allowed {
-    let links = if some_node_is_free(case, seat) { vec![] } else { links_that_differ(&case.nodes) };
-    let phase_and_own = words(words_of_seat(seat).start + PHASE, 2);
-    Allowed { nodes: vec![words(place(node, START), NODE_WORDS)], seats: vec![phase_and_own], links }
+fn fetch(tables: &Tables, seat: u32, node: u32) -> Allowed {
+    let profile = tables.profile;
+    let links = if some_node_is_free(tables, seat) { vec![] } else { links_that_differ(tables) };
+    let phase_and_own = words(words_of_seat(profile, seat).start + PHASE, 2);
+    Allowed { nodes: vec![words(profile.place(node, START), NODE_WORDS)], seats: vec![phase_and_own], links }
 }
 
 /// 02: "Enter reads the head and goes to phase 1": the seat gets that phase, and cur; no node changes.
-fn enter(seat: u32) -> Allowed {
-    let phase_and_cur = [PHASE, CUR].map(|field| one_word(words_of_seat(seat).start + field));
+fn enter(profile: Profile, seat: u32) -> Allowed {
+    let phase_and_cur = [PHASE, CUR].map(|field| one_word(words_of_seat(profile, seat).start + field));
     Allowed { seats: phase_and_cur.to_vec(), ..Allowed::default() }
 }
 
-fn count_of(nodes: &[u32], node: u32) -> usize {
-    if nodes[place(node, KIND)] == READS {
+fn count_of(tables: &Tables, node: u32) -> usize {
+    if tables.nodes[tables.profile.place(node, KIND)] == READS {
         READERS
     } else {
         WRITERS
@@ -103,71 +98,78 @@ fn count_of(nodes: &[u32], node: u32) -> usize {
 
 /// The words of the node table that a step stores which does not fetch. Insert: "own's next becomes cur, the link becomes own".
 /// Unlink, of a marked cur: "if prev is 0 or unmarked, and its link is cur, that link becomes cur's next". Hold counts.
-/// Withdraw: "own is marked".
-fn stored_by_step(nodes: &[u32], before: &[u32], phase_after: u32) -> Vec<usize> {
+/// Withdraw: "own is marked". 02, of a sheet: "a claim holds as soon as it is linked", and it writes.
+fn stored_by_step(tables: &Tables, before: &[u32], phase_after: u32) -> Vec<usize> {
+    let Tables { profile, nodes, .. } = tables;
     let (own, prev, cur) = (before[OWN], before[PREV], before[CUR]);
-    let is_marked = |node: u32| node != 0 && marked(nodes, node);
-    let unlinks = is_marked(cur) && !is_marked(prev) && nodes[link(prev)] == cur;
+    let is_marked = |node: u32| node != 0 && profile.marked(nodes, node);
+    let unlinks = is_marked(cur) && !is_marked(prev) && nodes[profile.link(prev)] == cur;
     match (before[PHASE], phase_after) {
-        (WALKING, VALIDATING) => vec![place(own, NEXT), link(prev)],
-        (WALKING, WALKING) | (VALIDATING, VALIDATING) if unlinks => vec![link(prev)],
-        (VALIDATING, HOLDING) => vec![count_of(nodes, own)],
-        (VALIDATING, WITHDRAWN) => vec![place(own, MARK)],
+        (WALKING, VALIDATING) => vec![profile.place(own, NEXT), profile.link(prev)],
+        (WALKING, HOLDING) => vec![profile.place(own, NEXT), profile.link(prev), WRITERS],
+        (WALKING, WALKING) | (VALIDATING, VALIDATING) if unlinks => vec![profile.link(prev)],
+        (VALIDATING, HOLDING) => vec![count_of(tables, own)],
+        (VALIDATING, WITHDRAWN) => vec![profile.place(own, MARK)],
         _ => vec![],
     }
 }
 
-fn step(case: &Case, seat: u32, seats_after: &[u32]) -> Allowed {
-    let (before, after) = (&case.seats[words_of_seat(seat)], &seats_after[words_of_seat(seat)]);
-    match before[PHASE] {
-        WITHDRAWN => return fetch(case, seat, after[OWN]),
-        RESERVED => return enter(seat),
+fn step(before: &Tables, number: u32, after: &Tables) -> Allowed {
+    let (words_before, words_after) = (seat(before, number), seat(after, number));
+    match words_before[PHASE] {
+        WITHDRAWN => return fetch(before, number, words_after[OWN]),
+        RESERVED => return enter(before.profile, number),
         _ => {}
     }
-    let stored = stored_by_step(&case.nodes, before, after[PHASE]);
+    let stored = stored_by_step(before, words_before, words_after[PHASE]);
     Allowed {
         nodes: stored.into_iter().map(one_word).collect(),
-        seats: vec![words_of_seat(seat)],
+        seats: vec![words_of_seat(before.profile, number)],
         ..Allowed::default()
     }
 }
 
 /// "Release: own is marked and the seat idle." 02: it keeps the counts.
-fn release(case: &Case, seat: u32) -> Allowed {
-    let own = case.seats[words_of_seat(seat)][OWN];
-    let stored = [place(own, MARK), count_of(&case.nodes, own)];
-    Allowed { nodes: stored.map(one_word).to_vec(), seats: vec![words_of_seat(seat)], ..Allowed::default() }
+fn release(tables: &Tables, number: u32) -> Allowed {
+    let own = seat(tables, number)[OWN];
+    let stored = [tables.profile.place(own, MARK), count_of(tables, own)];
+    let seats = vec![words_of_seat(tables.profile, number)];
+    Allowed { nodes: stored.map(one_word).to_vec(), seats, ..Allowed::default() }
 }
 
 /// A run of one step is that step. Of a longer one it is only asked that the seats are those it names, and that the title
-/// stays: that is stored by clear alone.
-fn run(case: &Case, entries: &[u32], seats_after: &[u32]) -> Allowed {
+/// stays: that is stored by clear alone; and on a sheet the count of readers, which is 0.
+fn run(before: &Tables, entries: &[u32], after: &Tables) -> Allowed {
+    let profile = before.profile;
+    let mut nodes = vec![one_word(HEAD), one_word(WRITERS), profile.before_nodes()..before.nodes.len()];
+    if profile == Ordinary {
+        nodes.push(HEAD..TITLE);
+    }
     match entries {
-        &[seat] => step(case, seat, seats_after),
+        &[seat] => step(before, seat, after),
         _ => Allowed {
-            nodes: vec![0..TITLE, BEFORE_NODES..case.nodes.len()],
-            seats: entries.iter().map(|&seat| words_of_seat(seat)).collect(),
+            nodes,
+            seats: entries.iter().map(|&seat| words_of_seat(profile, seat)).collect(),
             ..Allowed::default()
         },
     }
 }
 
 /// What a call may store that answers and leaves what it should.
-fn allowed(case: &Case, watched: &Watched) -> Allowed {
-    if refusal(&case.call, watched.answer).is_some() {
+fn allowed(Case { tables, call }: &Case, watched: &Watched) -> Allowed {
+    if refusal(call, watched.answer).is_some() {
         return Allowed::default();
     }
-    let seats_after = &watched.tables.1;
-    match &case.call {
+    match call {
         Call::Clear { .. } => {
             let whole = |table: &[u32]| vec![words(0, table.len())];
-            Allowed { nodes: whole(&case.nodes), seats: whole(&case.seats), ..Allowed::default() }
+            Allowed { nodes: whole(&tables.nodes), seats: whole(&tables.seats), ..Allowed::default() }
         }
-        &Call::Reserve { seat, .. } => fetch(case, seat, watched.answer as u32),
-        &Call::Enter { seat } => enter(seat),
-        &Call::Step { seat, .. } => step(case, seat, seats_after),
-        &Call::Release { seat } => release(case, seat),
-        Call::Run { entries, .. } => run(case, entries, seats_after),
+        &Call::Reserve { seat, .. } => fetch(tables, seat, watched.answer as u32),
+        &Call::Enter { seat } => enter(tables.profile, seat),
+        &Call::Step { seat, .. } => step(tables, seat, &watched.tables),
+        &Call::Release { seat } => release(tables, seat),
+        Call::Run { entries, .. } => run(tables, entries, &watched.tables),
         Call::Board { .. } | Call::FreeCount => Allowed::default(),
     }
 }
@@ -202,8 +204,9 @@ fn link_text((word, value): &Link) -> String {
 /// Told by who makes the calls, since the tables do not show it.
 pub const TAKEN_OUT_OF_REACHED: &str = "taken out: in tables reached from fresh ones";
 
-/// The kinds of calls, each of which must be met: a watcher of calls that store nothing says nothing.
-pub const KINDS: [&str; 42] = [
+/// The kinds of calls, each of which must be met: a watcher of calls that store nothing says nothing. These are of both
+/// profiles.
+const KINDS: [&str; 36] = [
     "clear",
     "clear, refused",
     "reserve, a node is free",
@@ -218,19 +221,13 @@ pub const KINDS: [&str; 42] = [
     "enter, refused otherwise",
     "step in phase 1",
     "step in phase 2",
-    "step in phase 3",
-    "step in phase 4",
     "step in phase 5",
-    "step in phase 6, a node is free",
-    "step in phase 6, marked nodes are taken out",
-    "step in phase 6, refused 8",
     "step in phase 7",
     "step, refused otherwise",
     "release",
     "release, refused",
     "run of one entry",
     "run of one entry in phase 7",
-    "run of one entry, marked nodes are taken out",
     "run of several entries",
     "run that makes no step",
     "board",
@@ -248,36 +245,60 @@ pub const KINDS: [&str; 42] = [
     "links stored: several",
 ];
 
-fn some_listed_is_marked(nodes: &[u32]) -> bool {
-    listed(nodes).any(|node| marked(nodes, node))
+/// Those of phases that a sheet has not.
+const ORDINARY_KINDS: [&str; 6] = [
+    "step in phase 3",
+    "step in phase 4",
+    "step in phase 6, a node is free",
+    "step in phase 6, marked nodes are taken out",
+    "step in phase 6, refused 8",
+    "run of one entry, marked nodes are taken out",
+];
+
+/// Those of a claim that holds as soon as it is linked.
+const SHEET_KINDS: [&str; 2] = ["step in phase 1 that links and holds", "run of one entry that links and holds"];
+
+pub fn kinds(profile: Profile) -> impl Iterator<Item = &'static str> {
+    let own: &'static [&'static str] = match profile {
+        Ordinary => &ORDINARY_KINDS,
+        Sheet => &SHEET_KINDS,
+    };
+    KINDS.iter().chain(own).copied()
 }
 
-fn call_kind(case: &Case, refusal: Option<u32>, takes_out: bool) -> &'static str {
-    match (&case.call, refusal) {
+fn some_listed_is_marked(Tables { profile, nodes, .. }: &Tables) -> bool {
+    profile.listed(nodes).any(|node| profile.marked(nodes, node))
+}
+
+fn call_kind(case: &Case, after: &Tables, refusal: Option<u32>, takes_out: bool) -> &'static str {
+    let Case { tables, call } = case;
+    let phases = |number| (seat(tables, number)[PHASE], seat(after, number)[PHASE]);
+    match (call, refusal) {
         (Call::Clear { .. }, None) => "clear",
         (Call::Clear { .. }, _) => "clear, refused",
         (Call::Reserve { .. }, None) if takes_out => "reserve, marked nodes are taken out",
-        (Call::Reserve { .. }, None) if some_listed_is_marked(&case.nodes) => {
+        (Call::Reserve { .. }, None) if some_listed_is_marked(tables) => {
             "reserve, a node is free, and marked ones stay listed"
         }
         (Call::Reserve { .. }, None) => "reserve, a node is free",
-        (Call::Reserve { .. }, Some(8)) if some_listed_is_marked(&case.nodes) => {
+        (Call::Reserve { .. }, Some(8)) if some_listed_is_marked(tables) => {
             "reserve, refused 8, marked nodes are listed"
         }
         (Call::Reserve { .. }, Some(8)) => "reserve, refused 8, no listed node is marked",
         (Call::Reserve { .. }, _) => "reserve, refused otherwise",
-        (Call::Enter { .. }, None) if case.nodes[HEAD] == 0 => "enter, no node is listed",
+        (Call::Enter { .. }, None) if tables.nodes[HEAD] == 0 => "enter, no node is listed",
         (Call::Enter { .. }, None) => "enter, a node is listed",
         (Call::Enter { .. }, Some(14)) => "enter, refused 14",
         (Call::Enter { .. }, _) => "enter, refused otherwise",
         (Call::Step { .. }, None) if takes_out => "step in phase 6, marked nodes are taken out",
-        (&Call::Step { seat, .. }, None) => match case.seats[words_of_seat(seat)][PHASE] {
-            WALKING => "step in phase 1",
-            WAITING_TO_ENTER => "step in phase 2",
-            VALIDATING => "step in phase 3",
-            READER_WAITING => "step in phase 4",
-            HOLDING => "step in phase 5",
-            WITHDRAWN => "step in phase 6, a node is free",
+        (&Call::Step { seat, .. }, None) => match phases(seat) {
+            (WALKING, HOLDING) => "step in phase 1 that links and holds",
+            (WALKING, _) => "step in phase 1",
+            (WAITING_TO_ENTER, _) => "step in phase 2",
+            (VALIDATING, _) => "step in phase 3",
+            (READER_WAITING, _) => "step in phase 4",
+            (HOLDING, _) => "step in phase 5",
+            (WITHDRAWN, _) => "step in phase 6, a node is free",
             _ => "step in phase 7",
         },
         (Call::Step { .. }, Some(8)) => "step in phase 6, refused 8",
@@ -286,8 +307,9 @@ fn call_kind(case: &Case, refusal: Option<u32>, takes_out: bool) -> &'static str
         (Call::Release { .. }, _) => "release, refused",
         (Call::Run { .. }, Some(_)) => "run that makes no step",
         (Call::Run { .. }, _) if takes_out => "run of one entry, marked nodes are taken out",
-        (Call::Run { entries, .. }, _) if entries.len() == 1 => match case.seats[words_of_seat(entries[0])][PHASE] {
-            RESERVED => "run of one entry in phase 7",
+        (Call::Run { entries, .. }, _) if entries.len() == 1 => match phases(entries[0]) {
+            (WALKING, HOLDING) => "run of one entry that links and holds",
+            (RESERVED, _) => "run of one entry in phase 7",
             _ => "run of one entry",
         },
         (Call::Run { .. }, _) => "run of several entries",
@@ -299,8 +321,8 @@ fn call_kind(case: &Case, refusal: Option<u32>, takes_out: bool) -> &'static str
 }
 
 /// Where on the list the nodes stood that were taken out, and how many links differ.
-fn kinds_of_taking_out(nodes: &[u32], link_count: usize) -> Vec<&'static str> {
-    let marks: Vec<bool> = listed(nodes).map(|node| marked(nodes, node)).collect();
+fn kinds_of_taking_out(Tables { profile, nodes, .. }: &Tables, link_count: usize) -> Vec<&'static str> {
+    let marks: Vec<bool> = profile.listed(nodes).map(|node| profile.marked(nodes, node)).collect();
     let first_unmarked = marks.iter().position(|marked| !marked);
     let last_unmarked = marks.iter().rposition(|marked| !marked);
     let in_the_middle = match (first_unmarked, last_unmarked) {
@@ -335,7 +357,7 @@ pub struct Judged {
 /// may store is worked out of it.
 pub fn judge(case: &Case, watched: &Watched) -> Judged {
     let second = outcome(&library_of!(crate::library), case);
-    let tables_alike = watched.tables.0 == second.nodes.words() && watched.tables.1 == second.seats.words();
+    let tables_alike = watched.tables.nodes == second.nodes.words() && watched.tables.seats == second.seats.words();
     if watched.answer != second.answer || !tables_alike {
         let wrong = Some("it does not answer or leave what the second machine does".to_string());
         return Judged { kinds: vec![], refused: false, links: 0, wrong };
@@ -343,9 +365,9 @@ pub fn judge(case: &Case, watched: &Watched) -> Judged {
     let allowed = allowed(case, watched);
     let refusal = refusal(&case.call, watched.answer);
     let takes_out = !allowed.links.is_empty();
-    let mut kinds = vec![call_kind(case, refusal, takes_out)];
+    let mut kinds = vec![call_kind(case, &watched.tables, refusal, takes_out)];
     if takes_out {
-        kinds.extend(kinds_of_taking_out(&case.nodes, allowed.links.len()));
+        kinds.extend(kinds_of_taking_out(&case.tables, allowed.links.len()));
     }
     let wrong = wrong_store(&watched.stores, &allowed);
     Judged { kinds, refused: refusal.is_some(), links: allowed.links.len(), wrong }

@@ -1,37 +1,47 @@
-//! Counts of what scripts and tables by seed really reach: a mix that never meets a rule says nothing about it.
-//! What happened in a call is told from the tables before and after it, as the second machine leaves them.
+//! Counts of what scripts and tables by seed really reach: a mix that never meets a rule says nothing about it. A tally is of
+//! one profile. What happened in a call is told from the tables before and after it, as the second machine leaves them.
 
-use crate::driver::{every_call, Call};
+use crate::damages::{damaged, damages, miscounted, miscounts, mistitled, MISTITLES};
+use crate::driver::{every_call, outcome, refusal, Call, Case, Family};
+use crate::generate::{some_rows, Rows};
+use crate::library_of;
 use crate::lists::{names_met, some_export, some_import};
-use crate::machine::{self, Answer, CUR, END, HOLDING, IDLE, KIND, MOST_SEATS, OWN, PHASE, PREV, READERS, ROW_WORDS};
-use crate::machine::{HEAD, READER_WAITING, READS, RESERVED, SEAT_WORDS, START, TITLE, VALIDATING, WAITING_TO_ENTER};
-use crate::machine::{WALKING, WITHDRAWN, WRITERS, WRITES};
+use crate::machine::{Answer, Profile, CUR, END, HEAD, HOLDING, IDLE, KIND, MOST_SEATS, OWN, PHASE, PREV, READERS};
+use crate::machine::{READER_WAITING, READS, RESERVED, ROW_WORDS, START, TITLE, VALIDATING, WAITING_TO_ENTER, WALKING};
+use crate::machine::{WITHDRAWN, WRITERS, WRITES};
 use crate::random::Random;
-use crate::script::{call, read_script, ENTER, RESERVE};
-use crate::tables::{
-    any_words, damaged, largest_end, many_holders, many_reserved, many_waiters, miscounted, mistitled,
-};
-use crate::tables::{put_counts, sound_words, Tables, DAMAGES, MISCOUNTS, MISTITLES};
+use crate::script::{read_script, ENTER, RESERVE};
+use crate::tables::{any_words, full_lists, kinds, many_holders, many_reserved, many_waiters, many_walkers};
+use crate::tables::{sound_words, Tables};
 use std::collections::{BTreeMap, BTreeSet};
 use std::ops::Range;
 
-#[derive(Default)]
 pub struct Tally {
+    profile: Profile,
     counts: BTreeMap<String, u64>,
     /// the most that was seen of something at once
     most: BTreeMap<&'static str, u32>,
 }
 
-fn reads(nodes: &[u32], seat: &[u32]) -> bool {
-    nodes[machine::place(seat[OWN], KIND)] == READS
+fn word(tables: &Tables, node: u32, field: usize) -> u32 {
+    tables.nodes[tables.profile.place(node, field)]
+}
+
+fn marked(tables: &Tables, node: u32) -> bool {
+    node != 0 && tables.profile.marked(&tables.nodes, node)
+}
+
+fn reads(tables: &Tables, seat: &[u32]) -> bool {
+    word(tables, seat[OWN], KIND) == READS
 }
 
 /// What a step from one seat state to another was, by the names of the document.
-fn step_name(nodes: &[u32], before: &[u32], after: &[u32]) -> &'static str {
-    let was_marked = |node: u32| node != 0 && machine::marked(nodes, node);
+fn step_name(tables: &Tables, before: &[u32], after: &[u32]) -> &'static str {
+    let was_marked = |node| marked(tables, node);
     match (before[PHASE], after[PHASE]) {
         (WALKING, WAITING_TO_ENTER) => "step: begins to wait in phase 2",
         (WALKING, VALIDATING) => "step: insert that links",
+        (WALKING, HOLDING) => "step: insert that links and holds",
         (WALKING, WALKING) if was_marked(before[PREV]) && after[PREV] == 0 => "step: restart behind a marked prev",
         (WALKING, WALKING) if was_marked(before[CUR]) => "step: unlink while walking",
         (WALKING, WALKING) if before[PREV] == after[PREV] => "step: insert that finds another link",
@@ -39,7 +49,7 @@ fn step_name(nodes: &[u32], before: &[u32], after: &[u32]) -> &'static str {
         (WAITING_TO_ENTER, WALKING) => "step: wait in phase 2 is over",
         (WAITING_TO_ENTER, _) => "step: waits on in phase 2",
         (VALIDATING, READER_WAITING) => "step: reader begins to wait in phase 4",
-        (VALIDATING, HOLDING) if reads(nodes, before) => "step: hold of a reader",
+        (VALIDATING, HOLDING) if reads(tables, before) => "step: hold of a reader",
         (VALIDATING, HOLDING) => "step: hold of a writer",
         (VALIDATING, WITHDRAWN) => "step: withdrawal",
         (VALIDATING, _) if was_marked(before[CUR]) => "step: unlink while validating",
@@ -63,24 +73,25 @@ fn title_name(title: u32) -> &'static str {
 }
 
 /// What a clear meets that the count it takes can make go wrong.
-fn clear_name((nodes, seats): &Tables, title: u32) -> &'static str {
-    let lengths_fit = machine::clear(&mut nodes.clone(), &mut seats.clone(), 1).is_ok();
+fn clear_name(tables: &Tables, title: u32) -> &'static str {
+    let nodes = &tables.nodes;
+    let lengths_fit = tables.clone().clear(1).is_ok();
     match (lengths_fit, title) {
         (false, 0) => "clear: lengths wrong, and count 0",
         (false, _) => "clear: lengths wrong",
         (true, 0) => "clear: count 0",
         _ if title == nodes[TITLE] => "clear: the same title",
         _ if nodes[TITLE] == 0 => "clear: a title where there was none",
-        _ if largest_end(nodes) > title => "clear: another title, which a claim there ends beyond",
-        _ if largest_end(nodes) > 0 => "clear: another title on tables with claims",
+        _ if tables.largest_end() > title => "clear: another title, which a claim there ends beyond",
+        _ if tables.largest_end() > 0 => "clear: another title on tables with claims",
         _ => "clear: another title on tables without claims",
     }
 }
 
 /// What a reserve meets that 11, "end beyond the title", or its place among the refusals, can make go wrong, if it does.
-fn reserve_name(nodes: &[u32], seat: &[u32], [start, end, kind]: [u32; 3]) -> Option<&'static str> {
-    let title = nodes[TITLE];
-    let known_kind = kind == READS || kind == WRITES;
+fn reserve_name(tables: &Tables, seat: &[u32], [start, end, kind]: [u32; 3]) -> Option<&'static str> {
+    let title = tables.nodes[TITLE];
+    let known_kind = kinds(tables.profile).contains(&kind);
     match (start < end, known_kind, seat[PHASE] == IDLE) {
         (false, ..) if end > title => Some("reserve: beyond the title, and empty"),
         (true, false, _) if end > title => Some("reserve: beyond the title, of no known kind"),
@@ -94,20 +105,35 @@ fn reserve_name(nodes: &[u32], seat: &[u32], [start, end, kind]: [u32; 3]) -> Op
     }
 }
 
+/// What a reserve of kind 1 meets on a sheet, where that is 4: alone, or beside another refusal.
+fn reader_name(tables: &Tables, number: u32, seat: &[u32], [start, end, _]: [u32; 3]) -> &'static str {
+    if start >= end {
+        "reserve: kind 1 on a sheet, and empty"
+    } else if end > tables.nodes[TITLE] {
+        "reserve: kind 1 on a sheet, and beyond the title"
+    } else if seat[PHASE] != IDLE {
+        "reserve: kind 1 on a sheet, by a seat that has a claim"
+    } else if tables.clone().reserve(number, start, end, WRITES).is_err() {
+        "reserve: kind 1 on a sheet, where no node is free"
+    } else {
+        "reserve: kind 1 on a sheet, and nothing else is wrong"
+    }
+}
+
 /// A seat that enters, by enter or by a step, in tables before that.
 struct Entry<'a> {
-    nodes: &'a [u32],
-    seats: &'a [u32],
+    tables: &'a Tables,
+    head: u32,
     own: u32,
 }
 
 impl Entry<'_> {
-    fn head_is(&self, wanted: impl Fn(u32) -> bool) -> bool {
-        self.nodes[HEAD] != 0 && wanted(self.nodes[HEAD])
+    fn seats_with_own_node(&self) -> usize {
+        self.tables.each_seat().filter(|seat| seat[OWN] == self.own).count()
     }
 
-    fn seats_with_own_node(&self) -> usize {
-        self.seats.chunks_exact(SEAT_WORDS).filter(|seat| seat[OWN] == self.own).count()
+    fn own_is_listed(&self) -> bool {
+        self.tables.listed().any(|node| node == self.own)
     }
 }
 
@@ -115,24 +141,24 @@ type Entering = (&'static str, fn(&Entry) -> bool);
 
 /// What a seat can meet that enters: what is read of the head, and a node of its own that no call has left so.
 const ENTRIES: [Entering; 6] = [
-    ("no node is listed", |entry| entry.nodes[HEAD] == 0),
-    ("the first listed node is unmarked", |entry| entry.head_is(|node| !machine::marked(entry.nodes, node))),
-    ("the first listed node is marked", |entry| entry.head_is(|node| machine::marked(entry.nodes, node))),
+    ("no node is listed", |entry| entry.head == 0),
+    ("the first listed node is unmarked", |entry| entry.head != 0 && !marked(entry.tables, entry.head)),
+    ("the first listed node is marked", |entry| marked(entry.tables, entry.head)),
     // only in tables that were never reached
-    ("its own node is listed", |entry| machine::listed(entry.nodes).any(|node| node == entry.own)),
-    ("its own node is marked", |entry| machine::marked(entry.nodes, entry.own)),
+    ("its own node is listed", |entry| entry.own_is_listed()),
+    ("its own node is marked", |entry| marked(entry.tables, entry.own)),
     ("its own node is another seat's too", |entry| entry.seats_with_own_node() > 1),
 ];
 
 /// The tables without the claims of other reserved seats: a fetch that takes another node there has left theirs alone.
-fn without_reserved((nodes, seats): &Tables, asking: u32) -> Tables {
-    let mut seats = seats.clone();
-    for (number, seat) in (0..).zip(seats.chunks_exact_mut(SEAT_WORDS)) {
+fn without_reserved(tables: &Tables, asking: u32) -> Tables {
+    let mut without = tables.clone();
+    for (number, seat) in (0..).zip(without.seats.chunks_exact_mut(tables.profile.seat_words())) {
         if number != asking && seat[PHASE] == RESERVED {
             seat.fill(0);
         }
     }
-    (nodes.clone(), seats)
+    without
 }
 
 type Run = Range<u32>;
@@ -172,11 +198,10 @@ struct Wait {
 }
 
 impl Wait {
-    fn new(nodes: &[u32], seat: &[u32], shared: Run) -> Wait {
-        let word = |node: u32, field: usize| nodes[machine::place(node, field)];
-        let run = |node: u32| word(node, START)..word(node, END);
+    fn new(tables: &Tables, seat: &[u32], shared: Run) -> Wait {
+        let run = |node: u32| word(tables, node, START)..word(tables, node, END);
         let [own, at] = [seat[OWN], seat[CUR]];
-        let both_read = [own, at].iter().all(|&node| word(node, KIND) == READS);
+        let both_read = [own, at].iter().all(|&node| word(tables, node, KIND) == READS);
         Wait { phase: seat[PHASE], own: run(own), at: run(at), shared, both_read, at_own: own == at }
     }
 
@@ -224,18 +249,46 @@ const WAITS: [Waiting; 23] = [
     ("wait: at its own node, in phase 4", |wait| wait.at_own && wait.phase == READER_WAITING),
 ];
 
-type Family = (&'static str, fn(&mut Random) -> Tables);
-
 /// The tables of a round that are not made to be damaged.
-const FAMILIES: [Family; 5] = [
+const FAMILIES: [(&str, Family); 7] = [
     ("any words", any_words),
     ("sound words", sound_words),
     ("many holders", many_holders),
     ("many waiters", many_waiters),
     ("many reserved", many_reserved),
+    ("many walkers", many_walkers),
+    ("full lists", full_lists),
 ];
 
+fn call_name(call: &Call) -> &'static str {
+    match call {
+        Call::Clear { .. } => "clear",
+        Call::Reserve { .. } => "reserve",
+        Call::Enter { .. } => "enter",
+        Call::Step { .. } => "step",
+        Call::Release { .. } => "release",
+        Call::Run { .. } => "run",
+        Call::Board { .. } => "board",
+        Call::FreeCount => "free count",
+    }
+}
+
+/// What a call answers, if it is not refused, or a run before it is.
+fn accepted_name(call: &Call, answer: u64) -> String {
+    let answers = ["node", "out", "on", "wait", "held", "back"];
+    match (call, answer >> 32) {
+        (Call::Run { .. }, 0) => "answer of run: to its end or its budget".to_string(),
+        (Call::Run { .. }, refusal) => format!("answer of run: refusal {refusal} behind a step"),
+        (Call::Clear { .. } | Call::Board { .. } | Call::FreeCount, _) => format!("answer of {}", call_name(call)),
+        (_, kind) => format!("answer of {}: {}", call_name(call), answers[kind as usize - 1]),
+    }
+}
+
 impl Tally {
+    pub fn new(profile: Profile) -> Tally {
+        Tally { profile, counts: BTreeMap::new(), most: BTreeMap::new() }
+    }
+
     fn count(&mut self, name: impl Into<String>) {
         *self.counts.entry(name.into()).or_insert(0) += 1;
     }
@@ -246,26 +299,33 @@ impl Tally {
     }
 
     /// Sees how many hold in sound tables.
-    fn count_holding(&mut self, nodes: &[u32]) {
-        self.see("the most readers holding at once", nodes[READERS]);
-        self.see("the most writers holding at once", nodes[WRITERS]);
+    fn count_holding(&mut self, tables: &Tables) {
+        self.see("the most readers holding at once", tables.nodes[READERS]);
+        self.see("the most writers holding at once", tables.nodes[WRITERS]);
     }
 
-    /// Counts what a reserve meets at the title's end, in sound tables.
-    fn count_reserve(&mut self, nodes: &[u32], seats: &[u32], seat: u32, claim: [u32; 3]) {
-        let words = seats.chunks_exact(SEAT_WORDS).nth(seat as usize);
-        if let Some(name) = words.and_then(|words| reserve_name(nodes, words, claim)) {
+    /// Counts what a reserve meets at the title's end and of its kind, in sound tables.
+    fn count_reserve(&mut self, tables: &Tables, seat: u32, claim: [u32; 3]) {
+        let words = match tables.seat(seat) {
+            Some(words) => words,
+            None => return,
+        };
+        if let Some(name) = reserve_name(tables, words, claim) {
             self.count(name);
+        }
+        if self.profile == Profile::Sheet && claim[2] == READS {
+            self.count(reader_name(tables, seat, words, claim));
         }
     }
 
     /// Counts what an enter, or a step in phase 7, meets in tables of any words: the phase of the seat if it is refused 14.
-    fn count_enter(&mut self, by: &str, (nodes, seats): &Tables, seat: u32) {
-        match machine::enter(nodes, &mut seats.clone(), seat) {
-            Err(14) => self.count(format!("{by}: refused in phase {}", seats[SEAT_WORDS * seat as usize + PHASE])),
+    fn count_enter(&mut self, by: &str, tables: &Tables, seat: u32) {
+        let words = tables.seat(seat).unwrap_or(&[0; 4]);
+        match tables.clone().enter(seat) {
+            Err(14) => self.count(format!("{by}: refused in phase {}", words[PHASE])),
             Err(refusal) => self.count(format!("{by}: refused {refusal}")),
             Ok(_) => {
-                let entry = Entry { nodes, seats, own: seats[SEAT_WORDS * seat as usize + OWN] };
+                let entry = Entry { tables, head: tables.nodes[HEAD], own: words[OWN] };
                 for (name, _) in ENTRIES.iter().filter(|(_, met)| met(&entry)) {
                     self.count(format!("{by}: {name}"));
                 }
@@ -283,7 +343,7 @@ impl Tally {
     ) {
         let own_then = |mut tables: Tables| {
             let answer = fetch(&mut tables);
-            answer.map(|_| tables.1[SEAT_WORDS * seat as usize + OWN])
+            answer.map(|_| tables.seat(seat).map(|words| words[OWN]))
         };
         if own_then(tables.clone()) != own_then(without_reserved(tables, seat)) {
             self.count(format!("{by}: the node of a reserved seat is left alone"));
@@ -291,51 +351,50 @@ impl Tally {
     }
 
     /// Counts how a claim waits that a step left waiting.
-    fn count_wait(&mut self, nodes: &[u32], seat: &[u32], shared: Run) {
-        let wait = Wait::new(nodes, seat, shared);
+    fn count_wait(&mut self, tables: &Tables, seat: &[u32], shared: Run) {
+        let wait = Wait::new(tables, seat, shared);
         for (name, _) in WAITS.iter().filter(|(_, waits)| waits(&wait)) {
             self.count(*name);
         }
     }
 
-    fn count_call(&mut self, nodes: &mut [u32], seats: &mut [u32], row: [u32; 5]) {
-        let tables_before = (nodes.to_vec(), seats.to_vec());
+    fn count_row(&mut self, tables: &mut Tables, row: [u32; 5]) {
+        let before = tables.clone();
         match row {
-            [RESERVE, seat, start, end, kind] => self.count_reserve(nodes, seats, seat, [start, end, kind]),
-            [ENTER, seat, ..] => self.count_enter("enter", &tables_before, seat),
+            [RESERVE, seat, start, end, kind] => self.count_reserve(&before, seat, [start, end, kind]),
+            [ENTER, seat, ..] => self.count_enter("enter", &before, seat),
             _ => {}
         }
-        let answer = call(nodes, seats, row);
+        let make = |tables: &mut Tables| tables.call(row);
+        let answer = make(tables);
         let call_name = ["reserve", "step", "release", "enter"][row[0] as usize - 1];
         if let Err(refusal) = answer {
             return self.count(format!("refusal {refusal} of {call_name}"));
         }
-        let place = SEAT_WORDS * row[1] as usize;
-        let (nodes_before, seats_before) = &tables_before;
-        let (before, after) = (&seats_before[place..][..SEAT_WORDS], &seats[place..][..SEAT_WORDS]);
+        let [words_before, words] = [&before, tables].map(|tables| tables.seat(row[1]).expect("it was not refused 2"));
         self.count(match answer {
             Ok(Answer::Node(_)) => "reserve",
-            Ok(Answer::Out) if reads(nodes_before, before) => "release of a reader",
+            Ok(Answer::Out) if reads(&before, words_before) => "release of a reader",
             Ok(Answer::Out) => "release of a writer",
             _ if row[0] == ENTER => "enter",
-            _ => step_name(nodes_before, before, after),
+            _ => step_name(&before, words_before, words),
         });
         if let Ok(Answer::Wait { first, end, .. }) = answer {
-            self.count_wait(nodes, after, first..end);
+            self.count_wait(tables, words, first..end);
         }
-        if row[0] == RESERVE || before[PHASE] == WITHDRAWN {
-            if machine::listed(nodes_before).ne(machine::listed(nodes)) {
+        if row[0] == RESERVE || words_before[PHASE] == WITHDRAWN {
+            if before.listed().ne(tables.listed()) {
                 self.count("fetch that takes marked nodes out");
             }
-            self.count_fetch(call_name, &tables_before, row[1], |(nodes, seats)| call(nodes, seats, row));
+            self.count_fetch(call_name, &before, row[1], make);
         }
-        self.count_holding(nodes);
+        self.count_holding(tables);
     }
 
     /// Counts how the holders of sound tables meet.
-    pub fn count_board(&mut self, nodes: &[u32], seats: &[u32]) {
+    pub fn count_board(&mut self, tables: &Tables) {
         let mut rows = [0; ROW_WORDS * MOST_SEATS];
-        let (count, _) = machine::board(nodes, seats, &mut rows).expect("sound tables, and as many rows as seats");
+        let (count, _) = tables.board(&mut rows).expect("sound tables, and as many rows as seats");
         let runs: Vec<Run> = rows.chunks_exact(ROW_WORDS).take(count as usize).map(|row| row[1]..row[2]).collect();
         if count > 1 {
             self.count("board: two holders or more");
@@ -355,6 +414,21 @@ impl Tally {
         }
     }
 
+    /// Counts what calls in turn reach from fresh tables.
+    fn count_rows(&mut self, mut tables: Tables, rows: impl Iterator<Item = [u32; 5]>) {
+        self.count(title_name(tables.nodes[TITLE]));
+        let mut longest = 0;
+        for row in rows {
+            self.count_row(&mut tables, row);
+            longest = longest.max(tables.listed().count());
+        }
+        self.count_board(&tables);
+        if longest > 30 {
+            self.count("a list longer than 30");
+        }
+        self.see("nodes in the longest list", longest as u32);
+    }
+
     /// Plays a script and counts what it reaches; bad ones are counted by what is wrong and by the line that is named.
     pub fn count_script(&mut self, flaw: &str, bytes: &[u8]) {
         self.count(format!("script: {flaw}"));
@@ -363,67 +437,67 @@ impl Tally {
             Err(line @ 0..=2) => return self.count(format!("bad {line}")),
             Err(_) => return self.count("bad, a later line"),
         };
-        self.count(title_name(script.title));
-        let (mut nodes, mut seats) = machine::fresh(script.nodes, script.seats, script.title);
-        let mut longest = 0;
-        for &row in &script.rows[..script.count as usize] {
-            self.count_call(&mut nodes, &mut seats, row);
-            longest = longest.max(machine::listed(&nodes).count());
-        }
-        self.count_board(&nodes, &seats);
-        if longest > 30 {
-            self.count("script with a list longer than 30");
-        }
-        self.see("nodes in the longest list", longest as u32);
+        let tables = Tables::fresh(self.profile, script.nodes, script.seats, script.title);
+        self.count_rows(tables, script.rows.into_iter().take(script.count as usize));
+    }
+
+    /// Counts what the calls of a history reach, from fresh tables of the tally's profile.
+    pub fn count_history(&mut self, random: &mut Random) {
+        let Rows { nodes, seats, title, rows } = some_rows(random, &[self.profile]);
+        let tables = Tables::fresh(self.profile, nodes, seats, title);
+        self.count_rows(tables, rows.into_iter().map(|(_, row)| row));
     }
 
     /// Counts what is wrong with tables of a name: a table is damaged by a count alone if right counts make it sound, and by
     /// its title alone if the longest title does.
-    fn count_tables(&mut self, name: &str, (nodes, seats): &Tables) {
-        let sound = |nodes: &[u32]| machine::free_count(nodes, seats).is_ok();
-        let mut counted = nodes.clone();
-        put_counts(&mut counted, seats);
-        let mut titled = nodes.clone();
-        titled.iter_mut().skip(TITLE).take(1).for_each(|title| *title = u32::MAX);
-        if sound(nodes) {
+    fn count_tables(&mut self, name: &str, tables: &Tables) {
+        let mut counted = tables.clone();
+        counted.put_counts();
+        let mut titled = tables.clone();
+        titled.nodes.iter_mut().skip(TITLE).take(1).for_each(|title| *title = u32::MAX);
+        if tables.are_sound() {
             self.count(format!("{name}: sound"));
-            self.count(title_name(nodes[TITLE]));
-            self.count_holding(nodes);
-            if nodes[TITLE] == largest_end(nodes) {
+            self.count(title_name(tables.nodes[TITLE]));
+            self.count_holding(tables);
+            if tables.nodes[TITLE] == tables.largest_end() {
                 self.count("title that is the end of a node");
             }
-        } else if sound(&counted) {
+        } else if counted.are_sound() {
             self.count(format!("{name}: damaged by a count alone"));
-        } else if sound(&titled) {
+        } else if titled.are_sound() {
             self.count(format!("{name}: damaged by its title alone"));
         } else {
             self.count(format!("{name}: damaged otherwise"));
         }
     }
 
-    /// Counts what a step meets: how it leaves a seat waiting, in which way one enters, and that reserved nodes are left alone.
+    /// Counts what a step meets: by which rule it goes, how it leaves a seat waiting, in which way one enters, and that
+    /// reserved nodes are left alone.
     fn count_step(&mut self, tables: &Tables, seat: u32) {
-        let words = tables.1.chunks_exact(SEAT_WORDS).nth(seat as usize);
+        let make = |tables: &mut Tables| tables.step(seat);
+        let words = tables.seat(seat);
         match words.map(|words| words[PHASE]) {
             Some(RESERVED) => self.count_enter("step in phase 7", tables, seat),
-            Some(WITHDRAWN) => {
-                self.count_fetch("step", tables, seat, |(nodes, seats)| machine::step(nodes, seats, seat));
-            }
+            Some(WITHDRAWN) => self.count_fetch("step", tables, seat, make),
             _ => {}
         }
-        let (mut nodes, mut seats) = tables.clone();
-        if let Ok(Answer::Wait { first, end, .. }) = machine::step(&mut nodes, &mut seats, seat) {
-            self.count_wait(&nodes, &seats[SEAT_WORDS * seat as usize..], first..end);
+        let mut after = tables.clone();
+        let answer = make(&mut after);
+        if let (Some(words), Some(words_after), Ok(answer)) = (words, after.seat(seat), answer) {
+            self.count(step_name(tables, words, words_after));
+            if let Answer::Wait { first, end, .. } = answer {
+                self.count_wait(&after, words_after, first..end);
+            }
         }
     }
 
     /// Counts what a run comes to of a seat that fetches again, and of one that enters.
-    fn count_run(&mut self, (nodes, seats): &Tables, entries: &[u32], budget: u32) {
-        let (mut nodes, mut seats) = (nodes.clone(), seats.clone());
+    fn count_run(&mut self, tables: &Tables, entries: &[u32], budget: u32) {
+        let mut tables = tables.clone();
         let mut fetched = BTreeSet::new();
         for &seat in entries.iter().take(budget as usize) {
-            let phase = seats.get(SEAT_WORDS * seat as usize + PHASE).copied();
-            if machine::step(&mut nodes, &mut seats, seat).is_err() {
+            let phase = tables.seat(seat).map(|words| words[PHASE]);
+            if tables.step(seat).is_err() {
                 return;
             }
             match phase {
@@ -438,50 +512,55 @@ impl Tally {
         }
     }
 
-    /// Counts what the calls that are compared on such tables meet of the title, of reserved seats, and how they leave a seat
-    /// waiting.
-    fn count_calls(&mut self, random: &mut Random, tables: &Tables) {
-        let (nodes, seats) = tables;
-        for call in every_call(random, tables) {
-            match call {
-                Call::Clear { title } => self.count(clear_name(tables, title)),
-                Call::Reserve { seat, start, end, kind } if machine::free_count(nodes, seats).is_ok() => {
-                    self.count_reserve(nodes, seats, seat, [start, end, kind]);
-                    self.count_fetch("reserve", tables, seat, |(nodes, seats)| {
-                        machine::reserve(nodes, seats, seat, start, end, kind)
-                    });
-                }
-                Call::Enter { seat } => self.count_enter("enter", tables, seat),
-                Call::Step { seat, .. } => self.count_step(tables, seat),
-                Call::Run { entries, budget } => self.count_run(tables, &entries, budget),
-                _ => {}
+    /// Counts what a call answers on such tables, and what it meets of the title, of its kind, of reserved seats, and how it
+    /// leaves a seat waiting.
+    fn count_call(&mut self, case: Case) {
+        let answer = outcome(&library_of!(crate::library), &case).answer;
+        let Case { tables, call } = &case;
+        self.count(match refusal(call, answer) {
+            Some(0) => "answer of run: no step".to_string(),
+            Some(refusal) => format!("refusal {refusal} of {}", call_name(call)),
+            None => accepted_name(call, answer),
+        });
+        match call {
+            &Call::Clear { title } => self.count(clear_name(tables, title)),
+            &Call::Reserve { seat, start, end, kind } if tables.are_sound() => {
+                self.count_reserve(tables, seat, [start, end, kind]);
+                self.count_fetch("reserve", tables, seat, |tables| tables.reserve(seat, start, end, kind));
             }
+            &Call::Enter { seat } => self.count_enter("enter", tables, seat),
+            &Call::Step { seat, .. } => self.count_step(tables, seat),
+            Call::Run { entries, budget } => self.count_run(tables, entries, *budget),
+            _ => {}
         }
     }
 
     /// Counts the tables of a round, and the calls on them: some of each family, and one for each damage, each wrong count
     /// and each wrong title.
     pub fn count_round(&mut self, random: &mut Random) {
+        let profile = self.profile;
         let mut count = |random: &mut Random, name: &str, tables: Tables| {
             self.count_tables(name, &tables);
-            self.count_calls(random, &tables);
+            for call in every_call(random, &tables) {
+                self.count_call(Case { tables: tables.clone(), call });
+            }
         };
         for _ in 0..10 {
             for (name, family) in FAMILIES {
-                let tables = family(random);
+                let tables = family(random, profile);
                 count(random, name, tables);
             }
         }
-        for damage in DAMAGES {
-            let tables = damaged(random, damage);
+        for damage in damages(profile) {
+            let tables = damaged(random, profile, damage);
             count(random, &format!("damage, {}", damage.0), tables);
         }
-        for miscount in MISCOUNTS {
-            let tables = miscounted(random, miscount);
+        for miscount in miscounts(profile) {
+            let tables = miscounted(random, profile, miscount);
             count(random, &format!("count, {}", miscount.0), tables);
         }
         for mistitle in MISTITLES {
-            let tables = mistitled(random, mistitle);
+            let tables = mistitled(random, profile, mistitle);
             count(random, &format!("title, {}", mistitle.0), tables);
         }
     }

@@ -1,16 +1,19 @@
 //! cost MACHINE OPERATION N S COUNT: makes one call COUNT times, each from the same tables, under a counter of instructions.
 //! The cost of a call is what twice COUNT takes more than COUNT, over COUNT, less the same for `reset`, which makes no call.
 //! cost MACHINE OPERATION N S stores: makes the call once and prints how many stores to the two tables it made, and how many
-//! of these changed a word. cost MACHINE OPERATION RECORDS COUNT: the same as the first for a list that is moved. `cost` alone
-//! lists the operations on tables, `cost lists` those on lists. MACHINE is second, or proved with the feature of that name.
+//! of these changed a word. cost MACHINE OPERATION RECORDS COUNT: the same as the first for a list that is moved. `cost`
+//! alone lists the operations on tables, those of the ordinary profile and then those on sheets, `cost lists` those on
+//! lists. MACHINE is second, or proved with the feature of that name.
 
 use second::driver::{make, Call, Case, Library, MACHINES};
 use second::lists::{Lists, Way};
-use second::machine::{self, Answer, BEFORE_NODES, HEAD, MARK, NODE_WORDS, START};
+use second::machine::Profile::{self, Ordinary, Sheet};
+use second::machine::{Answer, HEAD, MARK, START};
 use second::posix::RECORD_WORDS;
 use second::random::Random;
 use second::stores::{Watcher, NOT_HERE};
 use second::storing::watched;
+use second::tables::Tables;
 use std::process::exit;
 
 const READS: u32 = 1;
@@ -21,22 +24,21 @@ const TITLE: u32 = u32::MAX;
 
 /// Tables on their way to the call that is measured: all seats but two hold, one behind the other.
 struct Bench {
-    nodes: Vec<u32>,
-    seats: Vec<u32>,
+    tables: Tables,
     /// the seat that the call is made for, and one beside it
     last: u32,
     beside: u32,
 }
 
 /// No seat holds.
-fn idle(node_count: u32, seat_count: u32) -> Bench {
-    let (nodes, seats) = machine::fresh(node_count, seat_count, TITLE);
-    Bench { nodes, seats, last: seat_count - 1, beside: seat_count - 2 }
+fn idle(profile: Profile, node_count: u32, seat_count: u32) -> Bench {
+    let tables = Tables::fresh(profile, node_count, seat_count, TITLE);
+    Bench { tables, last: seat_count - 1, beside: seat_count - 2 }
 }
 
 /// Each seat in turn holds at the place that the list gives it; the places lie apart, and two seats more are idle.
-fn holders_at(node_count: u32, places: Vec<u32>, kind: u32) -> Bench {
-    let mut bench = idle(node_count, places.len() as u32 + 2);
+fn holders_at(profile: Profile, node_count: u32, places: Vec<u32>, kind: u32) -> Bench {
+    let mut bench = idle(profile, node_count, places.len() as u32 + 2);
     for (seat, place) in (0..).zip(places) {
         bench.enter(seat, 10 * (place + 1), 10 * (place + 1) + 5, kind);
         bench.step_until_held(seat);
@@ -44,8 +46,16 @@ fn holders_at(node_count: u32, places: Vec<u32>, kind: u32) -> Bench {
     bench
 }
 
-fn holders(node_count: u32, seat_count: u32, kind: u32) -> Bench {
-    holders_at(node_count, (0..seat_count - 2).collect(), kind)
+fn holders(profile: Profile, node_count: u32, seat_count: u32, kind: u32) -> Bench {
+    holders_at(profile, node_count, (0..seat_count - 2).collect(), kind)
+}
+
+fn writers(profile: Profile, node_count: u32, seat_count: u32) -> Bench {
+    holders(profile, node_count, seat_count, WRITES)
+}
+
+fn readers(node_count: u32, seat_count: u32) -> Bench {
+    holders(Ordinary, node_count, seat_count, READS)
 }
 
 // The board puts the holders in the order of their first frames, so it matters in which order they lie by seat.
@@ -72,17 +82,17 @@ fn outward(count: u32) -> Vec<u32> {
 
 impl Bench {
     fn reserve(&mut self, seat: u32, start: u32, end: u32, kind: u32) {
-        machine::reserve(&mut self.nodes, &mut self.seats, seat, start, end, kind).expect("a node is free");
+        self.tables.reserve(seat, start, end, kind).expect("a node is free");
     }
 
     /// The seat reserves, and enters at once.
     fn enter(&mut self, seat: u32, start: u32, end: u32, kind: u32) {
         self.reserve(seat, start, end, kind);
-        machine::enter(&self.nodes, &mut self.seats, seat).expect("the seat has reserved");
+        self.tables.enter(seat).expect("the seat has reserved");
     }
 
     fn step(&mut self, seat: u32) -> Answer {
-        machine::step(&mut self.nodes, &mut self.seats, seat).expect("the seat is under way")
+        self.tables.step(seat).expect("the seat is under way")
     }
 
     fn step_until_held(&mut self, seat: u32) {
@@ -90,7 +100,7 @@ impl Bench {
     }
 
     fn release(mut self, seat: u32) -> Bench {
-        machine::release(&mut self.nodes, &mut self.seats, seat).expect("the seat holds");
+        self.tables.release(seat).expect("the seat holds");
         self
     }
 
@@ -116,26 +126,20 @@ impl Bench {
         self
     }
 
+    fn mark(&mut self, node: u32) {
+        self.tables.nodes[self.tables.profile.place(node, MARK)] = 1;
+    }
+
     /// Every node that was never used is listed behind the holders, marked or not.
     fn full(mut self, mark: u32) -> Bench {
-        let mut list: Vec<u32> = machine::listed(&self.nodes).collect();
-        let node_count = ((self.nodes.len() - BEFORE_NODES) / NODE_WORDS) as u32;
-        for node in list.len() as u32 + 1..=node_count {
-            self.nodes[machine::place(node, START)..=machine::place(node, MARK)]
+        let mut list: Vec<u32> = self.tables.listed().collect();
+        let profile = self.tables.profile;
+        for node in list.len() as u32 + 1..=profile.node_count(&self.tables.nodes) as u32 {
+            self.tables.nodes[profile.place(node, START)..=profile.place(node, MARK)]
                 .copy_from_slice(&[10_000, 10_005, WRITES, 0, mark]);
             list.push(node);
         }
-        self.list(&list)
-    }
-
-    /// These nodes are listed, in this order.
-    fn list(mut self, nodes: &[u32]) -> Bench {
-        let mut last_listed = 0;
-        for &node in nodes {
-            self.nodes[machine::link(last_listed)] = node;
-            last_listed = node;
-        }
-        self.nodes[machine::link(last_listed)] = 0;
+        self.tables.list(&list);
         self
     }
 
@@ -143,25 +147,26 @@ impl Bench {
 
     /// The node in the middle of the list is marked.
     fn one_marked(mut self) -> Bench {
-        let list: Vec<u32> = machine::listed(&self.nodes).collect();
-        self.nodes[machine::place(list[list.len() / 2], MARK)] = 1;
+        let list: Vec<u32> = self.tables.listed().collect();
+        self.mark(list[list.len() / 2]);
         self
     }
 
     /// The second half of the list is marked and put between the nodes of the first: behind each node that stays, a holder's
     /// or nobody's, stands one that is to be taken out.
     fn every_second_marked(mut self) -> Bench {
-        let list: Vec<u32> = machine::listed(&self.nodes).collect();
+        let list: Vec<u32> = self.tables.listed().collect();
         let (stay, go) = list.split_at(list.len() / 2);
         for &node in go {
-            self.nodes[machine::place(node, MARK)] = 1;
+            self.mark(node);
         }
         let mixed: Vec<u32> = stay.iter().zip(go).flat_map(|(&stays, &goes)| [stays, goes]).collect();
-        self.list(&mixed)
+        self.tables.list(&mixed);
+        self
     }
 
     fn call(self, call: Call) -> Case {
-        Case { nodes: self.nodes, seats: self.seats, call }
+        Case { tables: self.tables, call }
     }
 
     fn steps(self) -> Case {
@@ -192,7 +197,7 @@ fn steps(seat: u32) -> Call {
 
 /// A writer behind all readers, which has made all its steps but the one that links, and a reader over all that has linked.
 fn race(nodes: u32, seats: u32) -> Bench {
-    let bench = holders(nodes, seats, READS);
+    let bench = readers(nodes, seats);
     let (last, beside) = (bench.last, bench.beside);
     let mut bench = bench.behind(last, WRITES, beside).over(beside, READS, 1);
     bench.step(last);
@@ -201,19 +206,20 @@ fn race(nodes: u32, seats: u32) -> Bench {
 
 /// A reader over all that stands before the one writer, which holds behind all readers.
 fn reader_before_writer(nodes: u32, seats: u32) -> Bench {
-    let bench = holders(nodes, seats, READS);
+    let bench = readers(nodes, seats);
     let (last, beside) = (bench.last, bench.beside);
     let mut bench = bench.behind(beside, WRITES, 0);
     bench.step_until_held(beside);
     bench.over(last, READS, 1 + beside)
 }
 
-/// All seats have entered, every fourth reads over all the others' frames, and a thousand steps follow in no order.
-fn long_run(node_count: u32, seat_count: u32) -> Case {
-    let mut bench = idle(node_count, seat_count);
+/// All seats have entered, each shares frames with the next, where there are readers every fourth reads over all the others'
+/// frames, and a thousand steps follow in no order.
+fn long_run(profile: Profile, node_count: u32, seat_count: u32) -> Case {
+    let mut bench = idle(profile, node_count, seat_count);
     for seat in 0..seat_count {
-        let (start, end, kind) =
-            if seat % 4 == 3 { (10 * seat, 2000, READS) } else { (10 * seat, 10 * seat + 15, WRITES) };
+        let reads = profile == Ordinary && seat % 4 == 3;
+        let (start, end, kind) = if reads { (10 * seat, 2000, READS) } else { (10 * seat, 10 * seat + 15, WRITES) };
         bench.enter(seat, start, end, kind);
     }
     let mut random = Random::new(1);
@@ -221,64 +227,108 @@ fn long_run(node_count: u32, seat_count: u32) -> Case {
     bench.call(Call::Run { entries, budget: 1000 })
 }
 
-type Operation = (&'static str, fn(u32, u32) -> Case);
+type Operation = (&'static str, &'static [Profile], fn(Profile, u32, u32) -> Case);
 
+const BOTH: &[Profile] = &[Ordinary, Sheet];
+const ORDINARY: &[Profile] = &[Ordinary];
+
+/// On a sheet an insert that links holds.
 const OPERATIONS: &[Operation] = &[
-    ("clear", |nodes, seats| holders(nodes, seats, WRITES).call(Call::Clear { title: TITLE })),
-    ("reserve", |nodes, seats| holders(nodes, seats, WRITES).reserves()),
-    ("reserve, marked nodes are taken out", |nodes, seats| holders(nodes, seats, WRITES).full(1).reserves()),
-    ("reserve, every node is listed, one is marked", |nodes, seats| {
-        holders(nodes, seats, WRITES).full(0).one_marked().reserves()
+    ("clear", BOTH, |profile, nodes, seats| writers(profile, nodes, seats).call(Call::Clear { title: TITLE })),
+    ("reserve", BOTH, |profile, nodes, seats| writers(profile, nodes, seats).reserves()),
+    ("reserve, marked nodes are taken out", BOTH, |profile, nodes, seats| {
+        writers(profile, nodes, seats).full(1).reserves()
     }),
-    ("reserve, every node is listed, every second is marked", |nodes, seats| {
-        holders(nodes, seats, WRITES).full(0).every_second_marked().reserves()
+    ("reserve, every node is listed, one is marked", BOTH, |profile, nodes, seats| {
+        writers(profile, nodes, seats).full(0).one_marked().reserves()
     }),
-    ("reserve, every node is listed, all are marked", |nodes, seats| idle(nodes, seats).full(1).reserves()),
-    ("reserve, refused 8", |nodes, seats| holders(nodes, seats, WRITES).full(0).reserves()),
-    ("enter", |nodes, seats| holders(nodes, seats, WRITES).reserved(|seat| Call::Enter { seat })),
-    ("enter, refused 14", |nodes, seats| holders(nodes, seats, WRITES).call(Call::Enter { seat: 0 })),
-    ("step 1, pass", |nodes, seats| holders(nodes, seats, WRITES).behind(seats - 1, WRITES, 0).steps()),
-    ("step 1, insert", |nodes, seats| holders(nodes, seats, WRITES).before(seats - 1, WRITES, 0).steps()),
-    ("step 1, unlink", |nodes, seats| holders(nodes, seats, WRITES).release(0).before(seats - 1, WRITES, 0).steps()),
-    ("step 1, clash", |nodes, seats| holders(nodes, seats, WRITES).over(seats - 1, WRITES, 0).steps()),
-    ("step 2, waits on", |nodes, seats| holders(nodes, seats, WRITES).over(seats - 1, WRITES, 1).steps()),
-    ("step 3, reader passes", |nodes, seats| holders(nodes, seats, READS).over(seats - 1, READS, 1).steps()),
-    ("step 3, reader holds", |nodes, seats| holders(nodes, seats, READS).before(seats - 1, READS, 1).steps()),
-    ("step 3, reader meets a writer", |nodes, seats| reader_before_writer(nodes, seats).steps()),
-    ("step 3, writer passes", |nodes, seats| {
-        holders(nodes, seats, WRITES).behind(seats - 1, WRITES, seats - 1).steps()
+    ("reserve, every node is listed, every second is marked", BOTH, |profile, nodes, seats| {
+        writers(profile, nodes, seats).full(0).every_second_marked().reserves()
     }),
-    ("step 3, writer holds", |nodes, seats| holders(nodes, seats, WRITES).before(seats - 1, WRITES, 1).steps()),
-    ("step 3, writer withdraws", |nodes, seats| race(nodes, seats).steps()),
-    ("step 4, waits on", |nodes, seats| {
+    ("reserve, every node is listed, all are marked", BOTH, |profile, nodes, seats| {
+        idle(profile, nodes, seats).full(1).reserves()
+    }),
+    ("reserve, refused 8", BOTH, |profile, nodes, seats| writers(profile, nodes, seats).full(0).reserves()),
+    ("enter", BOTH, |profile, nodes, seats| writers(profile, nodes, seats).reserved(|seat| Call::Enter { seat })),
+    ("enter, refused 14", BOTH, |profile, nodes, seats| writers(profile, nodes, seats).call(Call::Enter { seat: 0 })),
+    ("step 1, pass", BOTH, |profile, nodes, seats| writers(profile, nodes, seats).behind(seats - 1, WRITES, 0).steps()),
+    ("step 1, insert", BOTH, |profile, nodes, seats| {
+        writers(profile, nodes, seats).before(seats - 1, WRITES, 0).steps()
+    }),
+    ("step 1, unlink", BOTH, |profile, nodes, seats| {
+        writers(profile, nodes, seats).release(0).before(seats - 1, WRITES, 0).steps()
+    }),
+    ("step 1, clash", BOTH, |profile, nodes, seats| writers(profile, nodes, seats).over(seats - 1, WRITES, 0).steps()),
+    ("step 2, waits on", BOTH, |profile, nodes, seats| {
+        writers(profile, nodes, seats).over(seats - 1, WRITES, 1).steps()
+    }),
+    ("step 3, reader passes", ORDINARY, |_, nodes, seats| readers(nodes, seats).over(seats - 1, READS, 1).steps()),
+    ("step 3, reader holds", ORDINARY, |_, nodes, seats| readers(nodes, seats).before(seats - 1, READS, 1).steps()),
+    ("step 3, reader meets a writer", ORDINARY, |_, nodes, seats| reader_before_writer(nodes, seats).steps()),
+    ("step 3, writer passes", ORDINARY, |profile, nodes, seats| {
+        writers(profile, nodes, seats).behind(seats - 1, WRITES, seats - 1).steps()
+    }),
+    ("step 3, writer holds", ORDINARY, |profile, nodes, seats| {
+        writers(profile, nodes, seats).before(seats - 1, WRITES, 1).steps()
+    }),
+    ("step 3, writer withdraws", ORDINARY, |_, nodes, seats| race(nodes, seats).steps()),
+    ("step 4, waits on", ORDINARY, |_, nodes, seats| {
         let mut bench = reader_before_writer(nodes, seats);
         bench.step(seats - 1);
         bench.steps()
     }),
-    ("step 5", |nodes, seats| holders(nodes, seats, WRITES).call(steps(0))),
-    ("step 6, fetch to 7", |nodes, seats| {
+    ("step 5", BOTH, |profile, nodes, seats| writers(profile, nodes, seats).call(steps(0))),
+    ("step 6, fetch to 7", ORDINARY, |_, nodes, seats| {
         let mut bench = race(nodes, seats);
         bench.step(seats - 1);
         bench.steps()
     }),
-    ("step 7, enter", |nodes, seats| holders(nodes, seats, WRITES).reserved(steps)),
-    ("release", |nodes, seats| holders(nodes, seats, WRITES).call(Call::Release { seat: 0 })),
-    ("run of 1,000 entries", long_run),
-    ("board", |nodes, seats| holders(nodes, seats, WRITES).board(seats)),
-    ("board, no row to spare", |nodes, seats| holders(nodes, seats, WRITES).board(seats - 2)),
-    ("board, first frames falling", |nodes, seats| holders_at(nodes, falling(seats - 2), WRITES).board(seats)),
-    ("board, first frames mixed", |nodes, seats| holders_at(nodes, mixed(seats - 2), WRITES).board(seats)),
-    ("board, first frames from both ends inward", |nodes, seats| {
-        holders_at(nodes, inward(seats - 2), WRITES).board(seats)
+    ("step 7, enter", BOTH, |profile, nodes, seats| writers(profile, nodes, seats).reserved(steps)),
+    ("release", BOTH, |profile, nodes, seats| writers(profile, nodes, seats).call(Call::Release { seat: 0 })),
+    ("run of 1,000 entries", BOTH, long_run),
+    ("board", BOTH, |profile, nodes, seats| writers(profile, nodes, seats).board(seats)),
+    ("board, no row to spare", BOTH, |profile, nodes, seats| writers(profile, nodes, seats).board(seats - 2)),
+    ("board, first frames falling", ORDINARY, |profile, nodes, seats| {
+        holders_at(profile, nodes, falling(seats - 2), WRITES).board(seats)
     }),
-    ("board, first frames from the middle outward", |nodes, seats| {
-        holders_at(nodes, outward(seats - 2), WRITES).board(seats)
+    ("board, first frames mixed", ORDINARY, |profile, nodes, seats| {
+        holders_at(profile, nodes, mixed(seats - 2), WRITES).board(seats)
     }),
-    ("board, readers of the same frames", |nodes, seats| {
-        holders_at(nodes, vec![0; seats as usize - 2], READS).board(seats)
+    ("board, first frames from both ends inward", ORDINARY, |profile, nodes, seats| {
+        holders_at(profile, nodes, inward(seats - 2), WRITES).board(seats)
     }),
-    ("free count", |nodes, seats| holders(nodes, seats, WRITES).call(Call::FreeCount)),
+    ("board, first frames from the middle outward", ORDINARY, |profile, nodes, seats| {
+        holders_at(profile, nodes, outward(seats - 2), WRITES).board(seats)
+    }),
+    ("board, readers of the same frames", ORDINARY, |profile, nodes, seats| {
+        holders_at(profile, nodes, vec![0; seats as usize - 2], READS).board(seats)
+    }),
+    ("free count", BOTH, |profile, nodes, seats| writers(profile, nodes, seats).call(Call::FreeCount)),
 ];
+
+/// What stands before the name of an operation where it is one on a sheet.
+fn prefix(profile: Profile) -> &'static str {
+    match profile {
+        Ordinary => "",
+        Sheet => "sheet: ",
+    }
+}
+
+/// The names of the operations on tables, the ordinary ones first.
+fn operations() -> impl Iterator<Item = String> {
+    let of = |profile: Profile| OPERATIONS.iter().filter(move |(_, profiles, _)| profiles.contains(&profile));
+    BOTH.iter().flat_map(move |&profile| of(profile).map(move |(name, ..)| format!("{}{name}", prefix(profile))))
+}
+
+/// The tables and the call of an operation by its name, if there is one of that name.
+fn prepared(operation: &str, nodes: u32, seats: u32) -> Option<Case> {
+    let (profile, name) = match operation.strip_prefix(prefix(Sheet)) {
+        Some(name) => (Sheet, name),
+        None => (Ordinary, operation),
+    };
+    let (_, _, prepare) = OPERATIONS.iter().find(|(of, profiles, _)| *of == name && profiles.contains(&profile))?;
+    Some(prepare(profile, nodes, seats))
+}
 
 // Lists of so many records
 
@@ -377,7 +427,7 @@ fn main() {
         if arguments == ["lists"] {
             LIST_OPERATIONS.iter().for_each(|(name, _)| println!("{name}"));
         } else {
-            OPERATIONS.iter().for_each(|(name, _)| println!("{name}"));
+            operations().for_each(|name| println!("{name}"));
         }
         exit(if arguments.is_empty() || arguments == ["lists"] { 0 } else { 2 });
     }
@@ -385,23 +435,25 @@ fn main() {
     if let [_, operation, records, count] = arguments.as_slice() {
         return move_lists(&library, operation, number(records) as usize, number(count));
     }
-    let operation = OPERATIONS.iter().find(|(name, _)| *name == arguments[1]);
-    let prepare = operation.map_or(OPERATIONS[0].1, |(_, prepare)| *prepare);
-    let case = prepare(number(&arguments[2]), number(&arguments[3]));
+    let (node_count, seat_count) = (number(&arguments[2]), number(&arguments[3]));
+    let operation = prepared(&arguments[1], node_count, seat_count);
+    let calls_it = operation.is_some();
+    let case = operation.unwrap_or_else(|| OPERATIONS[0].2(Ordinary, node_count, seat_count));
     if arguments[4] == "stores" {
-        assert!(operation.is_some(), "the name of an operation");
+        assert!(calls_it, "the name of an operation");
         return count_stores(&library, &case);
     }
-    let (mut nodes, mut seats) = (case.nodes.clone(), case.seats.clone());
+    let Tables { profile, mut nodes, mut seats } = case.tables.clone();
+    let calls = library.calls(profile);
     let mut rows = if let Call::Board { rows } = &case.call { rows.clone() } else { vec![] };
     let mut answer = 0;
     let mut covered = 0;
     let mut shared = [0; 2];
     for _ in 0..number(&arguments[4]) {
-        nodes.copy_from_slice(&case.nodes);
-        seats.copy_from_slice(&case.seats);
-        if operation.is_some() {
-            answer = make(&library, &case.call, &mut nodes, &mut seats, &mut rows, &mut covered, &mut shared);
+        nodes.copy_from_slice(&case.tables.nodes);
+        seats.copy_from_slice(&case.tables.seats);
+        if calls_it {
+            answer = make(calls, &case.call, &mut nodes, &mut seats, &mut rows, &mut covered, &mut shared);
         }
     }
     let (kind, number) = (answer >> 32, answer as u32);

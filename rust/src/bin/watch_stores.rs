@@ -1,18 +1,21 @@
-//! watch_stores SEED ROUNDS: makes calls on tables and lists by seed, watches each store that they make to these, and holds it
-//! to what the call may store: nothing if it is refused, and of the links only those that differ, once each. The machines are
-//! the second one and, with the feature `proved`, the proved library; with the feature `other`, another crate of this shape.
-//! Of a machine's wrong calls it prints the one on the smallest tables found, and the one on the shortest lists. Each kind of call is one that passed if it was
-//! met and never wrong. The last line is 'N passed, M failed'.
+//! watch_stores SEED ROUNDS: makes calls on tables of both profiles and on lists by seed, watches each store that they make
+//! to these, and holds it to what the call may store: nothing if it is refused, and of the links only those that differ,
+//! once each. The machines are the second one and, with the feature `proved`, the proved library; with the feature `other`,
+//! another crate of this shape. Of a machine's wrong calls it prints the one on the smallest tables found of each profile,
+//! and the one on the shortest lists. Each kind of call is one that passed if it was met and never wrong. The last line is
+//! 'N passed, M failed'.
 
-use second::driver::{every_call, some_history, Call, Case, Library};
+use second::damages::{damaged, damages};
+use second::driver::{every_call, some_history, Call, Case, Family, Library};
 use second::lists::{some_export, some_import, Lists};
-use second::machine::{IDLE, PHASE, RESERVED, SEAT_WORDS, TITLE, WITHDRAWN};
+use second::machine::Profile::{self, Ordinary};
+use second::machine::{IDLE, PROFILES, RESERVED, TITLE, WALKING, WITHDRAWN};
 use second::random::Random;
 use second::shrink::{case_text, shrink, shrink_lists};
 use second::stores::{Watcher, NOT_HERE};
-use second::storing::{judge, watched, KINDS, TAKEN_OUT_OF_REACHED};
+use second::storing::{judge, kinds, watched, TAKEN_OUT_OF_REACHED};
 use second::storing_lists::{can_be_watched, judge_lists, watched_lists, LIST_KINDS};
-use second::tables::{any_words, damaged, full_lists, many_holders, many_reserved, sound_words, Tables, DAMAGES};
+use second::tables::{any_words, full_lists, many_holders, many_reserved, many_walkers, sound_words, Tables};
 use std::cell::RefCell;
 use std::collections::BTreeMap;
 use std::process::exit;
@@ -30,10 +33,11 @@ struct Count {
     wrong: u64,
 }
 
-/// What was seen of a machine.
+/// What was seen of a machine's calls of one profile, and of those on lists beside the ordinary ones.
 struct Watch {
     watcher: RefCell<Watcher>,
     library: Library,
+    profile: Profile,
     kinds: BTreeMap<&'static str, Count>,
     all: Count,
     refused: u64,
@@ -47,10 +51,11 @@ struct Watch {
 }
 
 impl Watch {
-    fn new(watcher: Watcher, library: Library) -> Watch {
+    fn new(watcher: Watcher, library: Library, profile: Profile) -> Watch {
         Watch {
             watcher: RefCell::new(watcher),
             library,
+            profile,
             kinds: BTreeMap::new(),
             all: Count::default(),
             refused: 0,
@@ -113,42 +118,58 @@ impl Watch {
     }
 
     fn history(&mut self, random: &mut Random) {
-        let ((mut nodes, mut seats), calls) = some_history(random);
-        for call in calls {
-            (nodes, seats) = self.call(Case { nodes, seats, call }, true);
+        let (mut tables, calls) = some_history(random, &[self.profile]);
+        for (_, call) in calls {
+            tables = self.call(Case { tables, call }, true);
         }
     }
 
-    fn each(&mut self, (nodes, seats): &Tables, calls: impl IntoIterator<Item = Call>) {
+    fn each(&mut self, tables: &Tables, calls: impl IntoIterator<Item = Call>) {
         for call in calls {
-            self.call(Case { nodes: nodes.clone(), seats: seats.clone(), call }, false);
+            self.call(Case { tables: tables.clone(), call }, false);
         }
     }
 
     /// Each call once; but clear on long tables, which are cleared byte by byte, only now and then.
-    fn every_call(&mut self, random: &mut Random, make: impl Fn(&mut Random) -> Tables) {
-        let tables = make(random);
-        let clears = tables.0.len() < 100 || random.percent(5);
+    fn every_call(&mut self, random: &mut Random, tables: Tables) {
+        let clears = tables.nodes.len() < 100 || random.percent(5);
         let calls = every_call(random, &tables);
         self.each(&tables, calls.into_iter().filter(|call| clears || !matches!(call, Call::Clear { .. })));
     }
 
+    fn family(&mut self, random: &mut Random, family: Family) {
+        let tables = family(random, self.profile);
+        self.every_call(random, tables);
+    }
+
     fn fetches(&mut self, random: &mut Random) {
-        let tables = full_lists(random);
+        let tables = full_lists(random, self.profile);
         let calls = some_fetches(random, &tables);
         self.each(&tables, calls);
     }
 
     fn entries(&mut self, random: &mut Random) {
-        let tables = many_reserved(random);
-        let calls = some_entries(&tables);
-        self.each(&tables, calls);
+        let tables = many_reserved(random, self.profile);
+        let enters = tables.seats_in(RESERVED).take(2).map(|(seat, _)| Call::Enter { seat });
+        self.each(&tables, enters.chain(some_steps(&tables, RESERVED)));
+    }
+
+    fn walks(&mut self, random: &mut Random) {
+        let tables = many_walkers(random, self.profile);
+        self.each(&tables, some_steps(&tables, WALKING));
     }
 
     fn damages(&mut self, random: &mut Random) {
-        for damage in DAMAGES {
-            self.every_call(random, |random| damaged(random, damage));
+        for damage in damages(self.profile) {
+            let tables = damaged(random, self.profile, damage);
+            self.every_call(random, tables);
         }
+    }
+
+    /// Each must be met.
+    fn kinds(&self) -> impl Iterator<Item = &'static str> {
+        let of_lists = if self.profile == Ordinary { &LIST_KINDS[..] } else { &[] };
+        kinds(self.profile).chain(of_lists.iter().copied())
     }
 
     fn text(&self, name: &str) -> String {
@@ -157,7 +178,7 @@ impl Watch {
             "{name}: {met} calls watched, {} refused, {} took marked nodes out; {} stores, {} links due; {wrong} calls wrong\n",
             self.refused, self.took_out, self.stores, self.links
         );
-        for kind in kinds() {
+        for kind in self.kinds() {
             let Count { met, wrong } = self.count(kind);
             let verdict = match (met, wrong) {
                 (0, _) => ": NEVER MET".to_string(),
@@ -174,12 +195,12 @@ impl Watch {
     }
 
     fn passed(&self) -> usize {
-        kinds().map(|kind| self.count(kind)).filter(|count| count.met > 0 && count.wrong == 0).count()
+        self.kinds().map(|kind| self.count(kind)).filter(|count| count.met > 0 && count.wrong == 0).count()
     }
 
     /// The kinds that did not pass; if a call was wrong and is of no kind, at least one.
     fn failed(&self) -> usize {
-        (kinds().count() - self.passed()).max(usize::from(self.all.wrong > 0))
+        (self.kinds().count() - self.passed()).max(usize::from(self.all.wrong > 0))
     }
 
     /// The smallest tables found on which a call is wrong, from some on which one is.
@@ -206,54 +227,39 @@ impl Watch {
     }
 }
 
-/// Each must be met.
-fn kinds() -> impl Iterator<Item = &'static str> {
-    KINDS.into_iter().chain(LIST_KINDS)
+fn size(case: &Case) -> usize {
+    case.tables.nodes.len() + case.tables.seats.len()
 }
 
-fn size(case: &Case) -> usize {
-    case.nodes.len() + case.seats.len()
+/// Steps and runs of two seats in a phase.
+fn some_steps(tables: &Tables, phase: u32) -> Vec<Call> {
+    let steps = |seat| [Call::Step { seat, shared: [0; 2] }, Call::Run { entries: vec![seat], budget: 1 }];
+    tables.seats_in(phase).take(2).flat_map(|(seat, _)| steps(seat)).collect()
 }
 
 /// Calls by which seats fetch: claims that fit, of seats that are idle, and steps and runs of withdrawn ones.
-fn some_fetches(random: &mut Random, (nodes, seats): &Tables) -> Vec<Call> {
-    let in_phase = |phase| (0..).zip(seats.chunks_exact(SEAT_WORDS)).filter(move |(_, seat)| seat[PHASE] == phase);
-    let mut calls = vec![];
-    for (seat, _) in in_phase(IDLE).take(2) {
-        let start = random.below(nodes[TITLE]);
-        calls.push(Call::Reserve {
-            seat,
-            start,
-            end: random.between(start + 1, nodes[TITLE]),
-            kind: random.between(1, 2),
-        });
-    }
-    for (seat, _) in in_phase(WITHDRAWN).take(2) {
-        calls.extend([Call::Step { seat, shared: [0; 2] }, Call::Run { entries: vec![seat], budget: 1 }]);
-    }
-    calls
+fn some_fetches(random: &mut Random, tables: &Tables) -> Vec<Call> {
+    let title = tables.nodes[TITLE];
+    let reserves = tables.seats_in(IDLE).take(2).map(|(seat, _)| {
+        let start = random.below(title);
+        let end = random.between(start + 1, title);
+        Call::Reserve { seat, start, end, kind: random.pick(second::tables::kinds(tables.profile)) }
+    });
+    reserves.chain(some_steps(tables, WITHDRAWN)).collect()
 }
 
-/// Calls by which reserved seats enter: enter itself, and steps and runs.
-fn some_entries((_, seats): &Tables) -> Vec<Call> {
-    let reserved = (0..).zip(seats.chunks_exact(SEAT_WORDS)).filter(|(_, seat)| seat[PHASE] == RESERVED);
-    let entries = |seat| {
-        [Call::Enter { seat }, Call::Step { seat, shared: [0; 2] }, Call::Run { entries: vec![seat], budget: 1 }]
-    };
-    reserved.take(2).flat_map(|(seat, _)| entries(seat)).collect()
-}
-
-type Family = (u32, fn(&mut Watch, &mut Random));
+type Part = (u32, fn(&mut Watch, &mut Random));
 
 /// What one round watches, and how often.
-const FAMILIES: [Family; 8] = [
+const FAMILIES: [Part; 9] = [
     (2, Watch::history),
     (60, Watch::fetches),
-    (10, |watch, random| watch.every_call(random, any_words)),
-    (10, |watch, random| watch.every_call(random, sound_words)),
-    (10, |watch, random| watch.every_call(random, many_holders)),
-    (10, |watch, random| watch.every_call(random, many_reserved)),
+    (10, |watch, random| watch.family(random, any_words)),
+    (10, |watch, random| watch.family(random, sound_words)),
+    (10, |watch, random| watch.family(random, many_holders)),
+    (10, |watch, random| watch.family(random, many_reserved)),
     (10, Watch::entries),
+    (10, Watch::walks),
     (1, Watch::damages),
 ];
 
@@ -264,32 +270,42 @@ fn number(argument: Option<String>) -> u64 {
     argument.and_then(|digits| digits.parse().ok()).expect("watch_stores SEED ROUNDS")
 }
 
+/// What the rounds of a seed show of a machine's calls of one profile.
+fn watch(name: &str, library: Library, profile: Profile, seed: u64, rounds: u64) -> Watch {
+    let watcher = Watcher::new().unwrap_or_else(|| {
+        println!("not run: {NOT_HERE}\n0 passed, 0 failed");
+        exit(0);
+    });
+    let mut watch = Watch::new(watcher, library, profile);
+    let (mut random, mut of_lists) = (Random::new(seed), Random::new(!seed));
+    for _ in 0..rounds {
+        for (times, watch_some) in FAMILIES {
+            (0..times).for_each(|_| watch_some(&mut watch, &mut random));
+        }
+        if profile == Ordinary {
+            (0..LISTS).for_each(|_| watch.lists(&mut of_lists));
+        }
+    }
+    print!("{}", watch.text(&format!("{name}, {profile:?}")));
+    if let Some(case) = watch.smallest_wrong.take() {
+        print!("{}", watch.wrong_text(case));
+    }
+    if let Some(lists) = watch.wrong_lists.take() {
+        print!("{}", watch.wrong_lists_text(lists));
+    }
+    watch
+}
+
 fn main() {
     let mut arguments = std::env::args().skip(1);
     let (seed, rounds) = (number(arguments.next()), number(arguments.next()));
     let (mut passed, mut failed) = (0, 0);
     for (name, library) in MACHINES {
-        let watcher = Watcher::new().unwrap_or_else(|| {
-            println!("not run: {NOT_HERE}\n0 passed, 0 failed");
-            exit(0);
-        });
-        let mut watch = Watch::new(watcher, *library);
-        let (mut random, mut of_lists) = (Random::new(seed), Random::new(!seed));
-        for _ in 0..rounds {
-            for (times, watch_some) in FAMILIES {
-                (0..times).for_each(|_| watch_some(&mut watch, &mut random));
-            }
-            (0..LISTS).for_each(|_| watch.lists(&mut of_lists));
+        for profile in PROFILES {
+            let watch = watch(name, *library, profile, seed, rounds);
+            passed += watch.passed();
+            failed += watch.failed();
         }
-        print!("{}", watch.text(name));
-        if let Some(case) = watch.smallest_wrong.take() {
-            print!("{}", watch.wrong_text(case));
-        }
-        if let Some(lists) = watch.wrong_lists.take() {
-            print!("{}", watch.wrong_lists_text(lists));
-        }
-        passed += watch.passed();
-        failed += watch.failed();
     }
     println!("{passed} passed, {failed} failed");
     exit(i32::from(failed > 0));

@@ -1,11 +1,11 @@
 //! How many hold, known at once: the two counts of 02 along the histories, after any call on any sound tables, and wrong.
 
+use crate::driver::Family;
 use crate::generate::good;
-use crate::machine::{
-    board, clear, enter, free_count, fresh, release, reserve, run, step, Answer, MOST_SEATS, ROW_WORDS,
-};
+use crate::machine::Profile::Ordinary;
+use crate::machine::{Answer, MOST_SEATS, ROW_WORDS};
 use crate::random::Random;
-use crate::script::{call, read_script};
+use crate::script::read_script;
 use crate::tables::{many_holders, many_reserved, sound_words, Tables};
 use crate::tests::histories::{History, H1, H11, H2, H3, H4, H5, H6, H7, H8, H9, THEN_H10};
 use crate::tests::layout::{counts_kept, counts_over_seats, place, word, KIND, MARK, OWN, PHASE, READERS};
@@ -13,20 +13,20 @@ use crate::tests::layout::{SEAT_WORDS, WRITERS};
 use crate::tests::{refused_by_every_call, script_of};
 use std::collections::BTreeMap;
 
-fn assert_counted(nodes: &[u32], seats: &[u32], what: &str) {
+fn assert_counted(Tables { nodes, seats, .. }: &Tables, what: &str) {
     assert_eq!(counts_kept(nodes), counts_over_seats(nodes, seats), "{what}: {nodes:?} {seats:?}");
 }
 
 /// The two counts after each call of a script, which are those over the seats.
 pub fn counts_after_each_call(script: &[u8]) -> Vec<[u32; 2]> {
     let script = read_script(script).expect("a good script");
-    let (mut nodes, mut seats) = fresh(script.nodes, script.seats, script.title);
+    let mut tables = Tables::fresh(Ordinary, script.nodes, script.seats, script.title);
     let rows = script.rows.into_iter().take(script.count as usize);
     rows.map(|row| {
         // refused or not
-        let _ = call(&mut nodes, &mut seats, row);
-        assert_counted(&nodes, &seats, &format!("{row:?}"));
-        counts_kept(&nodes)
+        let _ = tables.call(row);
+        assert_counted(&tables, &format!("{row:?}"));
+        counts_kept(&tables.nodes)
     })
     .collect()
 }
@@ -98,26 +98,26 @@ fn the_counts_are_those_over_the_seats_after_every_call_of_generated_scripts() {
 
 /// Sound tables that nobody need have reached, own nodes shared, marked or off the list among them, and one of their seats.
 fn some_tables(random: &mut Random) -> (Tables, u32) {
-    let families: [fn(&mut Random) -> Tables; 3] = [sound_words, many_holders, many_reserved];
-    let tables = random.pick(&families)(random);
-    let seat_count = (tables.1.len() / SEAT_WORDS) as u32;
-    (tables, random.below(seat_count))
+    let families: [Family; 3] = [sound_words, many_holders, many_reserved];
+    let tables = random.pick(&families)(random, Ordinary);
+    let seat = random.below(tables.seat_count());
+    (tables, seat)
 }
 
-fn phase((_, seats): &Tables, seat: u32) -> u32 {
-    seats[SEAT_WORDS * seat as usize + PHASE]
+fn phase(tables: &Tables, seat: u32) -> u32 {
+    tables.seats[SEAT_WORDS * seat as usize + PHASE]
 }
 
 /// A one at the count of the kind of a seat's own node, a zero at the other.
-fn one_of_own_kind((nodes, seats): &Tables, seat: u32) -> [i64; 2] {
+fn one_of_own_kind(Tables { nodes, seats, .. }: &Tables, seat: u32) -> [i64; 2] {
     let own = seats[SEAT_WORDS * seat as usize + OWN];
     [1, 2].map(|kind| i64::from(word(nodes, own, KIND) == kind))
 }
 
 /// How far a call raised the two counts, which are right after it.
 fn rise(before: &Tables, after: &Tables) -> [i64; 2] {
-    assert_counted(&after.0, &after.1, &format!("after a call on {before:?}"));
-    [READERS, WRITERS].map(|at| i64::from(after.0[at]) - i64::from(before.0[at]))
+    assert_counted(after, &format!("after a call on {before:?}"));
+    [READERS, WRITERS].map(|at| i64::from(after.nodes[at]) - i64::from(before.nodes[at]))
 }
 
 #[test]
@@ -128,7 +128,7 @@ fn of_all_steps_only_those_that_come_to_hold_count() {
     for _ in 0..20_000 {
         let (tables, seat) = some_tables(&mut random);
         let mut after = tables.clone();
-        let answer = step(&mut after.0, &mut after.1, seat);
+        let answer = after.step(seat);
         if phase(&tables, seat) != 5 && answer == Ok(Answer::Held) {
             let [reader, writer] = one_of_own_kind(&tables, seat);
             assert_eq!(rise(&tables, &after), [reader, writer], "{tables:?} {seat}");
@@ -149,7 +149,7 @@ fn a_release_takes_one_off_the_count_of_its_kind() {
     for _ in 0..10_000 {
         let (tables, seat) = some_tables(&mut random);
         let mut after = tables.clone();
-        let answer = release(&mut after.0, &mut after.1, seat);
+        let answer = after.release(seat);
         if phase(&tables, seat) == 5 {
             let [reader, writer] = one_of_own_kind(&tables, seat);
             assert_eq!((answer, rise(&tables, &after)), (Ok(Answer::Out), [-reader, -writer]), "{tables:?} {seat}");
@@ -168,10 +168,10 @@ fn reserve_and_enter_count_nothing() {
     for _ in 0..10_000 {
         let (tables, seat) = some_tables(&mut random);
         let mut after = tables.clone();
-        accepted[0] += u32::from(reserve(&mut after.0, &mut after.1, seat, 3, 5, random.between(1, 2)).is_ok());
+        accepted[0] += u32::from(after.reserve(seat, 3, 5, random.between(1, 2)).is_ok());
         assert_eq!(rise(&tables, &after), [0, 0], "{tables:?} {seat}");
         let mut after = tables.clone();
-        accepted[1] += u32::from(enter(&after.0, &mut after.1, seat).is_ok());
+        accepted[1] += u32::from(after.enter(seat).is_ok());
         assert_eq!(rise(&tables, &after), [0, 0], "{tables:?} {seat}");
     }
     assert!(accepted.iter().all(|&times| times >= 500), "{accepted:?}");
@@ -184,9 +184,8 @@ fn run_leaves_the_counts_right() {
     for _ in 0..5_000 {
         let (tables, _) = some_tables(&mut random);
         let mut after = tables.clone();
-        let seat_count = (tables.1.len() / SEAT_WORDS) as u32;
-        let entries: Vec<u32> = (0..20).map(|_| random.below(seat_count)).collect();
-        run(&mut after.0, &mut after.1, &entries, u32::MAX);
+        let entries: Vec<u32> = (0..20).map(|_| random.below(tables.seat_count())).collect();
+        after.run(&entries, u32::MAX);
         let [readers, writers] = rise(&tables, &after);
         rose = [rose[0] + readers, rose[1] + writers];
     }
@@ -197,33 +196,33 @@ fn run_leaves_the_counts_right() {
 fn the_board_has_as_many_rows_as_are_counted() {
     let mut random = Random::new(14);
     for _ in 0..2_000 {
-        let (nodes, seats) = many_holders(&mut random);
-        let (rows, _) = board(&nodes, &seats, &mut [0; ROW_WORDS * MOST_SEATS]).expect("sound tables, and rows enough");
-        assert_eq!(rows, nodes[READERS] + nodes[WRITERS], "{nodes:?} {seats:?}");
+        let tables = many_holders(&mut random, Ordinary);
+        let (rows, _) = tables.board(&mut [0; ROW_WORDS * MOST_SEATS]).expect("sound tables, and rows enough");
+        assert_eq!(rows, tables.nodes[READERS] + tables.nodes[WRITERS], "{tables:?}");
     }
 }
 
 /// Seats 0 and 1 read the same frames and seat 2 writes others, each on a node of its own; seat 3 is idle.
 fn two_readers_and_a_writer() -> Tables {
-    let (mut nodes, mut seats) = fresh(4, 4, 30);
+    let mut tables = Tables::fresh(Ordinary, 4, 4, 30);
     for (seat, start, kind) in [(0, 0, 1), (1, 0, 1), (2, 20, 2)] {
-        reserve(&mut nodes, &mut seats, seat, start, start + 10, kind).expect("a node is free");
-        enter(&nodes, &mut seats, seat).expect("it has reserved");
-        while step(&mut nodes, &mut seats, seat).expect("the seat is under way") != Answer::Held {}
+        tables.reserve(seat, start, start + 10, kind).expect("a node is free");
+        tables.enter(seat).expect("it has reserved");
+        while tables.step(seat).expect("the seat is under way") != Answer::Held {}
     }
-    (nodes, seats)
+    tables
 }
 
 /// These counts are right in the tables, and those are damage: to every call but clear, which writes 0.
 fn assert_counts(tables: &Tables, right: [u32; 2], wrong: &[[u32; 2]]) {
-    let (mut nodes, mut seats) = tables.clone();
-    assert_eq!((counts_kept(&nodes), free_count(&nodes, &seats).is_ok()), (right, true));
+    let mut tables = tables.clone();
+    assert_eq!((counts_kept(&tables.nodes), tables.are_sound()), (right, true));
     for counts in wrong {
-        [nodes[READERS], nodes[WRITERS]] = *counts;
-        refused_by_every_call(&format!("{counts:?} for {right:?}"), &nodes, &seats);
+        [tables.nodes[READERS], tables.nodes[WRITERS]] = *counts;
+        refused_by_every_call(&format!("{counts:?} for {right:?}"), &tables);
     }
-    assert_eq!(clear(&mut nodes, &mut seats, 30), Ok(()));
-    assert_eq!((nodes, seats), fresh(4, 4, 30));
+    assert_eq!(tables.clear(30), Ok(()));
+    assert_eq!(tables, Tables::fresh(Ordinary, 4, 4, 30));
 }
 
 #[test]
@@ -232,23 +231,24 @@ fn a_wrong_count_is_damage() {
     let too_few = [[1, 1], [2, 0], [0, 1], [0, 0]];
     let right_sum = [[1, 2], [3, 0], [0, 3]];
     assert_counts(&two_readers_and_a_writer(), [2, 1], &[&too_many[..], &too_few, &right_sum].concat());
-    assert_counts(&fresh(4, 4, 30), [0, 0], &[[1, 0], [0, 1], [1, 1], [u32::MAX, 0], [0, u32::MAX], [u32::MAX, 1]]);
+    let fresh = Tables::fresh(Ordinary, 4, 4, 30);
+    assert_counts(&fresh, [0, 0], &[[1, 0], [0, 1], [1, 1], [u32::MAX, 0], [0, u32::MAX], [u32::MAX, 1]]);
 }
 
 #[test]
 fn a_holder_of_a_marked_node_counts() {
-    let (mut nodes, seats) = two_readers_and_a_writer();
-    nodes[place(seats[SEAT_WORDS * 2 + OWN], MARK)] = 1;
-    assert_counts(&(nodes, seats), [2, 1], &[[2, 0]]);
+    let mut tables = two_readers_and_a_writer();
+    tables.nodes[place(tables.seats[SEAT_WORDS * 2 + OWN], MARK)] = 1;
+    assert_counts(&tables, [2, 1], &[[2, 0]]);
 }
 
 #[test]
 fn two_holders_of_one_node_both_count() {
-    let (mut nodes, mut seats) = two_readers_and_a_writer();
-    seats[SEAT_WORDS + OWN] = seats[OWN];
-    assert_counts(&(nodes.clone(), seats.clone()), [2, 1], &[[1, 1]]);
+    let mut tables = two_readers_and_a_writer();
+    tables.seats[SEAT_WORDS + OWN] = tables.seats[OWN];
+    assert_counts(&tables, [2, 1], &[[1, 1]]);
     for (seat, left) in [(0, [1, 1]), (1, [0, 1])] {
-        assert_eq!(release(&mut nodes, &mut seats, seat), Ok(Answer::Out));
-        assert_counts(&(nodes.clone(), seats.clone()), left, &[[2, 1]]);
+        assert_eq!(tables.release(seat), Ok(Answer::Out));
+        assert_counts(&tables, left, &[[2, 1]]);
     }
 }

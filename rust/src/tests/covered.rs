@@ -1,27 +1,28 @@
 //! Covered frames as 02 has them, "the number of frames that at least one holder covers": small boards, and counts frame by
 //! frame.
 
-use crate::machine::{board, enter, fresh, link, place, reserve, step, Answer};
-use crate::machine::{END, HOLDING, KIND, MARK, MOST_SEATS, OWN, PHASE, ROW_WORDS, SEAT_WORDS, START};
+use crate::machine::Profile::Ordinary;
+use crate::machine::{Answer, END, HOLDING, KIND, MARK, MOST_SEATS, OWN, PHASE, ROW_WORDS, START};
 use crate::random::Random;
-use crate::tables::{many_holders, put_counts};
+use crate::tables::{many_holders, Tables};
+use crate::tests::layout::{word, SEAT_WORDS};
 use crate::tests::LONGEST_TITLE;
 use std::ops::Range;
 
 /// The covered frames of any sound tables.
-fn covered(nodes: &[u32], seats: &[u32]) -> u64 {
-    board(nodes, seats, &mut [0; ROW_WORDS * MOST_SEATS]).expect("sound tables, and rows enough").1
+fn covered(tables: &Tables) -> u64 {
+    tables.board(&mut [0; ROW_WORDS * MOST_SEATS]).expect("sound tables, and rows enough").1
 }
 
 /// The frames covered once each seat in turn has claimed its run for reading and holds it: readers keep nobody out.
 fn covered_by_readers(runs: &[Range<u32>]) -> u64 {
-    let (mut nodes, mut seats) = fresh(runs.len() as u32, runs.len() as u32, LONGEST_TITLE);
+    let mut tables = Tables::fresh(Ordinary, runs.len() as u32, runs.len() as u32, LONGEST_TITLE);
     for (seat, run) in (0..).zip(runs) {
-        reserve(&mut nodes, &mut seats, seat, run.start, run.end, 1).expect("a node is free");
-        enter(&nodes, &mut seats, seat).expect("it has reserved");
-        while step(&mut nodes, &mut seats, seat).expect("the seat is under way") != Answer::Held {}
+        tables.reserve(seat, run.start, run.end, 1).expect("a node is free");
+        tables.enter(seat).expect("it has reserved");
+        while tables.step(seat).expect("the seat is under way") != Answer::Held {}
     }
-    covered(&nodes, &seats)
+    covered(&tables)
 }
 
 #[test]
@@ -87,50 +88,50 @@ fn the_order_by_seat_does_not_matter() {
 
 #[test]
 fn no_holder_covers_nothing() {
-    let (nodes, seats) = fresh(1, 1, LONGEST_TITLE);
-    assert_eq!(covered(&nodes, &seats), 0);
+    let tables = Tables::fresh(Ordinary, 1, 1, LONGEST_TITLE);
+    assert_eq!(covered(&tables), 0);
 }
 
 /// The runs of the seats that hold, in sound tables.
-fn held(nodes: &[u32], seats: &[u32]) -> Vec<Range<u32>> {
-    let own_run = |seat: &[u32]| nodes[place(seat[OWN], START)]..nodes[place(seat[OWN], END)];
-    seats.chunks(SEAT_WORDS).filter(|seat| seat[PHASE] == HOLDING).map(own_run).collect()
+fn held(tables: &Tables) -> Vec<Range<u32>> {
+    let own_run = |seat: &[u32]| word(&tables.nodes, seat[OWN], START)..word(&tables.nodes, seat[OWN], END);
+    tables.seats.chunks(SEAT_WORDS).filter(|seat| seat[PHASE] == HOLDING).map(own_run).collect()
 }
 
 /// Sound tables within thirty frames that nobody need have reached: nodes on the list and off it, in no order of their first
 /// frames, some marked; of the seats most hold, some of them the same node.
-fn small_tables(random: &mut Random) -> (Vec<u32>, Vec<u32>) {
+fn small_tables(random: &mut Random) -> Tables {
     let node_count = random.between(1, 9);
-    let (mut nodes, mut seats) = fresh(node_count, random.between(1, 9), 30);
+    let mut tables = Tables::fresh(Ordinary, node_count, random.between(1, 9), 30);
     for node in 1..=node_count {
         let length = random.pick(&[1, 2, 3, 8, 15]);
         let start = random.between(0, 30 - length);
-        nodes[place(node, START)] = start;
-        nodes[place(node, END)] = start + length;
-        nodes[place(node, KIND)] = random.between(1, 2);
-        nodes[place(node, MARK)] = random.below(2);
+        tables.nodes[Ordinary.place(node, START)] = start;
+        tables.nodes[Ordinary.place(node, END)] = start + length;
+        tables.nodes[Ordinary.place(node, KIND)] = random.between(1, 2);
+        tables.nodes[Ordinary.place(node, MARK)] = random.below(2);
     }
     for node in 1..=random.between(0, node_count) {
-        nodes[link(node - 1)] = node;
+        tables.nodes[Ordinary.link(node - 1)] = node;
     }
-    for seat in seats.chunks_mut(SEAT_WORDS) {
+    for seat in tables.seats.chunks_mut(SEAT_WORDS) {
         if random.percent(80) {
             seat[PHASE] = HOLDING;
             seat[OWN] = random.between(1, node_count);
         }
     }
-    put_counts(&mut nodes, &seats);
-    (nodes, seats)
+    tables.put_counts();
+    tables
 }
 
 #[test]
 fn covered_is_what_counting_frame_by_frame_gives() {
     let mut random = Random::new(6);
     for _ in 0..20_000 {
-        let (nodes, seats) = small_tables(&mut random);
-        let runs = held(&nodes, &seats);
+        let tables = small_tables(&mut random);
+        let runs = held(&tables);
         let frames = (0..30).filter(|frame| runs.iter().any(|run| run.contains(frame))).count();
-        assert_eq!(covered(&nodes, &seats), frames as u64, "{runs:?}");
+        assert_eq!(covered(&tables), frames as u64, "{runs:?}");
     }
 }
 
@@ -139,12 +140,12 @@ fn covered_is_what_counting_frame_by_frame_gives() {
 fn covered_is_what_counting_from_bound_to_bound_gives() {
     let mut random = Random::new(7);
     for _ in 0..4_000 {
-        let (nodes, seats) = many_holders(&mut random);
-        let runs = held(&nodes, &seats);
+        let tables = many_holders(&mut random, Ordinary);
+        let runs = held(&tables);
         let mut bounds: Vec<u32> = runs.iter().flat_map(|run| [run.start, run.end]).collect();
         bounds.sort_unstable();
         let pieces = bounds.windows(2).filter(|piece| runs.iter().any(|run| run.contains(&piece[0])));
         let frames: u64 = pieces.map(|piece| u64::from(piece[1] - piece[0])).sum();
-        assert_eq!(covered(&nodes, &seats), frames, "{runs:?}");
+        assert_eq!(covered(&tables), frames, "{runs:?}");
     }
 }

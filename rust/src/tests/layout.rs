@@ -18,7 +18,7 @@ pub const OWN: usize = 1;
 pub const PREV: usize = 2;
 pub const CUR: usize = 3;
 
-pub fn place(node: u32, field: usize) -> usize {
+pub const fn place(node: u32, field: usize) -> usize {
     WORDS_BEFORE_NODES + NODE_WORDS * (node as usize - 1) + field
 }
 

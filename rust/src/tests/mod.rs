@@ -2,6 +2,7 @@
 
 use crate::driver::{outcome, shared_found, Call, Case};
 use crate::library_of;
+use crate::tables::Tables;
 
 mod calls;
 mod counts;
@@ -33,11 +34,11 @@ fn script_on(nodes: u32, seats: u32, title: u32, bodies: &str) -> String {
 }
 
 /// Every call but clear finds these tables damaged, and leaves all that it is lent as it was.
-fn refused_by_every_call(name: &str, nodes: &[u32], seats: &[u32]) {
+fn refused_by_every_call(name: &str, tables: &Tables) {
     let library = library_of!(crate::library);
     let damaged = 1;
     let calls = [
-        (Call::Reserve { seat: 0, start: 0, end: 1, kind: 1 }, damaged),
+        (Call::Reserve { seat: 0, start: 0, end: 1, kind: 2 }, damaged),
         (Call::Enter { seat: 0 }, damaged),
         (Call::Step { seat: 0, shared: [7; 2] }, damaged),
         (Call::Release { seat: 0 }, damaged),
@@ -48,8 +49,9 @@ fn refused_by_every_call(name: &str, nodes: &[u32], seats: &[u32]) {
     for (call, answer) in calls {
         let text = format!("{name}: {call:?}");
         let shared = shared_found(&call);
-        let after = outcome(&library, &Case { nodes: nodes.to_vec(), seats: seats.to_vec(), call });
-        assert_eq!((after.answer, after.nodes.words(), after.seats.words()), (answer, nodes, seats), "{text}");
+        let after = outcome(&library, &Case { tables: tables.clone(), call });
+        assert_eq!(after.answer, answer, "{text}");
+        assert_eq!((after.nodes.words(), after.seats.words()), (&tables.nodes[..], &tables.seats[..]), "{text}");
         assert!(after.rows.words().iter().all(|&word| word == 7), "{text}");
         assert_eq!(after.shared.words(), shared, "{text}");
     }

@@ -4,7 +4,8 @@
 
 use crate::library;
 use crate::lists::{names, some_export, some_import, Lists, Way};
-use crate::machine::{fresh, reserve, Answer};
+use crate::machine::Answer;
+use crate::machine::Profile::Ordinary;
 use crate::posix::{export, import, Claim, Lock, RECORD_WORDS};
 use crate::random::Random;
 use crate::shrink::shrink_lists;
@@ -289,8 +290,8 @@ fn what_is_imported_is_not_refused_by_reserve() {
             edges(title).into_iter().flat_map(|start| edges(title).into_iter().map(move |l| (start, l)))
         {
             if let Ok([start, end, kind]) = imported(title, [2, start, length]) {
-                let (mut nodes, mut seats) = fresh(1, 1, title);
-                assert_eq!(reserve(&mut nodes, &mut seats, 0, start, end, kind), Ok(Answer::Node(1)));
+                let (mut nodes, mut seats) = Ordinary.fresh(1, 1, title);
+                assert_eq!(Ordinary.reserve(&mut nodes, &mut seats, 0, start, end, kind), Ok(Answer::Node(1)));
             }
         }
     }
@@ -392,7 +393,7 @@ fn a_list_too_short_is_refused_last_and_a_rest_is_no_record() {
 #[test]
 fn the_lists_of_a_seed_meet_all_that_they_can() {
     let mut random = Random::new(1);
-    let mut tally = Tally::default();
+    let mut tally = Tally::new(Ordinary);
     for _ in 0..100 {
         tally.count_lists(&mut random);
     }

@@ -1,6 +1,7 @@
 //! Each bad line by itself, and what the generated scripts reach.
 
 use crate::generate::{any_text, good, put_change, script, FLAWS};
+use crate::machine::Profile::Ordinary;
 use crate::random::Random;
 use crate::script::read_script;
 use crate::tally::Tally;
@@ -65,7 +66,7 @@ fn bad_scripts_name_the_first_wrong_line() {
 
 #[test]
 fn the_generated_scripts_reach_every_rule() {
-    let mut tally = Tally::default();
+    let mut tally = Tally::new(Ordinary);
     for (flaw, bytes) in (0..500).map(|number| script(1, number)) {
         tally.count_script(flaw, &bytes);
     }
@@ -94,7 +95,7 @@ fn the_generated_scripts_reach_every_rule() {
         "reserve",
         "enter",
         "fetch that takes marked nodes out",
-        "script with a list longer than 30",
+        "a list longer than 30",
         "release of a reader",
         "release of a writer",
     ];

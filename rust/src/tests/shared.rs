@@ -5,9 +5,10 @@ use crate::driver::{outcome, Call, Case};
 use crate::generate::{good, of_waits};
 use crate::library::{Printed, Shared};
 use crate::library_of;
-use crate::machine::{enter, fresh, release, reserve, step, Answer};
+use crate::machine::Answer;
+use crate::machine::Profile::Ordinary;
 use crate::random::Random;
-use crate::script::{call, play, read_script};
+use crate::script::{play, read_script};
 use crate::tables::{many_holders, many_waiters, sound_words, Tables};
 use crate::tests::histories::{History, H1, H11, H2, H3, H4, H5, H6, H7, H8, H9, THEN_H10};
 use crate::tests::layout::{place, word, CUR, END, HEAD, KIND, MARK, NEXT, OWN, PHASE, SEAT_WORDS, START};
@@ -41,27 +42,27 @@ fn claim(nodes: &[u32], node: u32) -> Run {
     word(nodes, node, START)..word(nodes, node, END)
 }
 
-fn seat_words((_, seats): &Tables, seat: u32) -> &[u32] {
-    &seats[SEAT_WORDS * seat as usize..][..SEAT_WORDS]
+fn seat_words(tables: &Tables, seat: u32) -> &[u32] {
+    &tables.seats[SEAT_WORDS * seat as usize..][..SEAT_WORDS]
 }
 
 /// Seat 0 is in this phase with its own node 2, at node 1, which alone is listed.
 fn waiting_at((at, at_kind): (Run, u32), (own, own_kind): (Run, u32), phase: u32) -> Tables {
-    let (mut nodes, mut seats) = fresh(2, 1, LONGEST_TITLE);
+    let mut tables = Tables::fresh(Ordinary, 2, 1, LONGEST_TITLE);
     for (node, run, kind) in [(1, at, at_kind), (2, own, own_kind)] {
         for (field, value) in [(START, run.start), (END, run.end), (KIND, kind)] {
-            nodes[place(node, field)] = value;
+            tables.nodes[place(node, field)] = value;
         }
     }
-    nodes[HEAD] = 1;
-    seats.copy_from_slice(&[phase, 2, 0, 1]);
-    (nodes, seats)
+    tables.nodes[HEAD] = 1;
+    tables.seats.copy_from_slice(&[phase, 2, 0, 1]);
+    tables
 }
 
 /// What the seat is told that waits so.
 fn told(at: (Run, u32), own: (Run, u32), phase: u32) -> (u32, u32) {
-    let (mut nodes, mut seats) = waiting_at(at, own, phase);
-    match step(&mut nodes, &mut seats, 0) {
+    let mut tables = waiting_at(at, own, phase);
+    match tables.step(0) {
         Ok(Answer::Wait { node: 1, first, end }) => (first, end),
         answer => panic!("{answer:?}"),
     }
@@ -110,15 +111,15 @@ fn every_wait_names_the_whole_of_what_both_claims_cover_and_no_other_step_waits(
     let mut random = Random::new(20);
     let mut found = [[0, 0], [0, 0]];
     for turn in 0..30_000 {
-        let tables = [sound_words, many_holders, many_waiters][turn % 3](&mut random);
-        let seat = random.below((tables.1.len() / SEAT_WORDS) as u32);
+        let tables = [sound_words, many_holders, many_waiters][turn % 3](&mut random, Ordinary);
+        let seat = random.below(tables.seat_count());
         let mut after = tables.clone();
-        let answer = step(&mut after.0, &mut after.1, seat);
+        let answer = after.step(seat);
         let words = seat_words(&after, seat);
         let waits = answer.is_ok() && [2, 4].contains(&words[PHASE]);
         assert_eq!(matches!(answer, Ok(Answer::Wait { .. })), waits, "{tables:?} {seat}");
         if waits {
-            let (first, end) = by_edges(&claim(&after.0, words[CUR]), &claim(&after.0, words[OWN]));
+            let (first, end) = by_edges(&claim(&after.nodes, words[CUR]), &claim(&after.nodes, words[OWN]));
             assert_eq!(answer, Ok(Answer::Wait { node: words[CUR], first, end }), "{tables:?} {seat}");
             found[usize::from(words[PHASE] == 4)][usize::from(end == 0)] += 1;
         }
@@ -129,9 +130,9 @@ fn every_wait_names_the_whole_of_what_both_claims_cover_and_no_other_step_waits(
 #[test]
 fn a_seat_that_waits_at_its_own_node_is_told_its_own_claim() {
     for (phase, kind) in [(2, 1), (2, 2), (4, 1), (4, 2)] {
-        let (mut nodes, mut seats) = waiting_at((0..1, 2), (15..20, kind), phase);
-        seats[CUR] = 2;
-        assert_eq!(step(&mut nodes, &mut seats, 0), Ok(Answer::Wait { node: 2, first: 15, end: 20 }), "{phase} {kind}");
+        let mut tables = waiting_at((0..1, 2), (15..20, kind), phase);
+        tables.seats[CUR] = 2;
+        assert_eq!(tables.step(0), Ok(Answer::Wait { node: 2, first: 15, end: 20 }), "{phase} {kind}");
     }
 }
 
@@ -164,24 +165,24 @@ fn a_claim_that_waits_on_is_told_the_same_again_in_both_phases() {
 /// A writer of 20..50 waits in turn at claims that it shares a part of, all of itself or all of the other with, or one frame.
 #[test]
 fn what_is_shared_follows_the_claim_that_is_waited_at() {
-    let (mut nodes, mut seats) = fresh(8, 2, 100);
+    let mut tables = Tables::fresh(Ordinary, 8, 2, 100);
     for (at, first, end) in
         [(10..30, 20, 30), (40..60, 40, 50), (10..60, 20, 50), (25..30, 25, 30), (0..21, 20, 21), (20..50, 20, 50)]
     {
-        reserve(&mut nodes, &mut seats, 0, at.start, at.end, 1).unwrap();
-        enter(&nodes, &mut seats, 0).unwrap();
-        while step(&mut nodes, &mut seats, 0).expect("the seat is under way") != Answer::Held {}
-        reserve(&mut nodes, &mut seats, 1, 20, 50, 2).unwrap();
-        enter(&nodes, &mut seats, 1).unwrap();
-        let node = seats[OWN];
-        let mut answer = step(&mut nodes, &mut seats, 1);
+        tables.reserve(0, at.start, at.end, 1).unwrap();
+        tables.enter(0).unwrap();
+        while tables.step(0).expect("the seat is under way") != Answer::Held {}
+        tables.reserve(1, 20, 50, 2).unwrap();
+        tables.enter(1).unwrap();
+        let node = tables.seats[OWN];
+        let mut answer = tables.step(1);
         while answer == Ok(Answer::On) {
-            answer = step(&mut nodes, &mut seats, 1);
+            answer = tables.step(1);
         }
         assert_eq!(answer, Ok(Answer::Wait { node, first, end }), "{at:?}");
-        release(&mut nodes, &mut seats, 0).unwrap();
-        while step(&mut nodes, &mut seats, 1).expect("the seat is under way") != Answer::Held {}
-        release(&mut nodes, &mut seats, 1).unwrap();
+        tables.release(0).unwrap();
+        while tables.step(1).expect("the seat is under way") != Answer::Held {}
+        tables.release(1).unwrap();
     }
 }
 
@@ -192,14 +193,14 @@ fn in_generated_scripts_each_wait_has_frames_and_a_writer() {
     let mut waits = [0, 0];
     for _ in 0..100 {
         let script = read_script(&good(&mut random)).expect("a good script");
-        let (mut nodes, mut seats) = fresh(script.nodes, script.seats, script.title);
+        let mut tables = Tables::fresh(Ordinary, script.nodes, script.seats, script.title);
         for &row in &script.rows[..script.count as usize] {
-            if let Ok(Answer::Wait { node, first, end }) = call(&mut nodes, &mut seats, row) {
-                let words = &seats[SEAT_WORDS * row[1] as usize..][..SEAT_WORDS];
-                let (at, own) = (claim(&nodes, node), claim(&nodes, words[OWN]));
+            if let Ok(Answer::Wait { node, first, end }) = tables.call(row) {
+                let words = &tables.seats[SEAT_WORDS * row[1] as usize..][..SEAT_WORDS];
+                let (at, own) = (claim(&tables.nodes, node), claim(&tables.nodes, words[OWN]));
                 assert!(first < end, "{at:?} {own:?}");
                 assert_eq!((first, end), by_edges(&at, &own));
-                assert!([node, words[OWN]].iter().any(|&node| word(&nodes, node, KIND) == 2), "{at:?} {own:?}");
+                assert!([node, words[OWN]].iter().any(|&node| word(&tables.nodes, node, KIND) == 2), "{at:?} {own:?}");
                 waits[usize::from(words[PHASE] == 4)] += 1;
             }
         }
@@ -208,8 +209,8 @@ fn in_generated_scripts_each_wait_has_frames_and_a_writer() {
 }
 
 /// The answer of a step, and what it leaves in the two words that it is lent.
-fn lent_words((nodes, seats): Tables, seat: u32, found: Shared) -> (u64, Shared) {
-    let after = outcome(&library_of!(crate::library), &Case { nodes, seats, call: Call::Step { seat, shared: found } });
+fn lent_words(tables: Tables, seat: u32, found: Shared) -> (u64, Shared) {
+    let after = outcome(&library_of!(crate::library), &Case { tables, call: Call::Step { seat, shared: found } });
     (after.answer, after.shared.words().try_into().expect("two words were lent"))
 }
 
@@ -228,23 +229,23 @@ fn the_two_words_are_written_with_wait() {
 #[test]
 fn with_every_other_answer_and_refusal_the_two_words_stay() {
     let unlisted = |mut tables: Tables| {
-        tables.0[HEAD] = 0;
+        tables.nodes[HEAD] = 0;
         tables
     };
     let marked = |mut tables: Tables, node| {
-        tables.0[place(node, MARK)] = 1;
+        tables.nodes[place(node, MARK)] = 1;
         tables
     };
     let in_phase = |phase, prev, cur, kind| {
-        let (nodes, mut seats) = waiting_at((10..20, 2), (15..25, kind), 1);
-        seats.copy_from_slice(&[phase, 2, prev, cur]);
-        (nodes, seats)
+        let mut tables = waiting_at((10..20, 2), (15..25, kind), 1);
+        tables.seats.copy_from_slice(&[phase, 2, prev, cur]);
+        tables
     };
     let full = {
-        let (mut nodes, mut seats) = in_phase(6, 0, 0, 2);
-        nodes[place(1, NEXT)] = 2;
-        seats.extend([1, 1, 0, 2]);
-        (nodes, seats)
+        let mut tables = in_phase(6, 0, 0, 2);
+        tables.nodes[place(1, NEXT)] = 2;
+        tables.seats.extend([1, 1, 0, 2]);
+        tables
     };
     let (on, held, back) = (3 << 32, 5 << 32, 6 << 32);
     for (answer, tables, seat) in [
@@ -260,7 +261,7 @@ fn with_every_other_answer_and_refusal_the_two_words_stay() {
         (1, in_phase(7, 0, 1, 2), 0),
         (1, in_phase(8, 0, 0, 2), 0),
         (2, in_phase(2, 0, 1, 2), 1),
-        (6, fresh(2, 1, 9), 0),
+        (6, Tables::fresh(Ordinary, 2, 1, 9), 0),
         (8, full, 0),
     ] {
         for found in [[0, 0], [1, 2], [LONGEST_TITLE; 2]] {

@@ -1,8 +1,10 @@
 //! The watcher of stores, where there is one: a volatile store is one that the compiler neither leaves out nor doubles. And
 //! what the second machine stores when it takes nodes out, fetches and enters, by hand.
 
-use crate::machine::{enter, fresh, reserve, step, Answer};
+use crate::machine::Answer;
+use crate::machine::Profile::{Ordinary, Sheet};
 use crate::stores::{Store, Table, Watcher};
+use crate::tables::Tables;
 use crate::tests::layout::{
     place, CUR, END, HEAD, KIND, MARK, NEXT, NODE_WORDS, PHASE, PREV, SEAT_WORDS, START, WRITERS,
 };
@@ -121,17 +123,17 @@ mod where_there_is_one {
 }
 
 /// The list 3 1 6 2 5 4 of six nodes, some of them marked, and two seats that are idle.
-pub fn listed_and_marked(marks: [u32; 6]) -> (Vec<u32>, Vec<u32>) {
-    let (mut nodes, seats) = fresh(6, 2, LONGEST_TITLE);
+pub fn listed_and_marked(marks: [u32; 6]) -> Tables {
+    let mut tables = Tables::fresh(Ordinary, 6, 2, LONGEST_TITLE);
     let mut link = HEAD;
     for (node, mark) in [3, 1, 6, 2, 5, 4].into_iter().zip(marks) {
-        nodes[link] = node;
+        tables.nodes[link] = node;
         link = place(node, NEXT);
         for (field, value) in [(START, 10 * node), (END, 10 * node + 5), (KIND, 2), (MARK, mark)] {
-            nodes[place(node, field)] = value;
+            tables.nodes[place(node, field)] = value;
         }
     }
-    (nodes, seats)
+    tables
 }
 
 /// Marks on the list, the node that is taken, and the links that differ: of which node (0 for the head), and what it becomes.
@@ -160,26 +162,27 @@ pub fn link_of(node: u32) -> usize {
 #[test]
 fn taking_out_changes_the_links_that_differ() {
     for (marks, taken, links) in TAKINGS_OUT {
-        let (mut nodes, mut seats) = listed_and_marked(marks);
-        let mut then = nodes.clone();
+        let mut tables = listed_and_marked(marks);
+        let mut then = tables.nodes.clone();
         for &(node, next) in links {
             then[link_of(node)] = next;
         }
         then[place(taken, START)..][..NODE_WORDS].copy_from_slice(&[7, 8, 1, 0, 0]);
-        assert_eq!(reserve(&mut nodes, &mut seats, 1, 7, 8, 1), Ok(Answer::Node(taken)), "{marks:?}");
-        assert_eq!((&nodes, seats), (&then, vec![0, 0, 0, 0, 7, taken, 0, 0]), "{marks:?}");
+        assert_eq!(tables.reserve(1, 7, 8, 1), Ok(Answer::Node(taken)), "{marks:?}");
+        assert_eq!((tables.nodes, tables.seats), (then, vec![0, 0, 0, 0, 7, taken, 0, 0]), "{marks:?}");
     }
 }
 
 #[test]
 fn taking_out_stores_the_links_that_differ_and_no_other() {
     for (marks, taken, links) in TAKINGS_OUT {
-        let (mut nodes, mut seats) = listed_and_marked(marks);
+        let Tables { mut nodes, mut seats, .. } = listed_and_marked(marks);
         let mut watcher = match Watcher::new() {
             Some(watcher) => watcher,
             None => return,
         };
-        let (_, stores) = watcher.watch(&mut nodes, &mut seats, |nodes, seats| reserve(nodes, seats, 1, 7, 8, 1));
+        let (_, stores) =
+            watcher.watch(&mut nodes, &mut seats, |nodes, seats| Ordinary.reserve(nodes, seats, 1, 7, 8, 1));
         let elsewhere = |store: &Store| {
             let words_of_taken = place(taken, START)..place(taken, START) + NODE_WORDS;
             store.table == Table::Nodes && !words_of_taken.contains(&store.word)
@@ -194,7 +197,7 @@ type OnTables = fn(&mut [u32], &mut [u32]);
 
 /// What the second machine stores of the seats, and how many words of the nodes: seat 1 with these words is entered or stepped.
 fn stored_of_seats(words: [u32; 4], call: OnTables) -> Option<(Vec<Store>, usize)> {
-    let (mut nodes, mut seats) = listed_and_marked([0; 6]);
+    let Tables { mut nodes, mut seats, .. } = listed_and_marked([0; 6]);
     nodes[link_of(2)] = 0;
     seats[SEAT_WORDS..].copy_from_slice(&words);
     let ((), stores) = Watcher::new()?.watch(&mut nodes, &mut seats, call);
@@ -203,17 +206,16 @@ fn stored_of_seats(words: [u32; 4], call: OnTables) -> Option<(Vec<Store>, usize
     Some((of_seats, of_nodes.len()))
 }
 
+/// A store of one word of seat 1, which changes it.
+fn in_seat_1(field: usize, value: u32) -> Store {
+    Store { table: Table::Seats, word: SEAT_WORDS + field, value, changed_to: SEAT_WORDS + field + 1 }
+}
+
 #[test]
 fn enter_and_a_step_in_phase_7_store_phase_and_cur() {
-    let in_seat_1 = |field, value| Store {
-        table: Table::Seats,
-        word: SEAT_WORDS + field,
-        value,
-        changed_to: SEAT_WORDS + field + 1,
-    };
     let enters: [OnTables; 2] = [
-        |nodes, seats| assert_eq!(enter(nodes, seats, 1), Ok(Answer::On)),
-        |nodes, seats| assert_eq!(step(nodes, seats, 1), Ok(Answer::On)),
+        |nodes, seats| assert_eq!(Ordinary.enter(nodes, seats, 1), Ok(Answer::On)),
+        |nodes, seats| assert_eq!(Ordinary.step(nodes, seats, 1), Ok(Answer::On)),
     ];
     for enters in enters {
         if let Some(stored) = stored_of_seats([7, 5, 0, 0], enters) {
@@ -222,17 +224,26 @@ fn enter_and_a_step_in_phase_7_store_phase_and_cur() {
     }
     if let Some(stored) = stored_of_seats([5, 5, 0, 0], |nodes, seats| {
         nodes[WRITERS] = 1;
-        assert_eq!(enter(nodes, seats, 1), Err(14));
+        assert_eq!(Ordinary.enter(nodes, seats, 1), Err(14));
     }) {
         assert_eq!(stored, (vec![], 1));
+    }
+}
+
+/// On a sheet: own's next, the link and the count; of the seat phase and prev, as cur is 0 already.
+#[test]
+fn a_claim_that_holds_as_soon_as_it_is_linked_stores_three_words_of_the_nodes() {
+    let links: OnTables = |nodes, seats| assert_eq!(Sheet.step(nodes, seats, 1), Ok(Answer::Held));
+    if let Some(stored) = stored_of_seats([1, 5, 2, 0], links) {
+        assert_eq!(stored, (vec![in_seat_1(PHASE, 5), in_seat_1(PREV, 0)], 3));
     }
 }
 
 #[test]
 fn a_fetch_stores_phase_and_own_of_its_seat() {
     let fetches: [([u32; 4], OnTables); 2] = [
-        ([0; 4], |nodes, seats| assert_eq!(reserve(nodes, seats, 1, 7, 8, 1), Ok(Answer::Node(4)))),
-        ([6, 5, 0, 0], |nodes, seats| assert_eq!(step(nodes, seats, 1), Ok(Answer::On))),
+        ([0; 4], |nodes, seats| assert_eq!(Ordinary.reserve(nodes, seats, 1, 7, 8, 1), Ok(Answer::Node(4)))),
+        ([6, 5, 0, 0], |nodes, seats| assert_eq!(Ordinary.step(nodes, seats, 1), Ok(Answer::On))),
     ];
     for (words, fetch) in fetches {
         if let Some((stores, _)) = stored_of_seats(words, fetch) {
@@ -246,11 +257,11 @@ fn a_fetch_stores_phase_and_own_of_its_seat() {
 #[test]
 fn where_nothing_is_marked_nothing_is_taken_out_or_stored() {
     let tables = listed_and_marked([0; 6]);
-    let (mut nodes, mut seats) = tables.clone();
-    assert_eq!(reserve(&mut nodes, &mut seats, 1, 7, 8, 1), Err(8));
-    assert_eq!((&nodes, &seats), (&tables.0, &tables.1));
+    let mut after = tables.clone();
+    assert_eq!((after.reserve(1, 7, 8, 1), &after), (Err(8), &tables));
+    let Tables { mut nodes, mut seats, .. } = tables;
     if let Some(mut watcher) = Watcher::new() {
-        let watched = watcher.watch(&mut nodes, &mut seats, |nodes, seats| reserve(nodes, seats, 1, 7, 8, 1));
+        let watched = watcher.watch(&mut nodes, &mut seats, |nodes, seats| Ordinary.reserve(nodes, seats, 1, 7, 8, 1));
         assert_eq!(watched, (Err(8), vec![]));
     }
 }
