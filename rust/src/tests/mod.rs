@@ -13,6 +13,7 @@ mod posix;
 mod reserved;
 mod scripts;
 mod shared;
+mod sheets;
 mod stores;
 mod storing;
 mod storing_lists;
