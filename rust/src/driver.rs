@@ -41,8 +41,8 @@ pub struct Library {
 impl Library {
     pub fn calls(&self, profile: Profile) -> &Calls {
         match profile {
-            Profile::Ordinary => &self.ordinary,
-            Profile::Sheet => &self.sheet,
+            Ordinary => &self.ordinary,
+            Sheet => &self.sheet,
         }
     }
 }
@@ -261,7 +261,7 @@ impl Driver {
         self.every_call(random, tables)
     }
 
-    /// Each call on sound tables of the other profile: what is sound for both, and what for one alone.
+    /// Each call on sound tables of the other profile, some of which are sound for both.
     pub fn other_profile(&mut self, random: &mut Random) -> Result<(), Difference> {
         let families = [sound_words, many_holders, many_waiters, many_reserved, many_walkers];
         let [made_by, lent_to] = random.pick(&[[Ordinary, Sheet], [Sheet, Ordinary]]);

@@ -258,7 +258,7 @@ const ORDINARY_KINDS: [&str; 6] = [
 /// Those of a claim that holds as soon as it is linked.
 const SHEET_KINDS: [&str; 2] = ["step in phase 1 that links and holds", "run of one entry that links and holds"];
 
-pub fn kinds(profile: Profile) -> impl Iterator<Item = &'static str> {
+pub fn call_kinds(profile: Profile) -> impl Iterator<Item = &'static str> {
     let own: &'static [&'static str] = match profile {
         Ordinary => &ORDINARY_KINDS,
         Sheet => &SHEET_KINDS,

@@ -13,9 +13,9 @@ use second::machine::{IDLE, PROFILES, RESERVED, TITLE, WALKING, WITHDRAWN};
 use second::random::Random;
 use second::shrink::{case_text, shrink, shrink_lists};
 use second::stores::{Watcher, NOT_HERE};
-use second::storing::{judge, kinds, watched, TAKEN_OUT_OF_REACHED};
+use second::storing::{call_kinds, judge, watched, TAKEN_OUT_OF_REACHED};
 use second::storing_lists::{can_be_watched, judge_lists, watched_lists, LIST_KINDS};
-use second::tables::{any_words, full_lists, many_holders, many_reserved, many_walkers, sound_words, Tables};
+use second::tables::{any_words, full_lists, kinds, many_holders, many_reserved, many_walkers, sound_words, Tables};
 use std::cell::RefCell;
 use std::collections::BTreeMap;
 use std::process::exit;
@@ -166,10 +166,10 @@ impl Watch {
         }
     }
 
-    /// Each must be met.
-    fn kinds(&self) -> impl Iterator<Item = &'static str> {
+    /// The kinds of which each must be met.
+    fn due_kinds(&self) -> impl Iterator<Item = &'static str> {
         let of_lists = if self.profile == Ordinary { &LIST_KINDS[..] } else { &[] };
-        kinds(self.profile).chain(of_lists.iter().copied())
+        call_kinds(self.profile).chain(of_lists.iter().copied())
     }
 
     fn text(&self, name: &str) -> String {
@@ -178,7 +178,7 @@ impl Watch {
             "{name}: {met} calls watched, {} refused, {} took marked nodes out; {} stores, {} links due; {wrong} calls wrong\n",
             self.refused, self.took_out, self.stores, self.links
         );
-        for kind in self.kinds() {
+        for kind in self.due_kinds() {
             let Count { met, wrong } = self.count(kind);
             let verdict = match (met, wrong) {
                 (0, _) => ": NEVER MET".to_string(),
@@ -195,12 +195,12 @@ impl Watch {
     }
 
     fn passed(&self) -> usize {
-        self.kinds().map(|kind| self.count(kind)).filter(|count| count.met > 0 && count.wrong == 0).count()
+        self.due_kinds().map(|kind| self.count(kind)).filter(|count| count.met > 0 && count.wrong == 0).count()
     }
 
     /// The kinds that did not pass; if a call was wrong and is of no kind, at least one.
     fn failed(&self) -> usize {
-        (self.kinds().count() - self.passed()).max(usize::from(self.all.wrong > 0))
+        (self.due_kinds().count() - self.passed()).max(usize::from(self.all.wrong > 0))
     }
 
     /// The smallest tables found on which a call is wrong, from some on which one is.
@@ -243,7 +243,7 @@ fn some_fetches(random: &mut Random, tables: &Tables) -> Vec<Call> {
     let reserves = tables.seats_in(IDLE).take(2).map(|(seat, _)| {
         let start = random.below(title);
         let end = random.between(start + 1, title);
-        Call::Reserve { seat, start, end, kind: random.pick(second::tables::kinds(tables.profile)) }
+        Call::Reserve { seat, start, end, kind: random.pick(kinds(tables.profile)) }
     });
     reserves.chain(some_steps(tables, WITHDRAWN)).collect()
 }

@@ -5,7 +5,7 @@
 use crate::damages::{damaged, SHEET_DAMAGES};
 use crate::generate::some_rows;
 use crate::machine::Profile::{Ordinary, Sheet};
-use crate::machine::{Answer, Profile};
+use crate::machine::{Answer, Profile, PROFILES};
 use crate::random::Random;
 use crate::script::{answer_text, read_script};
 use crate::tables::{any_words, full_lists, many_reserved, many_waiters, many_walkers, sound_words, Tables};
@@ -499,6 +499,28 @@ fn along_generated_histories_holders_are_apart_and_every_seat_settles() {
 }
 
 // What is compared
+
+/// On tables that calls of both profiles have made, those of a sheet find some damaged, the ordinary ones none.
+#[test]
+fn where_the_profiles_take_turns_both_have_calls_that_are_taken() {
+    let mut random = Random::new(44);
+    let mut taken = [0, 0];
+    let mut damaged = [0, 0];
+    for _ in 0..60 {
+        let history = some_rows(&mut random, &PROFILES);
+        let mut tables = Tables::fresh(Ordinary, history.nodes, history.seats, history.title);
+        for (profile, row) in history.rows {
+            tables.profile = profile;
+            let answer = tables.call(row);
+            taken[profile as usize] += u32::from(answer.is_ok());
+            damaged[profile as usize] += u32::from(answer == Err(1));
+        }
+    }
+    assert!(
+        taken.iter().all(|&times| times >= 2_000) && damaged[0] == 0 && damaged[1] >= 2_000,
+        "{taken:?} {damaged:?}"
+    );
+}
 
 /// Whether a name that a tally has where there are readers is one of a sheet's too.
 fn of_a_sheet(name: &str) -> bool {
