@@ -13,7 +13,10 @@ mod archive {
 
     /// The calls on tables of a profile, under the names that the archive has for them.
     macro_rules! calls {
-        ($clear:ident, $reserve:ident, $enter:ident, $step:ident, $release:ident, $run:ident, $board:ident, $free_count:ident) => {
+        (
+            $clear:ident, $reserve:ident, $enter:ident, $step:ident, $release:ident, $run:ident, $board:ident,
+            $free_count:ident
+        ) => {
             extern "C" {
                 pub fn $clear(
                     nodes: *mut u32,

@@ -1,5 +1,5 @@
 //! The watcher of stores, where there is one: a volatile store is one that the compiler neither leaves out nor doubles. And
-//! what the second machine stores when it takes nodes out, fetches and enters, by hand.
+//! what the second machine stores when it takes nodes out, fetches and enters, and when a claim is linked on a sheet, by hand.
 
 use crate::machine::Answer;
 use crate::machine::Profile::{Ordinary, Sheet};
