@@ -142,8 +142,9 @@ impl Profile {
 
     /// The words of a seat. Refusal 2: "seat number not below S".
     fn load_seat(self, seats: &[u32], number: u32) -> Result<Seat, u32> {
-        let seat = seats.chunks_exact(self.seat_words()).nth(number as usize).ok_or(2_u32)?;
-        Ok(seat.try_into().expect("a chunk is a seat"))
+        let phase = self.seat_words() * number as usize + PHASE;
+        let words = seats.get(phase..=phase + CUR).ok_or(2_u32)?;
+        Ok(words.try_into().expect("as many as a seat has"))
     }
 
     /// Only words that differ, as each store is mirrored to a standby.
