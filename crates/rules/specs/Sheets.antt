@@ -4,7 +4,6 @@ use Prim.Native.Nat.{ℕ, _≤_}
 use mathlib.Core.Path.{_≡_}
 use mathlib.Core.Bool.{true}
 use mathlib.Core.List.{List}
-use mathlib.Core.Logic.{_≢_}
 use Rattle.rules.specs.Tables.{Tables, start, end, own}
 use Rattle.rules.specs.Answers.{Answer, held, wait, done}
 use Rattle.rules.specs.Calls.{step}
