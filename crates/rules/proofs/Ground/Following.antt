@@ -18,7 +18,7 @@ reach_target (there h r) = reach_target r
 pub not_from_0 : {link : ℕ → ℕ} {b a : ℕ} → Reach link b a → a ≢ 0
 not_from_0 r = let h = reach_source r in omega arith
 
-pub reach_on : {link : ℕ → ℕ} {a b c : ℕ} → Reach link b a → Reach link c b → Reach link c a
+pub reach_on : {link : ℕ → ℕ} {b a c : ℕ} → Reach link b a → Reach link c b → Reach link c a
 reach_on (here h) r = r
 reach_on (there h q) r = there h (reach_on q r)
 
@@ -31,7 +31,7 @@ beyond d (here h) = absurd (d refl)
 beyond d (there h r) = r
 
 -- of two nodes of one walk one is met from the other
-pub linear : {link : ℕ → ℕ} {a b c : ℕ} → Reach link b a → Reach link c a → Reach link c b ⊎ Reach link b c
+pub linear : {link : ℕ → ℕ} {b a c : ℕ} → Reach link b a → Reach link c a → Reach link c b ⊎ Reach link b c
 linear (here h) r = inl r
 linear (there h q) (here h') = inr (there h q)
 linear (there h q) (there h' r) = linear q r

@@ -151,9 +151,9 @@ stands_on a b = record {
 kept_by_calls : {N S : ℕ} {t : Tables} → Good N S t → (s : ℕ) → LinkedIn t s → (calls : List Call) → StillStands s t (after_all t calls) ⊎ GivenUp s t calls
 unfolding after_all
 kept_by_calls g s l [] = inl (stands_as_it_is g s (in_linked l.0 l.1))
-kept_by_calls g s l (c ∷ calls) = elim (kept_by_call g c s l) [
+kept_by_calls {N = N} {S = S} {t = t} g s l (c ∷ calls) = elim (kept_by_call g c s l) [
   | inr x ↦ inr (now x)
-  | inl a ↦ elim (kept_by_calls (call_keeps g c) s a.linked_in calls) [ inl b ↦ inl (stands_on a b) | inr x ↦ inr (later x) ]
+  | inl a ↦ elim (kept_by_calls {t = (call t c).after} (call_keeps g c) s a.linked_in calls) [ inl b ↦ inl (stands_on a b) | inr x ↦ inr (later x) ]
 ]
 
 pub kept_by_requests : {N S : ℕ} {t : Tables} → Good N S t → (s : ℕ) → LinkedIn t s → (requests : List Request)

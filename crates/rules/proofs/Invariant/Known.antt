@@ -74,7 +74,7 @@ pub record Along (claims : ℕ → Claim) (a b : ℕ) : Type 0 where
   pub starts : (claims a).start ≤ (claims b).start
   pub writer_ends : a ≢ b → (claims a).kind ≡ 2 → (claims a).end ≤ (claims b).start
 
-pub along : {link : ℕ → ℕ} (claims : ℕ → Claim) {a b : ℕ} → ((x : ℕ) → Reach link x a → 0 < link x → Ordered (claims x) (claims (link x)))
+pub along : {link : ℕ → ℕ} (claims : ℕ → Claim) {b a : ℕ} → ((x : ℕ) → Reach link x a → 0 < link x → Ordered (claims x) (claims (link x)))
     → Reach link b a → Along claims a b
 along claims f (here h) = record { starts = omega arith; writer_ends = λ d. absurd (d refl) }
 along claims f (there {a = a} h r) =

@@ -157,6 +157,12 @@ module _ (t : Tables) where
   row_covers : (s f : ℕ) → covers (row_of t s) f ≡ true → Covers (claim_of_seat t s) f
   row_covers s f e = covers_within (row_of t s) f e
 
+  lt_suc_of_lt : {s n : ℕ} → s < n → s < suc n
+  lt_suc_of_lt h = omega arith
+
+  lt_suc : (n : ℕ) → n < suc n
+  lt_suc n = omega arith
+
   below_covers : (n f : ℕ) → some_covers (rows_below n t) f ≡ true → (s : ℕ) × (s < n) × Holds t s × Covers (claim_of_seat t s) f
   unfolding rows_below some_covers
   below_covers zero f e = absurd (clash false e refl)
@@ -164,10 +170,10 @@ module _ (t : Tables) where
       branch (λ (rows : List Row). some_covers rows f ≡ true → (s : ℕ) × (s < suc n) × Holds t s × Covers (claim_of_seat t s) f)
       (phase t n is 5)
       (λ holds g. elim (or_case (covers (row_of t n) f) (some_covers (rows_below n t) f) (sym (some_last (rows_below n t) (row_of t n) f) ∙ g)) [
-        | inl p ↦ (n, omega arith, eqb-true (phase t n) 5 holds, row_covers n f p)
-        | inr p ↦ let w = below_covers n f p in (w.0, (let i = w.1 in omega arith), w.2, w.3)
+        | inl p ↦ (n, lt_suc n, eqb-true (phase t n) 5 holds, row_covers n f p)
+        | inr p ↦ let w = below_covers n f p in (w.0, lt_suc_of_lt w.1, w.2, w.3)
       ])
-      (λ rests g. let w = below_covers n f g in (w.0, (let i = w.1 in omega arith), w.2, w.3))
+      (λ rests g. let w = below_covers n f g in (w.0, lt_suc_of_lt w.1, w.2, w.3))
       e
 
   covers_below : (n s f : ℕ) → s < n → Holds t s → Covers (claim_of_seat t s) f → some_covers (rows_below n t) f ≡ true

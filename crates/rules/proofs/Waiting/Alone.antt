@@ -77,7 +77,7 @@ pub is_not_joined : (t : Tables) (s : ℕ) → joined t s ≡ false → Joined t
 unfolding joined
 is_not_joined t s e j = clash (joined t s) (rw (ne_eqb (mark t (prev t s)) 1 j.unmarked, eq-eqb (link t (prev t s)) (cur t s) j.to_cur)) e
 
-pub unlinked : {N S : ℕ} {t u : Tables} (s : ℕ) → s < S → Reached N S t → cur t s ≢ 0 → Unlinking t s u → Unlinked t u s
+pub unlinked : {N S : ℕ} {t : Tables} (s : ℕ) {u : Tables} → s < S → Reached N S t → cur t s ≢ 0 → Unlinking t s u → Unlinked t u s
 unlinked {t = t} s s_in g c (takes_out j) =
     let p = prev t s in
     let v = next t (cur t s) in
