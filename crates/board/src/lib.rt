@@ -1,5 +1,7 @@
 // The board on a lent list of numbers, four to a row: seat, first frame, end frame, kind. That there is room for every row is known before
 // the first is stored, so that a refusal stores nothing.
+#![tactic(auto)]
+
 ghost use Rattle.std.specs.Prelude.{◌≡◌, true, ◌+◌, ◌*◌, ◌<◌, ◌≤◌, length};
 ghost use Rattle.rules.specs.Notation.{◌≤?◌};
 ghost use Rattle.rules.specs.Tables.{tables, seat_count_of};

@@ -1,6 +1,8 @@
 // The public calls for C and Rust to link: over numbers and slices alone, each answer encoded as one number, a wait's shared run in two words beside it. A
 // slice crosses as its address and its length, an array as its address. The calls on tables stand here twice: on the ordinary ones and, as
 // `soodhiqune_sheet_..`, on a writers' sheet. It is by their names that a caller says which tables it lends.
+#![tactic(auto)]
+
 ghost use Rattle.std.specs.Prelude.{◌≡◌, true, false, [], ◌+◌, ◌≤◌, length, take, drop};
 ghost use Rattle.rules.specs.Script.{read_script};
 ghost use Rattle.rules.specs.Tables.{tables};

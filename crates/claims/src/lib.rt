@@ -1,6 +1,8 @@
 // The public calls on the two lent tables: clear, reserve, enter, step, release and free count. None asks anything of its caller: any tables and
 // any numbers are taken. Each has one promise, an equation with its rule: the answer and every word of both tables afterwards. A refused
 // call leaves both as found. Enter and free count are lent the node table to read only.
+#![tactic(auto)]
+
 ghost use Rattle.std.specs.Prelude.{◌≡◌, true, length, ◌<◌};
 ghost use Rattle.rules.specs.Tables.{tables, seat_count_of, phase, zeros};
 ghost use Rattle.rules.specs.Comparison.{claim};

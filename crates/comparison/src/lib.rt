@@ -1,5 +1,7 @@
 // The comparison of a listed node with one's own claim, as a signed number, and the run of frames that the two share. The run is a function of its own:
 // whoever waits on, or waits in phase 4, is told it and no comparison is made; and a walk that passes a claim pays for none.
+#![tactic(auto)]
+
 ghost use Rattle.std.specs.Prelude.{◌≡◌, []};
 ghost use Rattle.rules.specs.Tables.{tables};
 ghost use Rattle.rules.specs.Comparison.{claim, claim_of, compare};

@@ -1,6 +1,8 @@
 // Runs of frames in the order of their first frames: each is put in its place as it comes, and one pass over them counts each frame once.
 // They stand side by side in 128 places around place 64. The side with fewer runs makes room for the next one, so that runs which come
 // in rising or in falling order move none.
+#![tactic(auto)]
+
 ghost use Rattle.std.specs.Prelude.{◌≡◌, ◌+◌, ◌-◌, ◌≤◌, ◌<◌, max, length};
 ghost use Rattle.rules.specs.Board.{covered_by};
 ghost use Rattle.covering.specs.Runs.{first_of, end_of, rows_in, Ordered, CoversOneMore};

@@ -1,5 +1,7 @@
 // Fetch: a free node for a seat's claim, and how many are free. It decides on the tables as they stand, and stores only what is decided:
 // where no node is free, even with the marked ones taken out, nothing is stored.
+#![tactic(auto)]
+
 ghost use Rattle.std.specs.Prelude.{◌≡◌, true, [], ◌∷◌, drop};
 ghost use Rattle.rules.specs.Tables.{tables, prev, cur, put_link};
 ghost use Rattle.rules.specs.Comparison.{claim};

@@ -1,5 +1,7 @@
 // The holders of tables that are known to be sound: how many there are, the row of each, and the frames that they cover. The board and
 // the program's closing lines walk over them. A holder of sound tables owns a node of the table, so no read is tested.
+#![tactic(auto)]
+
 ghost use Rattle.std.specs.Prelude.{◌≡◌, true, ◌≤◌, ◌<◌};
 ghost use Rattle.rules.specs.Tables.{tables, seat_count_of};
 ghost use Rattle.rules.specs.Shape.{sound};

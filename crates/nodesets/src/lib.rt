@@ -1,4 +1,6 @@
 // A set of the nodes 1 to 256 as four words: node m + 1 is number m % 64 of word m / 64. Node 0 is in no set.
+#![tactic(auto)]
+
 ghost use Rattle.std.specs.Prelude.{◌≡◌, true, false, ◌&&◌, not, ◌≢◌, ℕ, ◌+◌, ◌≤◌, ◌<◌};
 ghost use Rattle.rules.specs.Notation.{◌<?◌, count as count_below, lowest as lowest_of};
 ghost use Rattle.nodesets.specs.Word.{in_word, add_word};

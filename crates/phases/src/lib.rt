@@ -1,6 +1,8 @@
 // A step on tables that are known to be sound, in each of the seat's phases, as far as a run asks for it: its refusal, 0 if there is none, and the tables.
 // The answer is said from the tables after it, by `claims::step` alone. These are inner functions: the public calls `claims::step` and `run::run` test
 // the tables and come here.
+#![tactic(auto)]
+
 ghost use Rattle.std.specs.Prelude.{◌≡◌, true, ◌<◌};
 ghost use Rattle.rules.specs.Tables.{tables, seat_count_of, phase};
 ghost use Rattle.rules.specs.Shape.{sound};

@@ -1,4 +1,6 @@
 // A script played, from its bytes to every byte that is printed, in a lent buffer.
+#![tactic(auto)]
+
 ghost use Rattle.std.specs.Prelude.{◌≡◌, true, false, [], ◌+◌, ◌*◌, ◌<◌, ◌≤◌, length, take, drop};
 ghost use Rattle.rules.specs.Tables.{tables, node_count_of, seat_count_of};
 ghost use Rattle.rules.specs.Reach.{nodes_from};

@@ -1,6 +1,8 @@
 // Locks of the archive's file system as claims, and claims as such locks, on lent lists of three numbers to a record. Every record is looked at before
 // the first number is stored, so that a refusal stores nothing. A lock is looked at without a signed sum: how far its numbers lie above 0 or below are
 // unsigned numbers of 64 bits, and so is every sum of two of them that is made. Of a lock that has passed, the sums are numbers of 32 bits.
+#![tactic(auto)]
+
 ghost use Rattle.std.specs.Prelude.{◌≡◌, ◌+◌, ◌*◌, ◌/◌, ◌<◌, ◌≤◌, length, pos};
 ghost use Rattle.rules.specs.Comparison.{claim};
 ghost use Rattle.rules.specs.Locks.{lock, is_type, taken, import_lock, export_claim, each, locks_in, claims_in, record_width, listed, moved, import_locks, export_claims, length_of};

@@ -1,5 +1,7 @@
 // Which nodes are free: what the list and the other seats reach is gathered in a set, by walks that stop at a node of the set, and the
 // rest of 1 to N is free. Nothing is stored.
+#![tactic(auto)]
+
 ghost use Rattle.std.specs.Prelude.{◌≡◌, true, [], ◌≢◌, ◌≤◌, ◌<◌};
 ghost use Rattle.rules.specs.Tables.{tables, node_count_of, seat_count_of};
 ghost use Rattle.rules.specs.Shape.{sound};

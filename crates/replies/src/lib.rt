@@ -1,4 +1,6 @@
 // A reply as numbers: for callers that print it or hand it on as such.
+#![tactic(auto)]
+
 ghost use Rattle.std.specs.Prelude.{◌≡◌};
 ghost use Rattle.replies.specs.Codes.{said_plainly, said_of};
 

@@ -1,6 +1,8 @@
 // The board on a lent list of rows: a thin function over `holders`, which counts, reads each row and knows what they cover. Refusals are
 // known before the first row is stored. Rows are written from the last holder's to the first, so that a cursor over the seats looks at each
 // seat once.
+#![tactic(auto)]
+
 ghost use Rattle.std.specs.Prelude.{◌≡◌, true};
 ghost use Rattle.rules.specs.Tables.{tables};
 ghost use Rattle.rules.specs.Shape.{sound};

@@ -1,4 +1,5 @@
 // What the calls give back by value where it is more than a number. The rules themselves stand in specs/.
+#![tactic(auto)]
 
 // A row of the board: a holding seat, its claim's first frame, the frame after its last, and its kind.
 #[derive(Drop)]

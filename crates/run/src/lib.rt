@@ -1,4 +1,6 @@
 // Run: a lent list of seat numbers, stepped in order within a budget.
+#![tactic(auto)]
+
 ghost use Rattle.std.specs.Prelude.{◌≡◌, true, [], ◌≤◌};
 ghost use Rattle.rules.specs.Tables.{tables};
 ghost use Rattle.rules.specs.Shape.{nodes_fit, sound};

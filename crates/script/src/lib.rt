@@ -1,4 +1,6 @@
 // Reading a script: a call of the library, proved for every string of bytes.
+#![tactic(auto)]
+
 ghost use Rattle.std.specs.Prelude.{◌≡◌, ◌≤◌};
 ghost use Rattle.rules.specs.Script.{byte_at, digits_from, number_at, field_at, reserve_line, seat_line, body_at, in_bounds, contents_of, no_line, no_lines, bad_at, bodies_from, read_script};
 ghost use Rattle.rules.specs.Script.{line_end as Script·lineEnd, nowhere as Script·nowhere};

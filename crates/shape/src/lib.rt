@@ -1,5 +1,7 @@
 // The test for damage: sound shape, in one pass over each table. Lengths are tested first, so that every word of a node or seat is there.
 // Nodes are read in the part of their table from node 1 on, where no place hangs on how many words stand before it.
+#![tactic(auto)]
+
 ghost use Rattle.std.specs.Prelude.{◌≡◌, ◌<◌, ◌≤◌, true, [], ◌≢◌};
 ghost use Rattle.rules.specs.Notation.{◌is◌};
 ghost use Rattle.rules.specs.Tables.{tables, node_count_of, seat_count_of, phase};

@@ -1,6 +1,8 @@
 // The program: plays the script on standard input. It reads, calls and writes; every byte written to standard output comes from
 // `playing::play`. A program here has no exit status, so where it cannot read or write it says so on standard error, and where it cannot
 // read it prints nothing; `./play` makes a status of that.
+#![tactic(auto)]
+
 use libc::{STDERR_FILENO, STDIN_FILENO, STDOUT_FILENO};
 
 fn main() {

@@ -2,6 +2,8 @@
 // does without. A step touches one seat, so each is lent the node table and that seat's own words, and none knows where they stand or how many seats
 // there are: they are a table of the one seat, and its number there is 0. The promise of each is the rule's definition over these two; OwnWords.antt
 // has that it is then the rule over the whole tables. Those that move a count ask that one more or one less is still a count; the others are total.
+#![tactic(auto)]
+
 ghost use Rattle.std.specs.Prelude.{◌≡◌, [], ◌≤◌, ◌<◌};
 ghost use Rattle.rules.specs.Tables.{tables};
 ghost use Rattle.rules.specs.Answers.{waiting as answer·waiting, answer_of};

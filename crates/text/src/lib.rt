@@ -1,4 +1,6 @@
 // Text into a lent buffer, and the lines that the program prints. A byte that finds no room is left out, so every function is total.
+#![tactic(auto)]
+
 ghost use Rattle.std.specs.Prelude.{◌≡◌, ◌+◌, ◌≤◌, [], ◌∷◌, ◌++◌, length};
 ghost use Rattle.rules.specs.Answers.{wait};
 ghost use Rattle.rules.specs.Play.{ascii, decimal, answer_text, row_text};

@@ -1,6 +1,8 @@
 // The words of the two tables: the only code that knows where a word stands. Each read and each store is total, as its definition is:
 // a read past the end is 0, a store past the end does nothing, and node 0 has only zeros but for its link, the head. `sheet` is the tables' profile:
 // of all code these functions alone look at it for where a word stands, and they choose a number by it and never a way.
+#![tactic(auto)]
+
 ghost use Rattle.std.specs.Prelude.{◌≡◌, length, get_or, set, drop, false, [], ◌+◌, ◌-◌, ◌*◌, ◌<◌, ◌≤◌};
 ghost use Rattle.rules.specs.Tables as table;
 ghost use Rattle.rules.specs.Tables.{tables, title_at, put_top, count_at, before_nodes, node_width, seat_width, node_word, put_node, link_word, put_link, count_word, set_count, seat_word, put_seat, clear_words, node_count_of, seat_count_of, zeros};

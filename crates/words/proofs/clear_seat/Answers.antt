@@ -1,0 +1,18 @@
+-- `words::clear_seat` meets its promise.
+use lib.ListN.{length}
+use Prim.Native.Nat.{◌-◌, ◌≤◌}
+use mathlib.Core.Path.{◌≡◌, refl}
+use native.Mathlib.Omega.{arith}
+use borrow.Author.Rules.{rules}
+use Rattle.rules.specs.Tables.{clear_words}
+use Rattle.words.proofs.Places.{clear_none, clear_more, clear_all}
+use Rattle.words.proofs.clear_seat.Goals as goal
+
+pub loop-at-init : goal.loop-at-init
+loop-at-init c = (omega arith, refl, clear_none _ _ _)
+
+pub loop-at-preserved : goal.loop-at-preserved
+loop-at-preserved c = (omega arith, search rules, search clear_more)
+
+pub returns : goal.returns
+returns c = search clear_all

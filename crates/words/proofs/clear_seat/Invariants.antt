@@ -1,0 +1,15 @@
+-- `words::clear_seat` meets its promise.
+use lib.ListN.{length}
+use Prim.Native.Nat.{◌-◌, ◌≤◌}
+use mathlib.Core.Path.{◌≡◌, refl}
+use native.Mathlib.Omega.{arith}
+use borrow.Author.Rules.{rules}
+use Rattle.rules.specs.Tables.{clear_words}
+use Rattle.words.proofs.Places.{clear_none, clear_more, clear_all}
+use Rattle.words.proofs.clear_seat.Given as goal
+
+abbrev pub invariant-loop-at : goal.invariant-loop-at
+invariant-loop-at l = (l.at ≤ l.width) × (length l.seat ≡ length l.initial.seat) × (l.seat ≡ clear_words l.sheet l.at l.initial.seat 0)
+
+abbrev pub decreases-loop-at : goal.decreases-loop-at
+decreases-loop-at l = l.width - l.at

@@ -1,0 +1,7 @@
+-- `words::from_first_node` meets its promise.
+use Rattle.words.proofs.Places.{to_the_end}
+use borrow.Author.Rules.{rules}
+use Rattle.words.proofs.from_first_node.Goals as goal
+
+pub returns : goal.returns
+returns c = search to_the_end

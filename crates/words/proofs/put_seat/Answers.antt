@@ -1,0 +1,13 @@
+-- `words::put_seat` meets its promise.
+use Rattle.words.proofs.Places.{store_seat, place_there}
+use borrow.Author.Rules.{rules}
+use Rattle.words.proofs.put_seat.Goals as goal
+
+pub bounds-seats-seat_place : goal.bounds-seats-seat_place
+bounds-seats-seat_place c = search place_there
+
+pub returns-then-s-seat_count : goal.returns-then-s-seat_count
+returns-then-s-seat_count c = search store_seat
+
+pub returns : goal.returns
+returns c = search store_seat

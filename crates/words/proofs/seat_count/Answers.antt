@@ -1,0 +1,7 @@
+-- `words::seat_count` meets its promise.
+use borrow.Author.Rules.{rules}
+use Rattle.words.proofs.Places.{seat_count_is}
+use Rattle.words.proofs.seat_count.Goals as goal
+
+pub returns : goal.returns
+returns c = search seat_count_is
