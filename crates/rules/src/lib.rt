@@ -2,7 +2,7 @@
 #![tactic(auto)]
 
 // A row of the board: a holding seat, its claim's first frame, the frame after its last, and its kind.
-#[derive(Drop)]
+#[derive(Clone, Copy)]
 pub struct Row {
     pub seat: u32,
     pub first: u32,
@@ -11,7 +11,7 @@ pub struct Row {
 }
 
 // A line of a script: its code (v 1, s 2, r 3, e 4) and four numbers.
-#[derive(Drop)]
+#[derive(Clone, Copy)]
 pub struct Line {
     pub code: u32,
     pub seat: u32,
@@ -33,21 +33,21 @@ pub struct Script {
 }
 
 // While a script is read: a number and the place after it.
-#[derive(Drop)]
+#[derive(Clone, Copy)]
 pub struct Found {
     pub value: u32,
     pub next: usize,
 }
 
 // A line and the place after it, or one past the end of the script where the line is wrong.
-#[derive(Drop)]
+#[derive(Clone, Copy)]
 pub struct Body {
     pub line: Line,
     pub next: usize,
 }
 
 // The numbers of line 1 and the place after it, or one past the end of the script where the line is wrong.
-#[derive(Drop)]
+#[derive(Clone, Copy)]
 pub struct Contents {
     pub n: u32,
     pub s: u32,
@@ -57,14 +57,14 @@ pub struct Contents {
 }
 
 // What two claims share: the first shared frame, and the frame after the last.
-#[derive(Drop)]
+#[derive(Clone, Copy)]
 pub struct SharedRun {
     pub first: u32,
     pub end: u32,
 }
 
 // What reserve, enter, step and release answer. A wait has the node waited at, and the first frame and the end of the shared run.
-#[derive(Drop)]
+#[derive(Clone, Copy)]
 pub enum Reply {
     Node(u32),
     Out,
@@ -76,21 +76,21 @@ pub enum Reply {
 }
 
 // What free count answers: the number of free nodes.
-#[derive(Drop)]
+#[derive(Clone, Copy)]
 pub enum CountReply {
     Count(u32),
     Refused(u32),
 }
 
 // What the board answers: the row count and the covered frames.
-#[derive(Drop)]
+#[derive(Clone, Copy)]
 pub enum BoardReply {
     Rows(u32, u64),
     Refused(u32),
 }
 
 // What run answers: the steps accepted, and the refusal met or 0.
-#[derive(Drop)]
+#[derive(Clone, Copy)]
 pub struct Ran {
     pub steps: u32,
     pub refusal: u32,
@@ -98,7 +98,7 @@ pub struct Ran {
 
 // What import and export answer: the refusal or 0, and the place from 0 of the record that is refused.
 #[repr(C)]
-#[derive(Drop)]
+#[derive(Clone, Copy)]
 pub struct Moved {
     pub refusal: u32,
     pub place: usize,

@@ -1,0 +1,14 @@
+-- `covering::covered` meets its promise. The measure is the number of runs left.
+use borrow.Author.Rules.{rules}
+use Rattle.covering.proofs.Sweeping.{Swept, swept_none, swept_more, swept_all}
+use Prim.Native.Nat.{◌-◌}
+use Rattle.covering.proofs.covered.Goals as goal
+
+pub loop-i-init : goal.loop-i-init
+loop-i-init c = swept_none _ _ _
+
+pub loop-i-preserved : goal.loop-i-preserved
+loop-i-preserved c = search swept_more
+
+pub returns : goal.returns
+returns c = search swept_all

@@ -1,0 +1,17 @@
+-- `nodesets::lowest` meets its promise.
+use borrow.Author.Rules.{rules}
+use Rattle.nodesets.proofs.Set.{Clear, clear_start, clear_more, lowest_found, lowest_clear}
+use Prim.Native.Nat.{◌≤◌, ◌-◌}
+use Rattle.nodesets.proofs.lowest.Goals as goal
+
+pub loop-i-init : goal.loop-i-init
+loop-i-init c = (search rules, clear_start _)
+
+pub returns-then-word-ne0 : goal.returns-then-word-ne0
+returns-then-word-ne0 c = search lowest_found
+
+pub loop-i-preserved : goal.loop-i-preserved
+loop-i-preserved c = (search rules, search clear_more)
+
+pub returns : goal.returns
+returns c = search lowest_clear

@@ -1,0 +1,16 @@
+-- `nodesets::outside` meets its promise.
+use borrow.Author.Rules.{rules}
+use Rattle.nodesets.proofs.Set.{OutsideTo, outside_start, outside_more, outside_done}
+use lib.ListN.{length}
+use mathlib.Core.Path.{◌≡◌}
+use Prim.Native.Nat.{◌≤◌, ◌-◌}
+use Rattle.nodesets.proofs.outside.Goals as goal
+
+pub loop-i-init : goal.loop-i-init
+loop-i-init c = (search rules, search rules, outside_start _ _ _)
+
+pub loop-i-preserved : goal.loop-i-preserved
+loop-i-preserved c = (search rules, search rules, search (outside_more, c.word_outside.ensures))
+
+pub returns : goal.returns
+returns c = search outside_done

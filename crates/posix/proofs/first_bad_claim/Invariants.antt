@@ -1,0 +1,18 @@
+-- `posix::first_bad_claim` meets its promise.
+use Rattle.posix.proofs.Calls.{no_claim_yet}
+use Rattle.posix.proofs.Lists.{LookedAt, looked_on, looked_bad, looked_at_all}
+use Rattle.posix.specs.Records.{claim_at, verdict}
+use Rattle.rules.proofs.Laws.Locks.{export_never_0}
+use Rattle.rules.specs.Locks.{export_claim, each, claims_in}
+use lib.ListN.{length}
+use Prim.Native.Nat.{◌-◌, ◌≤◌, ◌/◌}
+use mathlib.Core.Path.{◌≡◌, refl}
+use borrow.Author.Rules.{rules}
+use native.Mathlib.Omega.{arith}
+use Rattle.posix.proofs.first_bad_claim.Given as goal
+
+abbrev pub invariant-loop-place : goal.invariant-loop-place
+invariant-loop-place l = (l.place ≤ l.count) × (l.count ≡ length l.claims / 3) × LookedAt (export_claim l.title) (claim_at l.claims) (verdict (each (export_claim l.title) (claims_in l.claims))) l.count l.place
+
+abbrev pub decreases-loop-place : goal.decreases-loop-place
+decreases-loop-place l = l.count - l.place

@@ -1,0 +1,16 @@
+-- `script::bodies` meets its contract. The loop's invariant: what is still to be read, from the place reached and with the rows so
+-- far, gives the whole. The measure is the number of bodies left.
+use Rattle.script.proofs.Reading.{bodies_start, bodies_again, bodies_wrong, bodies_extra, bodies_done}
+use native.Mathlib.Omega.{arith}
+use borrow.Author.Rules.{rules}
+use Rattle.rules.specs.Script.{bodies_from, no_lines}
+use mathlib.Core.Path.{◌≡◌, refl}
+use Prim.Native.Nat.{◌≤◌, ◌-◌}
+use lib.ListN.{length}
+use Rattle.script.proofs.bodies.Given as goal
+
+abbrev pub invariant-loop-i : goal.invariant-loop-i
+invariant-loop-i l = (l.i ≤ l.top.k) × (length l.rows ≡ 1000) × (bodies_from l.src l.top (l.top.k - l.i) l.i l.at l.rows ≡ bodies_from l.src l.top l.top.k 0 l.top.next no_lines)
+
+abbrev pub decreases-loop-i : goal.decreases-loop-i
+decreases-loop-i l = l.top.k - l.i

@@ -1,0 +1,13 @@
+-- `shape::held_kind` meets its promise.
+use Rattle.shape.proofs.Counted.{holder_none, holder_some, holder_in, holder_kind}
+use Rattle.std.proofs.Common.{rules}
+use Rattle.shape.proofs.held_kind.Goals as goal
+
+pub part_word-requires : goal.part_word-requires
+part_word-requires c = record { fact = search holder_some; a_bound = search holder_in; field_lt_node_width = search rules }
+
+pub returns-then-holds : goal.returns-then-holds
+returns-then-holds c = search holder_kind
+
+pub returns : goal.returns
+returns c = search holder_none

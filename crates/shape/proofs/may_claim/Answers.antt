@@ -1,0 +1,10 @@
+-- `shape::may_claim` meets its promise.
+use Rattle.shape.proofs.Tests.{least_small, may_claim_is}
+use Rattle.std.proofs.Common.{rules}
+use Rattle.shape.proofs.may_claim.Goals as goal
+
+pub overflow_sub-result : goal.overflow_sub-result
+overflow_sub-result c = search least_small
+
+pub returns : goal.returns
+returns c = search may_claim_is

@@ -1,0 +1,13 @@
+-- `shape::names_node` meets its promise.
+use Rattle.shape.proofs.Tests.{names_zero, names_past, names_kind}
+use Rattle.std.proofs.Common.{rules}
+use Rattle.shape.proofs.names_node.Goals as goal
+
+pub returns-then-a-eq0 : goal.returns-then-a-eq0
+returns-then-a-eq0 c = search names_zero
+
+pub returns-then-n-a : goal.returns-then-n-a
+returns-then-n-a c = search names_past
+
+pub returns : goal.returns
+returns c = search names_kind

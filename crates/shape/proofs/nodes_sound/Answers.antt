@@ -1,0 +1,17 @@
+-- `shape::nodes_sound` meets its promise.
+use Rattle.std.proofs.Common.{◌≡◌, ◌+◌, ◌-◌, ◌≤◌, true, refl, arith, rules}
+use Rattle.words.specs.Parts.{with_zeros}
+use Rattle.shape.proofs.Tests.{nodes_below, nodes_none, nodes_more, nodes_fail, nodes_all}
+use Rattle.shape.proofs.nodes_sound.Goals as goal
+
+pub loop-i-init : goal.loop-i-init
+loop-i-init c = (omega arith, nodes_none _ _ _)
+
+pub loop-i-preserved : goal.loop-i-preserved
+loop-i-preserved c = (omega arith, search nodes_more)
+
+pub returns-else-node_sound : goal.returns-else-node_sound
+returns-else-node_sound c = search nodes_fail
+
+pub returns : goal.returns
+returns c = search nodes_all

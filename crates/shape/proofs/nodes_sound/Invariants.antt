@@ -1,0 +1,11 @@
+-- `shape::nodes_sound` meets its promise.
+use Rattle.std.proofs.Common.{◌≡◌, ◌+◌, ◌-◌, ◌≤◌, true, refl, arith, rules}
+use Rattle.words.specs.Parts.{with_zeros}
+use Rattle.shape.proofs.Tests.{nodes_below, nodes_none, nodes_more, nodes_fail, nodes_all}
+use Rattle.shape.proofs.nodes_sound.Given as goal
+
+abbrev pub invariant-loop-i : goal.invariant-loop-i
+invariant-loop-i l = (l.i ≤ l.n) × (nodes_below l.sheet (with_zeros l.sheet l.part) l.title l.i ≡ true)
+
+abbrev pub decreases-loop-i : goal.decreases-loop-i
+decreases-loop-i l = l.n - l.i

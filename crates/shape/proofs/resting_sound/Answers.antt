@@ -1,0 +1,10 @@
+-- `shape::resting_sound` meets its promise.
+use Rattle.shape.proofs.Tests.{rests_not, rests}
+use Rattle.std.proofs.Common.{rules}
+use Rattle.shape.proofs.resting_sound.Goals as goal
+
+pub returns-then-own-prev : goal.returns-then-own-prev
+returns-then-own-prev c = search rests_not
+
+pub returns : goal.returns
+returns c = search rests

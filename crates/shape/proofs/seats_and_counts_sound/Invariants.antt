@@ -1,0 +1,11 @@
+-- `shape::seats_and_counts_sound` meets its promise.
+use Rattle.std.proofs.Common.{◌-◌, ◌≤◌, arith, rules}
+use Rattle.words.specs.Parts.{with_zeros}
+use Rattle.shape.proofs.Counted.{Counted, counted_none, counted_reader, counted_writer, counted_other, seat_fits, seat_fails, all_counted}
+use Rattle.shape.proofs.seats_and_counts_sound.Given as goal
+
+abbrev pub invariant-loop-s : goal.invariant-loop-s
+invariant-loop-s l = (l.s ≤ l.count) × (l.reading ≤ l.s) × (l.writing ≤ l.s) × Counted l.sheet (with_zeros l.sheet l.part) l.seats l.s l.reading l.writing
+
+abbrev pub decreases-loop-s : goal.decreases-loop-s
+decreases-loop-s l = l.count - l.s
