@@ -1,0 +1,20 @@
+-- `holders::count` meets its promise.
+use Rattle.holders.specs.Holding.{holding}
+use Prim.Native.Nat.{◌-◌, ◌≤◌}
+use mathlib.Core.Path.{◌≡◌}
+use native.Mathlib.Omega.{arith}
+use borrow.Author.Rules.{rules}
+use Rattle.holders.proofs.Rows.{holding_none, holding_more, holding_same, holding_done}
+use Rattle.holders.proofs.count.Goals as goal
+
+pub loop-s-init : goal.loop-s-init
+loop-s-init c = (omega arith, omega arith, holding_none _ _)
+
+pub loop-s-preserved-then-seat_word_within-eq5 : goal.loop-s-preserved-then-seat_word_within-eq5
+loop-s-preserved-then-seat_word_within-eq5 c = (omega arith, omega arith, search holding_more)
+
+pub loop-s-preserved : goal.loop-s-preserved
+loop-s-preserved c = (omega arith, omega arith, search holding_same)
+
+pub returns : goal.returns
+returns c = search holding_done

@@ -1,0 +1,14 @@
+-- `holders::count` meets its promise.
+use Rattle.holders.specs.Holding.{holding}
+use Prim.Native.Nat.{◌-◌, ◌≤◌}
+use mathlib.Core.Path.{◌≡◌}
+use native.Mathlib.Omega.{arith}
+use borrow.Author.Rules.{rules}
+use Rattle.holders.proofs.Rows.{holding_none, holding_more, holding_same, holding_done}
+use Rattle.holders.proofs.count.Given as goal
+
+abbrev pub invariant-loop-s : goal.invariant-loop-s
+invariant-loop-s l = (l.s ≤ l.below) × (l.found ≤ l.s) × (l.found ≡ holding l.sheet l.seats l.s)
+
+abbrev pub decreases-loop-s : goal.decreases-loop-s
+decreases-loop-s l = l.below - l.s

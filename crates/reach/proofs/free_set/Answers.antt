@@ -1,0 +1,10 @@
+-- `reach::free_set` meets its promise.
+use Rattle.reach.proofs.Ways.{links_within, head_within, some_hops, free_now}
+use borrow.Author.Rules.{rules}
+use Rattle.reach.proofs.free_set.Goals as goal
+
+pub reach-requires : goal.reach-requires
+reach-requires c = search (links_within, head_within, some_hops)
+
+pub returns : goal.returns
+returns c = search (free_now, c.outside.ensures)

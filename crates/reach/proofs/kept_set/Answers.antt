@@ -1,0 +1,30 @@
+-- `reach::kept_set` meets its promise.
+use borrow.Author.Rules.{rules}
+use Rattle.reach.proofs.Ways.{kept_start, kept_ended, kept_spent, kept_skip, kept_join, node_within, next_small}
+use native.Mathlib.Omega.{arith}
+use Rattle.reach.specs.Walks.{add_all}
+use Rattle.nodesets.specs.Set.{none}
+use Rattle.rules.specs.Fetch.{kept_from, kept}
+use Rattle.rules.specs.Tables.{tables, node_count_of}
+use Prim.Native.Nat.{◌≤◌}
+use mathlib.Core.List.{[]}
+use mathlib.Core.Path.{◌≡◌}
+use Rattle.reach.proofs.kept_set.Goals as goal
+
+pub loop-left-init : goal.loop-left-init
+loop-left-init c = (search next_small, search kept_start)
+
+pub returns-then-cur-eq0 : goal.returns-then-cur-eq0
+returns-then-cur-eq0 c = search kept_ended
+
+pub loop-left-preserved-then-node_word_within-eq1 : goal.loop-left-preserved-then-node_word_within-eq1
+loop-left-preserved-then-node_word_within-eq1 c = (search next_small, search kept_skip)
+
+pub join-requires : goal.join-requires
+join-requires c = search node_within
+
+pub loop-left-preserved : goal.loop-left-preserved
+loop-left-preserved c = (search next_small, search kept_join)
+
+pub returns : goal.returns
+returns c = search kept_spent

@@ -1,0 +1,18 @@
+-- `reach::kept_set` meets its promise.
+use borrow.Author.Rules.{rules}
+use Rattle.reach.proofs.Ways.{kept_start, kept_ended, kept_spent, kept_skip, kept_join, node_within, next_small}
+use native.Mathlib.Omega.{arith}
+use Rattle.reach.specs.Walks.{add_all}
+use Rattle.nodesets.specs.Set.{none}
+use Rattle.rules.specs.Fetch.{kept_from, kept}
+use Rattle.rules.specs.Tables.{tables, node_count_of}
+use Prim.Native.Nat.{◌≤◌}
+use mathlib.Core.List.{[]}
+use mathlib.Core.Path.{◌≡◌}
+use Rattle.reach.proofs.kept_set.Given as goal
+
+abbrev pub invariant-loop-left : goal.invariant-loop-left
+invariant-loop-left l = (l.cur ≤ node_count_of l.sheet l.nodes) × (add_all l.ws (kept_from l.left (tables l.sheet l.nodes []) l.cur) ≡ add_all none (kept (tables l.sheet l.nodes [])))
+
+abbrev pub decreases-loop-left : goal.decreases-loop-left
+decreases-loop-left l = l.left

@@ -1,0 +1,15 @@
+-- `reach::reach_others` meets its promise.
+use borrow.Author.Rules.{rules}
+use Rattle.reach.proofs.Ways.{some_hops, seat_within, seats_fit_law, few_seats, seats_start, seats_pass, seats_join, seats_done}
+use Rattle.reach.specs.Walks.{reach_seats}
+use native.Mathlib.Omega.{arith}
+use Rattle.rules.specs.Tables.{tables}
+use mathlib.Core.Path.{◌≡◌}
+use Prim.Native.Nat.{◌≤◌, ◌-◌}
+use Rattle.reach.proofs.reach_others.Given as goal
+
+abbrev pub invariant-loop-r : goal.invariant-loop-r
+invariant-loop-r l = (l.count ≤ 64) × (l.r ≤ l.count) × (l.ws ≡ reach_seats l.hops (tables l.sheet l.nodes l.seats) l.s l.initial.ws l.r)
+
+abbrev pub decreases-loop-r : goal.decreases-loop-r
+decreases-loop-r l = l.count - l.r

@@ -1,0 +1,10 @@
+-- `steps::start_validating` meets its promise.
+use Rattle.steps.proofs.Arms.{start_reader, start_writer}
+use borrow.Author.Rules.{rules}
+use Rattle.steps.proofs.start_validating.Goals as goal
+
+pub returns-then-node_word-eq1 : goal.returns-then-node_word-eq1
+returns-then-node_word-eq1 c = search start_reader
+
+pub returns : goal.returns
+returns c = search start_writer

@@ -1,0 +1,7 @@
+-- `steps::waiting` meets its promise.
+use Rattle.steps.proofs.Arms.{waiting_is}
+use borrow.Author.Rules.{rules}
+use Rattle.steps.proofs.waiting.Goals as goal
+
+pub returns : goal.returns
+returns c = search waiting_is

@@ -1,0 +1,10 @@
+-- `steps::wake` meets its promise.
+use Rattle.steps.proofs.Arms.{wake_up, wake_not}
+use borrow.Author.Rules.{rules}
+use Rattle.steps.proofs.wake.Goals as goal
+
+pub returns-then-node_word-eq1 : goal.returns-then-node_word-eq1
+returns-then-node_word-eq1 c = search wake_up
+
+pub returns-else-node_word-eq1 : goal.returns-else-node_word-eq1
+returns-else-node_word-eq1 c = search wake_not

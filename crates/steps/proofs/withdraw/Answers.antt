@@ -1,0 +1,7 @@
+-- `steps::withdraw` meets its promise.
+use Rattle.steps.proofs.Arms.{withdraw_is}
+use borrow.Author.Rules.{rules}
+use Rattle.steps.proofs.withdraw.Goals as goal
+
+pub returns : goal.returns
+returns c = search withdraw_is
