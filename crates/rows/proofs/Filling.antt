@@ -212,6 +212,21 @@ module _ (t : Tables) (lent : List Row) (r : BoardReply) where
               record { tables_sound = left_sound; as_many = omega arith };
         }
 
+  -- a turn of the loop, where some row is left
+  module _ (left_over seat : ℕ) (out : List Row) (left : Left left_over seat out) (some : 0 < left_over) where
+    one_left : Left (suc (left_over - 1)) seat out
+    one_left = let e : suc (left_over - 1) ≡ left_over = omega arith in rw e left
+
+    pub turn_holds : Holds t (last_below t.sheet t.seats seat)
+    turn_holds = left_holds (left_over - 1) seat out one_left
+
+    pub turn_sound : sound t ≡ true
+    turn_sound = left_sound (left_over - 1) seat out one_left
+
+    pub turn_less : (row : Row) → row ≡ last_row t seat → Left (left_over - 1) row.seat (set out (left_over - 1) row)
+    unfolding last_row
+    turn_less row e = rw e (left_less (left_over - 1) seat out one_left)
+
   module _ (is_answer : means_board r ≡ answer_for t (length lent)) where
     is_answered : Answered t lent (means_board r)
     is_answered = rw is_answer (answered t lent)
@@ -222,3 +237,6 @@ module _ (t : Tables) (lent : List Row) (r : BoardReply) where
     pub left_none : (seat : ℕ) (out : List Row) → Left 0 seat out → shown (means_board r) out ≡ board t lent
     unfolding fill_down
     left_none seat out left = rw left.rest is_answered.board_is
+
+    pub left_over_none : (left_over seat : ℕ) (out : List Row) → Left left_over seat out → left_over ≤ 0 → shown (means_board r) out ≡ board t lent
+    left_over_none left_over seat out left none = let e : left_over ≡ 0 = omega arith in left_none seat out (rw e at left)

@@ -1,0 +1,22 @@
+-- `board::fill` meets its promise.
+use Rattle.rules.specs.Tables.{tables}
+use lib.ListN.{length}
+use Prim.Native.Nat.{◌-◌, ◌≤◌}
+use mathlib.Core.Path.{◌≡◌, refl}
+use native.Mathlib.Omega.{arith}
+use borrow.Author.Rules.{rules}
+use Rattle.board.specs.Filling.{filled, fill_below}
+use Rattle.board.proofs.Rows.{fill_start, fill_counted, fill_small, fill_fits, fill_again, fill_done}
+use Rattle.board.proofs.fill.Goals as goal
+
+pub loop-s-init : goal.loop-s-init
+loop-s-init c = (omega arith, refl, fill_start _ _)
+
+pub fill_seat-rows-requires : goal.fill_seat-rows-requires
+fill_seat-rows-requires c = record { seats_value = search rules; s_bound = omega arith; rows_le_s = search fill_small; rows_value = search fill_counted; seats_in_bounds = search fill_fits }
+
+pub loop-s-preserved : goal.loop-s-preserved
+loop-s-preserved c = (omega arith, search rules, search fill_again)
+
+pub returns : goal.returns
+returns c = search fill_done

@@ -1,0 +1,16 @@
+-- `board::fill` meets its promise.
+use Rattle.rules.specs.Tables.{tables}
+use lib.ListN.{length}
+use Prim.Native.Nat.{◌-◌, ◌≤◌}
+use mathlib.Core.Path.{◌≡◌, refl}
+use native.Mathlib.Omega.{arith}
+use borrow.Author.Rules.{rules}
+use Rattle.board.specs.Filling.{filled, fill_below}
+use Rattle.board.proofs.Rows.{fill_start, fill_counted, fill_small, fill_fits, fill_again, fill_done}
+use Rattle.board.proofs.fill.Given as goal
+
+abbrev pub invariant-loop-s : goal.invariant-loop-s
+invariant-loop-s l = (l.s ≤ l.count) × (length l.out ≡ length l.initial.out) × (filled l.rows l.out ≡ fill_below l.s (tables l.sheet l.nodes l.seats) l.initial.out)
+
+abbrev pub decreases-loop-s : goal.decreases-loop-s
+decreases-loop-s l = l.count - l.s

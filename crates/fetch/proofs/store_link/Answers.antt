@@ -1,0 +1,9 @@
+-- `fetch::store_link` meets its promise.
+use borrow.Author.Rules.{rules}
+use Rattle.fetch.proofs.Taking.{first_stored}
+use Rattle.fetch.proofs.store_link.Goals as goal
+
+pub returns : goal.returns
+returns c =
+    let z = first_stored _ _ _ _ _ c.put_link.ensures c.requires.list_ends c.requires.nodes_value in
+    record { stored = z.0; left = z.1 }

@@ -1,0 +1,7 @@
+
+use Rattle.fetch.proofs.Ways.{taken}
+use borrow.Author.Rules.{rules}
+use Rattle.fetch.proofs.take_node.Goals as goal
+
+pub returns : goal.returns
+returns c = search taken

@@ -1,0 +1,71 @@
+-- `fetch::take_out` meets its promise: each turn of its loop takes the walk on by one of the ways of Taking.
+use borrow.Author.Rules.{rules}
+use Rattle.fetch.proofs.Taking.{Taking, taking_start, taking_left, taking_less, read_skip, read_on_law, read_stored, read_next, read_last, read_ended, read_end}
+use Rattle.rules.specs.Fetch.{taken_out}
+use Rattle.rules.specs.Tables.{tables}
+use native.Mathlib.Omega.{arith}
+use lib.ListN.{length}
+use mathlib.Core.List.{[]}
+use mathlib.Core.Path.{◌≡◌, refl, ap, ◌∙◌}
+use Rattle.fetch.proofs.take_out.Goals as goal
+use Rattle.fetch.proofs.take_out.Goals.{then-link-cur, else-link-cur}
+
+pub loop-cur-init : goal.loop-cur-init
+loop-cur-init c = (refl, search taking_start)
+
+pub next_within-next-requires : goal.next_within-next-requires
+next_within-next-requires c = record { fact = c.loop-cur-test.true; a_bound = c.loop-cur.invariant.1.inside }
+
+pub node_word_within-requires : goal.node_word_within-requires
+node_word_within-requires c = record { fact = c.loop-cur-test.true; a_bound = c.loop-cur.invariant.1.inside; field_lt_node_width = omega arith }
+
+pub overflow_sub-left : goal.overflow_sub-left
+overflow_sub-left c = search taking_left
+
+pub loop-cur-smaller-then-node_word_within-eq1 : goal.loop-cur-smaller-then-node_word_within-eq1
+loop-cur-smaller-then-node_word_within-eq1 c = search taking_less
+
+pub loop-cur-preserved-then-node_word_within-eq1 : goal.loop-cur-preserved-then-node_word_within-eq1
+loop-cur-preserved-then-node_word_within-eq1 c =
+    (search rules, read_skip c.loop-cur.invariant.1 c.loop-cur-test.true c.next_within-next.ensures c.node_word_within.ensures c.if-node_word_within-eq1.true)
+
+pub store_link-requires : goal.store_link-requires
+store_link-requires c =
+    let z = read_next c.loop-cur.invariant.1 c.loop-cur-test.true c.next_within-next.ensures c.node_word_within.ensures c.if-node_word_within-eq1.false c.if-link-cur.true in
+    record { list_ends = z.0; nodes_value = z.1 }
+
+pub overflow_sub-left-else-node_word_within-eq1 : goal.overflow_sub-left-else-node_word_within-eq1
+overflow_sub-left-else-node_word_within-eq1 c = search taking_left
+
+pub loop-cur-smaller : goal.loop-cur-smaller
+loop-cur-smaller c = search taking_less
+
+pub loop-cur-preserved : goal.loop-cur-preserved
+loop-cur-preserved c =
+    let came = c.loop-cur.invariant in
+    elim c.if-link-cur.branch [
+      | then-link-cur w ↦ (
+        ap length w.nodes-is ∙ (search rules),
+        read_stored came.1 c.loop-cur-test.true c.next_within-next.ensures c.node_word_within.ensures c.if-node_word_within-eq1.false w.if-link-cur.true
+            (w.nodes-is ∙ w.store_link.ensures.stored),
+      )
+      | else-link-cur w ↦ (
+        ap length w.nodes-is ∙ came.0,
+        read_on_law came.1 c.loop-cur-test.true c.next_within-next.ensures c.node_word_within.ensures c.if-node_word_within-eq1.false w.if-link-cur.false w.nodes-is,
+      )
+    ]
+
+pub store_link-requires-then-link-ne0 : goal.store_link-requires-then-link-ne0
+store_link-requires-then-link-ne0 c =
+    let z = read_last c.loop-cur.invariant.1 c.loop-cur-test.false c.if-link-ne0.true in
+    record { list_ends = z.0; nodes_value = z.1 }
+
+pub returns-then-link-ne0 : goal.returns-then-link-ne0
+returns-then-link-ne0 c =
+    let z = read_end c.loop-cur.invariant.1 c.loop-cur-test.false c.if-link-ne0.true c.store_link-then-link-ne0.ensures.stored c.store_link-then-link-ne0.ensures.left in
+    record { out = z.0; none_left = z.1 }
+
+pub returns-else-link-ne0 : goal.returns-else-link-ne0
+returns-else-link-ne0 c =
+    let z = read_ended c.loop-cur.invariant.1 c.loop-cur-test.false c.if-link-ne0.false in
+    record { out = z.0; none_left = z.1 }

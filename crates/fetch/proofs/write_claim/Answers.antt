@@ -1,0 +1,8 @@
+
+use Rattle.rules.specs.Fetch.{write_claim}
+use borrow.Author.Rules.{rules}
+use Rattle.fetch.proofs.write_claim.Goals as goal
+
+pub returns : goal.returns
+unfolding write_claim
+returns c = cc

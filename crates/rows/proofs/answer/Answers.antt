@@ -1,0 +1,11 @@
+-- `rows::answer` meets its promise.
+use Rattle.shape.proofs.Tests.{now_sound}
+use Rattle.rows.proofs.Filling.{answer_damaged}
+use borrow.Author.Rules.{rules}
+use Rattle.rows.proofs.answer.Goals as goal
+
+pub answer_sound-requires : goal.answer_sound-requires
+answer_sound-requires c = search now_sound
+
+pub returns : goal.returns
+returns c = search answer_damaged

@@ -1,0 +1,19 @@
+-- `rows::last_holder` meets its promise.
+use Rattle.rows.proofs.Filling.{last_found, last_again, last_none}
+use Rattle.rows.specs.Filling.{last_below}
+use borrow.Author.Rules.{rules}
+use mathlib.Core.Path.{◌≡◌, refl}
+use native.Mathlib.Omega.{arith}
+use Rattle.rows.proofs.last_holder.Goals as goal
+
+pub loop-s-init : goal.loop-s-init
+loop-s-init c = refl
+
+pub returns-then-seat_word-eq5 : goal.returns-then-seat_word-eq5
+returns-then-seat_word-eq5 c = search last_found
+
+pub loop-s-preserved : goal.loop-s-preserved
+loop-s-preserved c = search last_again
+
+pub returns : goal.returns
+returns c = search last_none
