@@ -1,0 +1,13 @@
+-- `claims::enter` meets its promise.
+use Rattle.claims.proofs.Ways.{enter_seat_law, enter_past, enter_damaged}
+use borrow.Author.Rules.{rules}
+use Rattle.claims.proofs.enter.Goals as goal
+
+pub returns-then-s-seat_count : goal.returns-then-s-seat_count
+returns-then-s-seat_count c = search enter_seat_law
+
+pub returns-then-is_sound : goal.returns-then-is_sound
+returns-then-is_sound c = search enter_past
+
+pub returns : goal.returns
+returns c = search enter_damaged

@@ -1,0 +1,15 @@
+-- `claims::fill_with_zeros` meets its promise.
+use lib.ListN.{length-set}
+use lib.ListN.{length}
+use Prim.Native.Nat.{◌+◌, ◌-◌, ◌*◌, ◌≤◌}
+use mathlib.Core.Path.{◌≡◌, refl}
+use native.Mathlib.Omega.{arith}
+use borrow.Author.Rules.{rules}
+use Rattle.claims.proofs.Ways.{ZeroBelow, zero_none, zero_more, zero_all}
+use Rattle.claims.proofs.fill_with_zeros.Given as goal
+
+abbrev pub invariant-loop-i : goal.invariant-loop-i
+invariant-loop-i l = (l.i ≤ length l.table) × (length l.table ≡ length l.initial.table) × ZeroBelow l.table l.i
+
+abbrev pub decreases-loop-i : goal.decreases-loop-i
+decreases-loop-i l = length l.table - l.i

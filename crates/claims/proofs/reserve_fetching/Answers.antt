@@ -1,0 +1,14 @@
+-- `claims::reserve_fetching` meets its promise.
+use Rattle.claims.proofs.Ways.{reserve_none, reserve_node}
+use Rattle.fetch.proofs.Ways.{idle_no_prev, idle_no_cur}
+use borrow.Author.Rules.{rules}
+use Rattle.claims.proofs.reserve_fetching.Goals as goal
+
+pub fetch-a-requires : goal.fetch-a-requires
+fetch-a-requires c = search (idle_no_prev, idle_no_cur)
+
+pub returns-then-a-eq0 : goal.returns-then-a-eq0
+returns-then-a-eq0 c = search reserve_none
+
+pub returns : goal.returns
+returns c = search reserve_node

@@ -1,0 +1,10 @@
+-- `playing::play_tables` meets its contract.
+use Rattle.playing.proofs.Whole.{tables_played, played_sound, played_short}
+use borrow.Author.Rules.{rules}
+use Rattle.playing.proofs.play_tables.Goals as goal
+
+pub put_end-requires : goal.put_end-requires
+put_end-requires c = search played_sound
+
+pub returns : goal.returns
+returns c = record { result_after = search tables_played; upper_bound = search played_short }

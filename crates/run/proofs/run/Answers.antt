@@ -1,0 +1,14 @@
+-- `run::run` meets its promise.
+use Rattle.shape.proofs.Tests.{now_sound}
+use Rattle.run.proofs.Counting.{run_sound, run_damaged}
+use borrow.Author.Rules.{rules}
+use Rattle.run.proofs.run.Goals as goal
+
+pub run_steps-requires : goal.run_steps-requires
+run_steps-requires c = search now_sound
+
+pub returns-then-is_sound : goal.returns-then-is_sound
+returns-then-is_sound c = search run_sound
+
+pub returns : goal.returns
+returns c = search run_damaged

@@ -1,0 +1,21 @@
+-- `run::run_steps` meets its promise.
+use Rattle.rules.specs.Run.{run_steps}
+use Rattle.rules.specs.Shape.{sound}
+use Rattle.rules.specs.Tables.{tables}
+use lib.ListN.{length, drop}
+use mathlib.Core.Bool.{true}
+use Prim.Native.Nat.{◌-◌, ◌≤◌}
+use mathlib.Core.Path.{◌≡◌, refl}
+use native.Mathlib.Omega.{arith}
+use Rattle.rules.proofs.Laws.Shape.{seats_few}
+use borrow.Author.Rules.{rules}
+use Rattle.run.proofs.Counting.{plus, seat_there, still_there, left_all, left_again, left_refused, left_past, left_budget, left_end, left_stopped, still_fit, still_sound, now_damaged}
+use Rattle.run.proofs.run_steps.Given as goal
+
+abbrev pub invariant-loop-steps : goal.invariant-loop-steps
+invariant-loop-steps l =
+    (length l.nodes ≡ length l.initial.nodes) × (length l.seats ≡ length l.initial.seats) × (l.steps ≤ l.budget) × (l.steps ≤ length l.schedule) × (sound (tables l.sheet l.nodes l.seats) ≡ true)
+    × (plus l.steps (run_steps (l.budget - l.steps) (tables l.sheet l.nodes l.seats) (drop l.steps l.schedule)) ≡ run_steps l.budget (tables l.sheet l.initial.nodes l.initial.seats) l.schedule)
+
+abbrev pub decreases-loop-steps : goal.decreases-loop-steps
+decreases-loop-steps l = l.budget - l.steps
