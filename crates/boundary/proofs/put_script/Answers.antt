@@ -1,0 +1,8 @@
+-- `boundary::put_script` meets its promise.
+use Rattle.boundary.proofs.Codes.{script_is, script_length}
+use borrow.Author.Rules.{rules}
+use Rattle.boundary.specs.Encoded.{put_top_line}
+use Rattle.boundary.proofs.put_script.Goals as goal
+
+pub returns : goal.returns
+returns c = script_is _ _ _ c.put_lines.ensures

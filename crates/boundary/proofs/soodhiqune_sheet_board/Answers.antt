@@ -1,0 +1,7 @@
+-- `boundary::soodhiqune_sheet_board` meets its promise.
+use Rattle.boundary.proofs.Codes.{board_told_is}
+use borrow.Author.Rules.{rules}
+use Rattle.boundary.proofs.soodhiqune_sheet_board.Goals as goal
+
+pub returns : goal.returns
+returns c = search board_told_is
