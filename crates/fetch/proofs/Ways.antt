@@ -1,12 +1,11 @@
 -- A rule for each way through the code: what a function has learnt on that way gives what it promises.
-use Prim.Native.Nat.{ℕ, ◌+◌, ◌-◌, ◌<◌}
+use Prim.Native.Nat.{ℕ, ◌+◌, ◌<◌}
 use mathlib.Core.Path.{◌≡◌, sym, ap, ◌∙◌}
 use mathlib.Core.Bool.{Bool, true}
 use mathlib.Core.List.{List, []}
 use mathlib.Core.Logic.{◌≢◌}
 use native.Mathlib.Omega.{arith}
 use borrow.Author.Tests.{eq-eqb, ne_eqb}
-use Rattle.rules.specs.Notation.{◌is◌}
 use Rattle.rules.specs.Tables.{Tables, tables, seat_width, phase_at, own_at, prev_at, cur_at, link_word, seat_word, put_seat, node_count_of, node_count, seat_count, phase, prev, cur}
 use Rattle.rules.specs.Comparison.{Claim}
 use Rattle.rules.specs.Shape.{sound}

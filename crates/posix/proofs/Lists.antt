@@ -7,7 +7,7 @@ use native.Mathlib.Omega.{arith}
 use lib.ListN.{length, drop, set, length-append}
 use borrow.Author.Tests.{lt-ltb, le-ltb}
 use Rattle.rules.proofs.Ground.Deciding.{if_same}
-use Rattle.rules.specs.Locks.{Taken, taken, bad, All, all, first_bad, behind, and_then, each, record_width, in_threes, threes, listed, moved, written}
+use Rattle.rules.specs.Locks.{Taken, taken, bad, All, all, first_bad, and_then, each, record_width, in_threes, threes, listed, moved, written}
 use Rattle.rules.specs.declared.Moved.{Moved}
 use Rattle.posix.specs.Records.{record_at, put3, verdict, records_from, put_from, refusal_of}
 

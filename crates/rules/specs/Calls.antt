@@ -1,11 +1,11 @@
 -- The calls on the tables, each total: any tables, any numbers. A refused call gives its number and the tables as found.
-use Rattle.std.specs.Prelude.{ℕ, Bool, not, List, [], ◌∷◌}
+use Rattle.std.specs.Prelude.{ℕ, Bool, not, [], ◌∷◌}
 use Rattle.rules.specs.Notation.{if◌then◌else◌, ◌is◌, ◌≤?◌, ◌<?◌}
 use Rattle.rules.specs.Tables.{Tables, node_count, seat_count, title, phase, fresh}
 use Rattle.rules.specs.Comparison.{Claim}
 use Rattle.rules.specs.Shape.{lengths_fit, sound, may_claim}
 use Rattle.rules.specs.Fetch.{Fetched, fetch}
-use Rattle.rules.specs.Answers.{Answer, node, out, refused, Done, done, Refusal, ◌when◌, refusing, answered}
+use Rattle.rules.specs.Answers.{Answer, node, out, refused, Done, done, ◌when◌, refusing, answered}
 use Rattle.rules.specs.Steps.{entering, leave, step_by_phase}
 
 -- | 1 | tables damaged |

@@ -1,6 +1,5 @@
 -- "Where an answer is an enum, a definition gives, for each of its cases, this paper's number and values. The promises use that
 -- definition."
-use Rattle.std.specs.Prelude.{ℕ}
 use Rattle.rules.specs.Answers.{Answer, node, out, on, wait, held, back, refused}
 use Rattle.rules.specs.FreeCount.{Counted}
 use Rattle.rules.specs.Board.{Boarded}

@@ -1,5 +1,5 @@
 -- Each test of the code, from the words that it read, is the test of the definition: one law for each way through the code.
-use Rattle.std.proofs.Common.{◌≡◌, ℕ, zero, suc, ◌+◌, ◌-◌, ◌%◌, ◌<◌, ◌≤◌, Bool, true, false, not, ◌&&◌, ◌||◌, eqb, ltb, leb, ◌≢◌, ◌⊎◌, List, [], length, drop, sym, refl, ◌∙◌, inl, inr, add-one, arith, ltb-false, ltb-true, eq-eqb, ne_eqb, eqb-true, le-leb}
+use Rattle.std.proofs.Common.{◌≡◌, ℕ, zero, suc, ◌+◌, ◌-◌, ◌%◌, ◌<◌, ◌≤◌, Bool, true, false, not, ◌&&◌, ◌||◌, eqb, ltb, leb, ◌≢◌, List, [], length, drop, sym, refl, ◌∙◌, inl, inr, add-one, arith, ltb-false, ltb-true, eq-eqb, ne_eqb, eqb-true, le-leb}
 use borrow.Author.Tests.{not-true, not-false, eqb-false, lt-leb}
 use Rattle.rules.specs.Notation.{if◌then◌else◌, ◌≤?◌, all}
 use Rattle.rules.specs.Tables.{Tables, tables, before_nodes, seat_width, title, count_word, node_word, link_word, seat_word, node_count_of, seat_count_of, start_at, end_at, kind_at, mark_at, phase_at, own_at, prev_at, cur_at}

@@ -41,7 +41,11 @@ fn play(rt: HostRuntime) -> io::Result<bool> {
 fn main(rt: HostRuntime) -> io::Result<()> {
     match play(rt) {
         Ok(true) => Ok(()),
-        Ok(false) => rt.stderr().write_all(b"soodhiqune: the script could not be read\n"),
-        Err(_) => rt.stderr().write_all(b"soodhiqune: the output could not be written\n"),
+        Ok(false) => rt
+            .stderr()
+            .write_all(b"soodhiqune: the script could not be read\n"),
+        Err(_) => rt
+            .stderr()
+            .write_all(b"soodhiqune: the output could not be written\n"),
     }
 }

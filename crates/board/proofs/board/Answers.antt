@@ -1,7 +1,6 @@
 -- `board::board` meets its promise.
 use Rattle.shape.proofs.Tests.{now_sound}
 use Rattle.board.proofs.Rows.{shown_sound, shown_damaged}
-use borrow.Author.Rules.{rules}
 use Rattle.board.proofs.board.Goals as goal
 
 pub show_holders-requires : goal.show_holders-requires

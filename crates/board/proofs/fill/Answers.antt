@@ -1,11 +1,7 @@
 -- `board::fill` meets its promise.
-use Rattle.rules.specs.Tables.{tables}
-use lib.ListN.{length}
-use Prim.Native.Nat.{◌-◌, ◌≤◌}
-use mathlib.Core.Path.{◌≡◌, refl}
+use mathlib.Core.Path.{refl}
 use native.Mathlib.Omega.{arith}
 use borrow.Author.Rules.{rules}
-use Rattle.board.specs.Filling.{filled, fill_below}
 use Rattle.board.proofs.Rows.{fill_start, fill_counted, fill_small, fill_fits, fill_again, fill_done}
 use Rattle.board.proofs.fill.Goals as goal
 

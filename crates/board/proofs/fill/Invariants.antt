@@ -2,11 +2,8 @@
 use Rattle.rules.specs.Tables.{tables}
 use lib.ListN.{length}
 use Prim.Native.Nat.{◌-◌, ◌≤◌}
-use mathlib.Core.Path.{◌≡◌, refl}
-use native.Mathlib.Omega.{arith}
-use borrow.Author.Rules.{rules}
+use mathlib.Core.Path.{◌≡◌}
 use Rattle.board.specs.Filling.{filled, fill_below}
-use Rattle.board.proofs.Rows.{fill_start, fill_counted, fill_small, fill_fits, fill_again, fill_done}
 use Rattle.board.proofs.fill.Given as goal
 
 abbrev pub invariant-loop-s : goal.invariant-loop-s

@@ -1,6 +1,5 @@
 -- `board::fill_seat` meets its promise.
 use Rattle.board.proofs.Rows.{room, seat_filled, seat_skipped}
-use borrow.Author.Rules.{rules}
 use Rattle.board.proofs.fill_seat.Goals as goal
 
 pub put_row-requires : goal.put_row-requires

@@ -1,6 +1,5 @@
 -- `board::has_room` meets its promise.
 use Rattle.board.proofs.Rows.{room_for_each, room_counted}
-use borrow.Author.Rules.{rules}
 use Rattle.board.proofs.has_room.Goals as goal
 
 pub returns-then-count-room : goal.returns-then-count-room

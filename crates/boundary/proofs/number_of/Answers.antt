@@ -1,6 +1,5 @@
 -- `boundary::number_of` meets its promise.
 use Rattle.boundary.proofs.Codes.{encoded_by}
-use borrow.Author.Rules.{rules}
 use Rattle.boundary.proofs.number_of.Goals as goal
 
 pub returns : goal.returns

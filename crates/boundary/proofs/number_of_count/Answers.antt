@@ -1,6 +1,5 @@
 -- `boundary::number_of_count` meets its promise.
 use Rattle.boundary.proofs.Codes.{count_is, count_refused_is}
-use borrow.Author.Rules.{rules}
 use Rattle.boundary.proofs.number_of_count.Goals as goal
 
 pub returns-in-Refused : goal.returns-in-Refused

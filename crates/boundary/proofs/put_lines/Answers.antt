@@ -1,8 +1,5 @@
 -- `boundary::put_lines` meets its promise.
-use Rattle.boundary.specs.Encoded.{lines_after}
-use lib.ListN.{length}
-use Prim.Native.Nat.{◌-◌, ◌≤◌}
-use mathlib.Core.Path.{◌≡◌, refl}
+use mathlib.Core.Path.{refl}
 use native.Mathlib.Omega.{arith}
 use borrow.Author.Rules.{rules}
 use Rattle.boundary.proofs.Codes.{lines_none, lines_again, lines_done}

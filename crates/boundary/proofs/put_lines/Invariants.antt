@@ -2,10 +2,7 @@
 use Rattle.boundary.specs.Encoded.{lines_after}
 use lib.ListN.{length}
 use Prim.Native.Nat.{◌-◌, ◌≤◌}
-use mathlib.Core.Path.{◌≡◌, refl}
-use native.Mathlib.Omega.{arith}
-use borrow.Author.Rules.{rules}
-use Rattle.boundary.proofs.Codes.{lines_none, lines_again, lines_done}
+use mathlib.Core.Path.{◌≡◌}
 use Rattle.boundary.proofs.put_lines.Given as goal
 
 abbrev pub invariant-loop-i : goal.invariant-loop-i

@@ -1,7 +1,5 @@
 -- `boundary::put_script` meets its promise.
-use Rattle.boundary.proofs.Codes.{script_is, script_length}
-use borrow.Author.Rules.{rules}
-use Rattle.boundary.specs.Encoded.{put_top_line}
+use Rattle.boundary.proofs.Codes.{script_is}
 use Rattle.boundary.proofs.put_script.Goals as goal
 
 pub returns : goal.returns

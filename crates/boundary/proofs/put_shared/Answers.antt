@@ -1,6 +1,5 @@
 -- `boundary::put_shared` meets its promise.
 use Rattle.boundary.proofs.Codes.{shared_stored, shared_kept}
-use borrow.Author.Rules.{rules}
 use Rattle.boundary.proofs.put_shared.Goals as goal
 
 pub returns-then-code-eq4 : goal.returns-then-code-eq4

@@ -1,6 +1,5 @@
 -- `boundary::soodhiqune_board` meets its promise.
 use Rattle.boundary.proofs.Codes.{board_told_is}
-use borrow.Author.Rules.{rules}
 use Rattle.boundary.proofs.soodhiqune_board.Goals as goal
 
 pub returns : goal.returns

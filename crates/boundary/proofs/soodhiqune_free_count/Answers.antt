@@ -1,6 +1,5 @@
 -- `boundary::soodhiqune_free_count` meets its promise.
 use Rattle.boundary.proofs.Codes.{counted_is}
-use borrow.Author.Rules.{rules}
 use Rattle.boundary.proofs.soodhiqune_free_count.Goals as goal
 
 pub returns : goal.returns

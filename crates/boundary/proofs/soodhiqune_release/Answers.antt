@@ -1,6 +1,5 @@
 -- `boundary::soodhiqune_release` meets its promise.
 use Rattle.boundary.proofs.Codes.{encoded_is}
-use borrow.Author.Rules.{rules}
 use Rattle.boundary.proofs.soodhiqune_release.Goals as goal
 
 pub returns : goal.returns

@@ -1,6 +1,5 @@
 -- `boundary::soodhiqune_run` meets its promise.
 use Rattle.boundary.proofs.Codes.{run_is}
-use borrow.Author.Rules.{rules}
 use Rattle.boundary.proofs.soodhiqune_run.Goals as goal
 
 pub returns : goal.returns

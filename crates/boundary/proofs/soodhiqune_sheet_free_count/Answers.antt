@@ -1,6 +1,5 @@
 -- `boundary::soodhiqune_sheet_free_count` meets its promise.
 use Rattle.boundary.proofs.Codes.{counted_is}
-use borrow.Author.Rules.{rules}
 use Rattle.boundary.proofs.soodhiqune_sheet_free_count.Goals as goal
 
 pub returns : goal.returns

@@ -1,6 +1,5 @@
 -- `boundary::soodhiqune_sheet_step` meets its promise.
 use Rattle.boundary.proofs.Codes.{step_told_is}
-use borrow.Author.Rules.{rules}
 use Rattle.boundary.proofs.soodhiqune_sheet_step.Goals as goal
 
 pub returns : goal.returns

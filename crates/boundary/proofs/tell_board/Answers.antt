@@ -1,6 +1,5 @@
 -- `boundary::tell_board` meets its promise.
 use Rattle.boundary.proofs.Codes.{told_rows, told_refused}
-use borrow.Author.Rules.{rules}
 use Rattle.boundary.proofs.tell_board.Goals as goal
 
 pub returns-in-Rows : goal.returns-in-Rows

@@ -1,7 +1,6 @@
 -- `claims::clear` meets its promise. Each refusal is searched for among the laws of both, so that one out of its order is refused for the test that
 -- it skips.
 use Rattle.claims.proofs.Ways.{clear_not, clear_no_title, clear_fits}
-use borrow.Author.Rules.{rules}
 use Rattle.claims.proofs.clear.Goals as goal
 
 pub returns-then-not-fits : goal.returns-then-not-fits

@@ -1,6 +1,5 @@
 -- `claims::enter` meets its promise.
 use Rattle.claims.proofs.Ways.{enter_seat_law, enter_past, enter_damaged}
-use borrow.Author.Rules.{rules}
 use Rattle.claims.proofs.enter.Goals as goal
 
 pub returns-then-s-seat_count : goal.returns-then-s-seat_count

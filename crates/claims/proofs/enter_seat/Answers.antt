@@ -1,7 +1,6 @@
 -- `claims::enter_seat` meets its promise.
 use Rattle.steps.proofs.OwnWords.{part_within}
 use Rattle.claims.proofs.Ways.{enter_reserved, enter_other}
-use borrow.Author.Rules.{rules}
 use Rattle.claims.proofs.enter_seat.Goals as goal
 
 pub slice_bounds-enter-end : goal.slice_bounds-enter-end

@@ -1,11 +1,9 @@
 -- `claims::fill_with_zeros` meets its promise.
 use lib.ListN.{length-set}
-use lib.ListN.{length}
-use Prim.Native.Nat.{◌+◌, ◌-◌, ◌*◌, ◌≤◌}
-use mathlib.Core.Path.{◌≡◌, refl}
+use mathlib.Core.Path.{refl}
 use native.Mathlib.Omega.{arith}
 use borrow.Author.Rules.{rules}
-use Rattle.claims.proofs.Ways.{ZeroBelow, zero_none, zero_more, zero_all}
+use Rattle.claims.proofs.Ways.{zero_none, zero_more, zero_all}
 use Rattle.claims.proofs.fill_with_zeros.Goals as goal
 
 pub loop-i-init : goal.loop-i-init

@@ -1,11 +1,8 @@
 -- `claims::fill_with_zeros` meets its promise.
-use lib.ListN.{length-set}
 use lib.ListN.{length}
-use Prim.Native.Nat.{◌+◌, ◌-◌, ◌*◌, ◌≤◌}
-use mathlib.Core.Path.{◌≡◌, refl}
-use native.Mathlib.Omega.{arith}
-use borrow.Author.Rules.{rules}
-use Rattle.claims.proofs.Ways.{ZeroBelow, zero_none, zero_more, zero_all}
+use Prim.Native.Nat.{◌-◌, ◌≤◌}
+use mathlib.Core.Path.{◌≡◌}
+use Rattle.claims.proofs.Ways.{ZeroBelow}
 use Rattle.claims.proofs.fill_with_zeros.Given as goal
 
 abbrev pub invariant-loop-i : goal.invariant-loop-i

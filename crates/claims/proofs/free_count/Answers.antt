@@ -1,7 +1,6 @@
 -- `claims::free_count` meets its promise.
 use Rattle.shape.proofs.Tests.{now_sound}
 use Rattle.claims.proofs.Ways.{count_sound, count_damaged}
-use borrow.Author.Rules.{rules}
 use Rattle.claims.proofs.free_count.Goals as goal
 
 pub free_count-free-requires : goal.free_count-free-requires

@@ -1,7 +1,6 @@
 -- `claims::release_seat` meets its promise.
 use Rattle.steps.proofs.OwnWords.{part_within}
 use Rattle.claims.proofs.Ways.{release_holder, release_other, one_to_take_off}
-use borrow.Author.Rules.{rules}
 use Rattle.claims.proofs.release_seat.Goals as goal
 
 pub slice_bounds-leave-end : goal.slice_bounds-leave-end

@@ -1,7 +1,6 @@
 -- `claims::reserve` meets its promise.
 use Rattle.shape.proofs.Tests.{now_sound}
 use Rattle.claims.proofs.Ways.{reserve_seat, reserve_past, reserve_damaged}
-use borrow.Author.Rules.{rules}
 use Rattle.claims.proofs.reserve.Goals as goal
 
 pub reserve_claim-requires : goal.reserve_claim-requires

@@ -1,7 +1,6 @@
 -- `claims::reserve_claim` meets its promise. Each refusal is searched for among the laws of all of them, so that one out of its order is refused for the
 -- test that it skips.
 use Rattle.claims.proofs.Ways.{reserve_empty, reserve_beyond, reserve_kind, reserve_busy, reserve_idle}
-use borrow.Author.Rules.{rules}
 use Rattle.claims.proofs.reserve_claim.Goals as goal
 
 pub returns-then-end-start : goal.returns-then-end-start

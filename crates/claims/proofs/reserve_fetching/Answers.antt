@@ -1,7 +1,6 @@
 -- `claims::reserve_fetching` meets its promise.
 use Rattle.claims.proofs.Ways.{reserve_none, reserve_node}
 use Rattle.fetch.proofs.Ways.{idle_no_prev, idle_no_cur}
-use borrow.Author.Rules.{rules}
 use Rattle.claims.proofs.reserve_fetching.Goals as goal
 
 pub fetch-a-requires : goal.fetch-a-requires

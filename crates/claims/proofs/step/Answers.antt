@@ -1,7 +1,6 @@
 -- `claims::step` meets its promise.
 use Rattle.shape.proofs.Tests.{now_sound}
 use Rattle.claims.proofs.Ways.{step_damaged}
-use borrow.Author.Rules.{rules}
 use Rattle.claims.proofs.step.Goals as goal
 
 pub step_and_answer-requires : goal.step_and_answer-requires

@@ -1,6 +1,5 @@
 -- `comparison::compare_claims` meets its promise.
 use Rattle.comparison.proofs.Signs.{compare_after, compare_before, compare_clash}
-use borrow.Author.Rules.{rules}
 use Rattle.comparison.proofs.compare_claims.Goals as goal
 
 pub returns-then-lies_behind : goal.returns-then-lies_behind

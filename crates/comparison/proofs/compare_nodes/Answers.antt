@@ -1,6 +1,5 @@
 -- `comparison::compare_nodes` meets its promise.
 use Rattle.comparison.proofs.Signs.{of_words}
-use borrow.Author.Rules.{rules}
 use Rattle.comparison.proofs.compare_nodes.Goals as goal
 
 pub returns : goal.returns

@@ -1,6 +1,5 @@
 -- `comparison::shared_by_nodes` meets its promise.
 use Rattle.comparison.proofs.Shares.{shared_is}
-use borrow.Author.Rules.{rules}
 use Rattle.comparison.proofs.shared_by_nodes.Goals as goal
 
 pub returns : goal.returns

@@ -1,6 +1,5 @@
 -- `covering::covered` meets its promise. The measure is the number of runs left.
-use borrow.Author.Rules.{rules}
-use Rattle.covering.proofs.Sweeping.{Swept, swept_none, swept_more, swept_all}
+use Rattle.covering.proofs.Sweeping.{Swept}
 use Prim.Native.Nat.{◌-◌}
 use Rattle.covering.proofs.covered.Given as goal
 

@@ -1,6 +1,6 @@
 -- `covering::put_above` meets its promise. The measure is the place that is open.
 use borrow.Author.Rules.{rules}
-use Rattle.covering.proofs.Moving.{Raising, raising_none, raising_more, raising_done}
+use Rattle.covering.proofs.Moving.{raising_none, raising_more, raising_done}
 use Rattle.covering.proofs.put_above.Goals as goal
 
 pub loop-runs-init : goal.loop-runs-init

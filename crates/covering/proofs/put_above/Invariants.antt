@@ -1,6 +1,5 @@
 -- `covering::put_above` meets its promise. The measure is the place that is open.
-use borrow.Author.Rules.{rules}
-use Rattle.covering.proofs.Moving.{Raising, raising_none, raising_more, raising_done}
+use Rattle.covering.proofs.Moving.{Raising}
 use Rattle.covering.proofs.put_above.Given as goal
 
 abbrev pub invariant-loop-runs : goal.invariant-loop-runs

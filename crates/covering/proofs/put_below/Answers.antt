@@ -1,7 +1,6 @@
 -- `covering::put_below` meets its promise. The measure is the number of places left.
 use borrow.Author.Rules.{rules}
-use Rattle.covering.proofs.Moving.{Lowering, lowering_none, lowering_more, lowering_done}
-use Prim.Native.Nat.{◌-◌}
+use Rattle.covering.proofs.Moving.{lowering_none, lowering_more, lowering_done}
 use Rattle.covering.proofs.put_below.Goals as goal
 
 pub loop-runs-init : goal.loop-runs-init

@@ -1,6 +1,5 @@
 -- `covering::put_below` meets its promise. The measure is the number of places left.
-use borrow.Author.Rules.{rules}
-use Rattle.covering.proofs.Moving.{Lowering, lowering_none, lowering_more, lowering_done}
+use Rattle.covering.proofs.Moving.{Lowering}
 use Prim.Native.Nat.{◌-◌}
 use Rattle.covering.proofs.put_below.Given as goal
 

@@ -1,6 +1,4 @@
-
 use Rattle.fetch.proofs.Ways.{fetch_taken, fetch_tried_again}
-use borrow.Author.Rules.{rules}
 use Rattle.fetch.proofs.fetch.Goals as goal
 
 pub returns-then-a-eq0 : goal.returns-then-a-eq0

@@ -1,6 +1,4 @@
-
 use Rattle.fetch.proofs.Ways.{out_asks, again_none, again_taken}
-use borrow.Author.Rules.{rules}
 use Rattle.fetch.proofs.fetch_again.Goals as goal
 
 pub returns-then-a-eq0 : goal.returns-then-a-eq0

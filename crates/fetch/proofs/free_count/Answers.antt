@@ -1,7 +1,5 @@
-
 use Rattle.reach.proofs.Ways.{seats_fit_law}
 use Rattle.fetch.proofs.Ways.{count_read}
-use borrow.Author.Rules.{rules}
 use Rattle.fetch.proofs.free_count.Goals as goal
 
 pub overflow_cast-count : goal.overflow_cast-count

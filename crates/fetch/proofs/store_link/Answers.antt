@@ -1,5 +1,4 @@
 -- `fetch::store_link` meets its promise.
-use borrow.Author.Rules.{rules}
 use Rattle.fetch.proofs.Taking.{first_stored}
 use Rattle.fetch.proofs.store_link.Goals as goal
 

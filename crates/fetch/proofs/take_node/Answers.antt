@@ -1,6 +1,4 @@
-
 use Rattle.fetch.proofs.Ways.{taken}
-use borrow.Author.Rules.{rules}
 use Rattle.fetch.proofs.take_node.Goals as goal
 
 pub returns : goal.returns

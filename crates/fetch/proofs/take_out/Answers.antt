@@ -1,12 +1,9 @@
 -- `fetch::take_out` meets its promise: each turn of its loop takes the walk on by one of the ways of Taking.
 use borrow.Author.Rules.{rules}
-use Rattle.fetch.proofs.Taking.{Taking, taking_start, taking_left, taking_less, read_skip, read_on_law, read_stored, read_next, read_last, read_ended, read_end}
-use Rattle.rules.specs.Fetch.{taken_out}
-use Rattle.rules.specs.Tables.{tables}
+use Rattle.fetch.proofs.Taking.{taking_start, taking_left, taking_less, read_skip, read_on_law, read_stored, read_next, read_last, read_ended, read_end}
 use native.Mathlib.Omega.{arith}
 use lib.ListN.{length}
-use mathlib.Core.List.{[]}
-use mathlib.Core.Path.{◌≡◌, refl, ap, ◌∙◌}
+use mathlib.Core.Path.{refl, ap, ◌∙◌}
 use Rattle.fetch.proofs.take_out.Goals as goal
 use Rattle.fetch.proofs.take_out.Goals.{then-link-cur, else-link-cur}
 

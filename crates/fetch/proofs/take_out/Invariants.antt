@@ -1,13 +1,10 @@
 -- `fetch::take_out` meets its promise: each turn of its loop takes the walk on by one of the ways of Taking.
-use borrow.Author.Rules.{rules}
-use Rattle.fetch.proofs.Taking.{Taking, taking_start, taking_left, taking_less, read_skip, read_on_law, read_stored, read_next, read_last, read_ended, read_end}
+use Rattle.fetch.proofs.Taking.{Taking}
 use Rattle.rules.specs.Fetch.{taken_out}
 use Rattle.rules.specs.Tables.{tables}
-use native.Mathlib.Omega.{arith}
 use lib.ListN.{length}
 use mathlib.Core.List.{[]}
-use mathlib.Core.Path.{◌≡◌, refl, ap, ◌∙◌}
-use mathlib.Core.Logic.{⊎_elim}
+use mathlib.Core.Path.{◌≡◌}
 use Rattle.fetch.proofs.take_out.Given as goal
 
 abbrev pub invariant-loop-cur : goal.invariant-loop-cur

@@ -1,6 +1,4 @@
-
 use Rattle.rules.specs.Fetch.{write_claim}
-use borrow.Author.Rules.{rules}
 use Rattle.fetch.proofs.write_claim.Goals as goal
 
 pub returns : goal.returns

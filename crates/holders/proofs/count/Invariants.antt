@@ -2,9 +2,6 @@
 use Rattle.holders.specs.Holding.{holding}
 use Prim.Native.Nat.{◌-◌, ◌≤◌}
 use mathlib.Core.Path.{◌≡◌}
-use native.Mathlib.Omega.{arith}
-use borrow.Author.Rules.{rules}
-use Rattle.holders.proofs.Rows.{holding_none, holding_more, holding_same, holding_done}
 use Rattle.holders.proofs.count.Given as goal
 
 abbrev pub invariant-loop-s : goal.invariant-loop-s

@@ -2,10 +2,9 @@
 -- seats left.
 use borrow.Author.Rules.{rules}
 use native.Mathlib.Omega.{arith}
-use Prim.Native.Nat.{◌-◌, ◌≤◌}
-use Rattle.rules.specs.Tables.{tables}
+use Prim.Native.Nat.{◌≤◌}
 use Rattle.rules.proofs.Laws.Shape.{seats_few}
-use Rattle.holders.proofs.Gathering.{Gathered, gathered_none, gathered_more, gathered_same, gathered_all}
+use Rattle.holders.proofs.Gathering.{gathered_none, gathered_more, gathered_same, gathered_all}
 use Rattle.holders.proofs.covered.Goals as goal
 
 pub overflow_cast-count : goal.overflow_cast-count

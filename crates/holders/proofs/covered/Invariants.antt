@@ -1,11 +1,8 @@
 -- `holders::covered` meets its promise. The loop's invariant: the runs of the holders passed are gathered. The measure is the number of
 -- seats left.
-use borrow.Author.Rules.{rules}
-use native.Mathlib.Omega.{arith}
-use Prim.Native.Nat.{◌-◌, ◌≤◌}
+use Prim.Native.Nat.{◌-◌}
 use Rattle.rules.specs.Tables.{tables}
-use Rattle.rules.proofs.Laws.Shape.{seats_few}
-use Rattle.holders.proofs.Gathering.{Gathered, gathered_none, gathered_more, gathered_same, gathered_all}
+use Rattle.holders.proofs.Gathering.{Gathered}
 use Rattle.holders.proofs.covered.Given as goal
 
 abbrev pub invariant-loop-seat : goal.invariant-loop-seat

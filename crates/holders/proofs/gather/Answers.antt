@@ -1,6 +1,5 @@
 -- `holders::gather` meets its promise.
 use Rattle.holders.proofs.Gathering.{row_joined}
-use borrow.Author.Rules.{rules}
 use Rattle.holders.proofs.gather.Goals as goal
 
 pub returns : goal.returns

@@ -1,10 +1,8 @@
 -- `nodesets::count` meets its promise.
-use Rattle.nodesets.specs.Set.{members}
 use Rattle.nodesets.proofs.Set.{members_none, count_more, count_done}
 use borrow.Author.Rules.{rules}
 use native.Mathlib.Omega.{arith}
-use mathlib.Core.Path.{◌≡◌, sym}
-use Prim.Native.Nat.{◌*◌, ◌≤◌, ◌-◌}
+use mathlib.Core.Path.{sym}
 use Rattle.nodesets.proofs.count.Goals as goal
 
 pub loop-i-init : goal.loop-i-init

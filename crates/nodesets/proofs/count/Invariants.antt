@@ -1,9 +1,6 @@
 -- `nodesets::count` meets its promise.
 use Rattle.nodesets.specs.Set.{members}
-use Rattle.nodesets.proofs.Set.{members_none, count_more, count_done}
-use borrow.Author.Rules.{rules}
-use native.Mathlib.Omega.{arith}
-use mathlib.Core.Path.{◌≡◌, sym}
+use mathlib.Core.Path.{◌≡◌}
 use Prim.Native.Nat.{◌*◌, ◌≤◌, ◌-◌}
 use Rattle.nodesets.proofs.count.Given as goal
 

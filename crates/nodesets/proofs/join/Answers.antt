@@ -1,6 +1,5 @@
 -- `nodesets::join` meets its promise.
 use Rattle.nodesets.proofs.Set.{join_found, join_new}
-use borrow.Author.Rules.{rules}
 use Rattle.nodesets.proofs.join.Goals as goal
 
 pub returns-then-more-word : goal.returns-then-more-word

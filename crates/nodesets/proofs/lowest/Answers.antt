@@ -1,7 +1,6 @@
 -- `nodesets::lowest` meets its promise.
 use borrow.Author.Rules.{rules}
-use Rattle.nodesets.proofs.Set.{Clear, clear_start, clear_more, lowest_found, lowest_clear}
-use Prim.Native.Nat.{◌≤◌, ◌-◌}
+use Rattle.nodesets.proofs.Set.{clear_start, clear_more, lowest_found, lowest_clear}
 use Rattle.nodesets.proofs.lowest.Goals as goal
 
 pub loop-i-init : goal.loop-i-init

@@ -1,6 +1,5 @@
 -- `nodesets::lowest` meets its promise.
-use borrow.Author.Rules.{rules}
-use Rattle.nodesets.proofs.Set.{Clear, clear_start, clear_more, lowest_found, lowest_clear}
+use Rattle.nodesets.proofs.Set.{Clear}
 use Prim.Native.Nat.{◌≤◌, ◌-◌}
 use Rattle.nodesets.proofs.lowest.Given as goal
 

@@ -1,9 +1,6 @@
 -- `nodesets::outside` meets its promise.
 use borrow.Author.Rules.{rules}
-use Rattle.nodesets.proofs.Set.{OutsideTo, outside_start, outside_more, outside_done}
-use lib.ListN.{length}
-use mathlib.Core.Path.{◌≡◌}
-use Prim.Native.Nat.{◌≤◌, ◌-◌}
+use Rattle.nodesets.proofs.Set.{outside_start, outside_more, outside_done}
 use Rattle.nodesets.proofs.outside.Goals as goal
 
 pub loop-i-init : goal.loop-i-init

@@ -1,6 +1,5 @@
 -- `nodesets::outside` meets its promise.
-use borrow.Author.Rules.{rules}
-use Rattle.nodesets.proofs.Set.{OutsideTo, outside_start, outside_more, outside_done}
+use Rattle.nodesets.proofs.Set.{OutsideTo}
 use lib.ListN.{length}
 use mathlib.Core.Path.{◌≡◌}
 use Prim.Native.Nat.{◌≤◌, ◌-◌}

@@ -1,6 +1,5 @@
 -- `nodesets::word_outside` meets its promise.
 use Rattle.nodesets.proofs.Word.{outside_none, outside_all, outside_some, mask_fits}
-use borrow.Author.Rules.{rules}
 use Rattle.nodesets.proofs.word_outside.Goals as goal
 
 pub returns-then-n-from : goal.returns-then-n-from

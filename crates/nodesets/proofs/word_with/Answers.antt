@@ -1,6 +1,5 @@
 -- `nodesets::word_with` meets its promise.
 use Rattle.nodesets.proofs.Word.{add_shift}
-use borrow.Author.Rules.{rules}
 use Rattle.nodesets.proofs.word_with.Goals as goal
 
 pub returns : goal.returns

@@ -1,7 +1,6 @@
 -- `phases::fetch_again` meets its promise.
 use Rattle.phases.proofs.Ways.{refetch_none, refetch_node}
 use Rattle.fetch.proofs.Ways.{withdrawn_no_prev, withdrawn_no_cur}
-use borrow.Author.Rules.{rules}
 use Rattle.phases.proofs.fetch_again.Goals as goal
 
 pub fetch-a-requires : goal.fetch-a-requires

@@ -1,7 +1,6 @@
 -- `phases::step_by_phase` meets its promise.
 use Rattle.steps.proofs.OwnWords.{part_within}
 use Rattle.phases.proofs.Ways.{step_idle, step_one, step_two, step_three, step_four, step_five, step_six, step_seven, step_none, room_to_count}
-use borrow.Author.Rules.{rules}
 use Rattle.phases.proofs.step_by_phase.Goals as goal
 
 pub slice_bounds-walk-end : goal.slice_bounds-walk-end

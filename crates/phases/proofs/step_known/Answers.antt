@@ -1,6 +1,5 @@
 -- `phases::step_known` meets its promise.
 use Rattle.phases.proofs.Ways.{step_seat, step_past}
-use borrow.Author.Rules.{rules}
 use Rattle.phases.proofs.step_known.Goals as goal
 
 pub returns-then-s-seat_count : goal.returns-then-s-seat_count

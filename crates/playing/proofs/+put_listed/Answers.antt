@@ -1,5 +1,4 @@
 -- `playing::put_listed` meets its contract.
-use Rattle.std.proofs.Common.{rules}
 use Rattle.playing.proofs.Listing.{listed_none, listed_end, listed_more, listed_reach}
 use Rattle.playing.proofs.+put_listed.Goals as goal
 

@@ -1,6 +1,5 @@
 -- `playing::make_call` meets its contract: by the line's code, one of the four calls.
 use Rattle.playing.proofs.Turns.{call_reserves, call_steps, call_releases, call_enters}
-use borrow.Author.Rules.{rules}
 use Rattle.playing.proofs.make_call.Goals as goal
 
 pub returns-then-code-eq1 : goal.returns-then-code-eq1

@@ -1,17 +1,9 @@
 -- `playing::play_calls` meets its contract. The loop's invariant: the calls still to be made, on the tables and the page so far, give the
 -- whole; and no line is longer than 43 bytes. The measure is the number of calls left.
-use borrow.Author.Rules.{rules}
 use native.Mathlib.Omega.{arith}
 use Rattle.playing.proofs.Turns.{play_again, play_done}
-use Rattle.playing.specs.Played.{play_from}
 use Rattle.text.proofs.Lines.{turn_reaches}
-use Rattle.text.specs.Page.{page}
-use Rattle.rules.specs.Play.{calls_of}
-use Rattle.rules.specs.Tables.{tables}
-use mathlib.Core.Path.{◌≡◌, refl}
-use mathlib.Core.Bool.{false}
-use lib.ListN.{length, drop}
-use Prim.Native.Nat.{◌+◌, ◌*◌, ◌-◌, ◌≤◌}
+use mathlib.Core.Path.{refl}
 use Rattle.playing.proofs.play_calls.Goals as goal
 
 pub loop-i-init : goal.loop-i-init

@@ -1,6 +1,5 @@
 -- `playing::play_tables` meets its contract.
 use Rattle.playing.proofs.Whole.{tables_played, played_sound, played_short}
-use borrow.Author.Rules.{rules}
 use Rattle.playing.proofs.play_tables.Goals as goal
 
 pub put_end-requires : goal.put_end-requires

@@ -1,6 +1,5 @@
 -- `playing::put_end` meets its contract: its parts, one after another.
 use Rattle.playing.proofs.Ending.{end_is, end_reach}
-use borrow.Author.Rules.{rules}
 use Rattle.playing.proofs.put_end.Goals as goal
 
 pub returns : goal.returns

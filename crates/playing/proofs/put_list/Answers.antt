@@ -2,7 +2,6 @@
 use native.Mathlib.Omega.{arith}
 use Rattle.text.proofs.Pages.{reached}
 use Rattle.playing.proofs.Listing.{list_is}
-use borrow.Author.Rules.{rules}
 use Rattle.playing.proofs.put_list.Goals as goal
 
 pub returns : goal.returns

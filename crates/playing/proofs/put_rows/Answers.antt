@@ -1,17 +1,10 @@
 -- `playing::put_rows` meets its contract. The loop's invariant: the page has the rows of the seats passed, none longer than 49 bytes. The
 -- measure is the number of seats left.
-use borrow.Author.Rules.{rules}
 use native.Mathlib.Omega.{arith}
 use Rattle.playing.proofs.Holding.{text_start, text_again, rows_reach, text_done}
 use Rattle.rules.proofs.Laws.Shape.{seats_few}
-use Rattle.text.specs.Page.{page, puts}
-use Rattle.rules.specs.Play.{rows_text}
-use Rattle.rules.specs.Board.{rows_below}
-use Rattle.rules.specs.Tables.{tables}
-use mathlib.Core.Path.{◌≡◌, refl}
-use mathlib.Core.Bool.{false}
-use lib.ListN.{length}
-use Prim.Native.Nat.{◌+◌, ◌*◌, ◌-◌, ◌≤◌}
+use mathlib.Core.Path.{refl}
+use Prim.Native.Nat.{◌≤◌}
 use Rattle.playing.proofs.put_rows.Goals as goal
 
 pub overflow_cast-count : goal.overflow_cast-count

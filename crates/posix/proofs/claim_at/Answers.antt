@@ -1,6 +1,5 @@
 -- `posix::claim_at` meets its promise.
 use Rattle.posix.proofs.One.{passed_read, claim_read}
-use borrow.Author.Rules.{rules}
 use Rattle.posix.proofs.claim_at.Goals as goal
 
 pub claim_of-requires : goal.claim_of-requires

@@ -1,6 +1,5 @@
 -- `posix::export_at` meets its promise.
 use Rattle.posix.proofs.Calls.{in_order, lock_exported}
-use borrow.Author.Rules.{rules}
 use Rattle.posix.proofs.export_at.Goals as goal
 
 pub length_of-span-requires : goal.length_of-span-requires

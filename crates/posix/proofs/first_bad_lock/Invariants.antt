@@ -1,14 +1,10 @@
 -- `posix::first_bad_lock` meets its promise.
-use Rattle.posix.proofs.Calls.{no_lock_yet}
-use Rattle.posix.proofs.Lists.{LookedAt, looked_on, looked_bad, looked_at_all}
+use Rattle.posix.proofs.Lists.{LookedAt}
 use Rattle.posix.specs.Records.{lock_at, verdict}
-use Rattle.rules.proofs.Laws.Locks.{import_never_0}
 use Rattle.rules.specs.Locks.{import_lock, each, locks_in}
 use lib.ListN.{length}
 use Prim.Native.Nat.{◌-◌, ◌≤◌, ◌/◌}
-use mathlib.Core.Path.{◌≡◌, refl}
-use borrow.Author.Rules.{rules}
-use native.Mathlib.Omega.{arith}
+use mathlib.Core.Path.{◌≡◌}
 use Rattle.posix.proofs.first_bad_lock.Given as goal
 
 abbrev pub invariant-loop-place : goal.invariant-loop-place

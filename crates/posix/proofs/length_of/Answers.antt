@@ -1,6 +1,5 @@
 -- `posix::length_of` meets its promise.
 use Rattle.posix.proofs.One.{to_the_end, not_to_the_end}
-use borrow.Author.Rules.{rules}
 use Rattle.posix.proofs.length_of.Goals as goal
 
 pub returns-then-end-title : goal.returns-then-end-title

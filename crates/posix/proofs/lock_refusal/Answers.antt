@@ -1,6 +1,5 @@
 -- `posix::lock_refusal` meets its promise.
 use Rattle.posix.proofs.One.{lock_starts_below, lock_reaches_below, lock_back, lock_to_the_end, lock_on, sum_fits}
-use borrow.Author.Rules.{rules}
 use Rattle.posix.proofs.lock_refusal.Goals as goal
 
 pub returns-then-start-lt0 : goal.returns-then-start-lt0

@@ -1,6 +1,5 @@
 -- `posix::lock_refusal_at` meets its promise.
 use Rattle.posix.proofs.One.{refusal_read}
-use borrow.Author.Rules.{rules}
 use Rattle.posix.proofs.lock_refusal_at.Goals as goal
 
 pub returns : goal.returns

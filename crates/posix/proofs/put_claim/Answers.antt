@@ -2,7 +2,6 @@
 use mathlib.Core.Path.{refl}
 use native.Mathlib.Omega.{arith}
 use lib.ListN.{length-set}
-use borrow.Author.Rules.{rules}
 use Rattle.posix.proofs.put_claim.Goals as goal
 
 pub bounds-claims-at-2 : goal.bounds-claims-at-2

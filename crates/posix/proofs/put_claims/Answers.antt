@@ -1,10 +1,7 @@
 -- `posix::put_claims` meets its promise.
-use Rattle.posix.specs.Records.{put_claim, records_from, put_from, claim_for}
-use Rattle.posix.proofs.Lists.{StoredUpTo, stored_none, stored_all}
+use Rattle.posix.proofs.Lists.{stored_none, stored_all}
 use Rattle.posix.proofs.Calls.{claim_stored, lock_passed}
-use lib.ListN.{length}
-use Prim.Native.Nat.{◌-◌, ◌≤◌, ◌/◌}
-use mathlib.Core.Path.{◌≡◌, refl}
+use mathlib.Core.Path.{refl}
 use borrow.Author.Rules.{rules}
 use native.Mathlib.Omega.{arith}
 use Rattle.posix.proofs.put_claims.Goals as goal

@@ -2,7 +2,6 @@
 use Rattle.posix.proofs.One.{lock_stored}
 use native.Mathlib.Omega.{arith}
 use lib.ListN.{length-set}
-use borrow.Author.Rules.{rules}
 use Rattle.posix.proofs.put_lock.Goals as goal
 
 pub bounds-locks-at-2 : goal.bounds-locks-at-2

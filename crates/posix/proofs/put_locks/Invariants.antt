@@ -1,12 +1,9 @@
 -- `posix::put_locks` meets its promise.
 use Rattle.posix.specs.Records.{put_lock, records_from, put_from, lock_for}
-use Rattle.posix.proofs.Lists.{StoredUpTo, stored_none, stored_on, stored_all}
-use Rattle.posix.proofs.Calls.{claim_passed}
+use Rattle.posix.proofs.Lists.{StoredUpTo}
 use lib.ListN.{length}
 use Prim.Native.Nat.{◌-◌, ◌≤◌, ◌/◌}
-use mathlib.Core.Path.{◌≡◌, refl}
-use borrow.Author.Rules.{rules}
-use native.Mathlib.Omega.{arith}
+use mathlib.Core.Path.{◌≡◌}
 use Rattle.posix.proofs.put_locks.Given as goal
 
 abbrev pub invariant-loop-place : goal.invariant-loop-place

@@ -1,6 +1,5 @@
 -- `reach::free_set` meets its promise.
 use Rattle.reach.proofs.Ways.{links_within, head_within, some_hops, free_now}
-use borrow.Author.Rules.{rules}
 use Rattle.reach.proofs.free_set.Goals as goal
 
 pub reach-requires : goal.reach-requires

@@ -1,6 +1,5 @@
 -- `reach::free_set_after` meets its promise.
 use Rattle.reach.proofs.Ways.{links_within, free_after}
-use borrow.Author.Rules.{rules}
 use Rattle.reach.proofs.free_set_after.Goals as goal
 
 pub kept_set-used-requires : goal.kept_set-used-requires

@@ -1,14 +1,5 @@
 -- `reach::kept_set` meets its promise.
-use borrow.Author.Rules.{rules}
 use Rattle.reach.proofs.Ways.{kept_start, kept_ended, kept_spent, kept_skip, kept_join, node_within, next_small}
-use native.Mathlib.Omega.{arith}
-use Rattle.reach.specs.Walks.{add_all}
-use Rattle.nodesets.specs.Set.{none}
-use Rattle.rules.specs.Fetch.{kept_from, kept}
-use Rattle.rules.specs.Tables.{tables, node_count_of}
-use Prim.Native.Nat.{◌≤◌}
-use mathlib.Core.List.{[]}
-use mathlib.Core.Path.{◌≡◌}
 use Rattle.reach.proofs.kept_set.Goals as goal
 
 pub loop-left-init : goal.loop-left-init

@@ -1,7 +1,4 @@
 -- `reach::kept_set` meets its promise.
-use borrow.Author.Rules.{rules}
-use Rattle.reach.proofs.Ways.{kept_start, kept_ended, kept_spent, kept_skip, kept_join, node_within, next_small}
-use native.Mathlib.Omega.{arith}
 use Rattle.reach.specs.Walks.{add_all}
 use Rattle.nodesets.specs.Set.{none}
 use Rattle.rules.specs.Fetch.{kept_from, kept}

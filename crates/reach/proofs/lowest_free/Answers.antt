@@ -1,6 +1,5 @@
 -- `reach::lowest_free` meets its promise.
 use Rattle.reach.proofs.Ways.{lowest_read}
-use borrow.Author.Rules.{rules}
 use Rattle.reach.proofs.lowest_free.Goals as goal
 
 pub returns : goal.returns

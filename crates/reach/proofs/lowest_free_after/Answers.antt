@@ -1,6 +1,5 @@
 -- `reach::lowest_free_after` meets its promise.
 use Rattle.reach.proofs.Ways.{lowest_read}
-use borrow.Author.Rules.{rules}
 use Rattle.reach.proofs.lowest_free_after.Goals as goal
 
 pub returns : goal.returns

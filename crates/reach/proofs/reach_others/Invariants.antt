@@ -1,8 +1,5 @@
 -- `reach::reach_others` meets its promise.
-use borrow.Author.Rules.{rules}
-use Rattle.reach.proofs.Ways.{some_hops, seat_within, seats_fit_law, few_seats, seats_start, seats_pass, seats_join, seats_done}
 use Rattle.reach.specs.Walks.{reach_seats}
-use native.Mathlib.Omega.{arith}
 use Rattle.rules.specs.Tables.{tables}
 use mathlib.Core.Path.{◌≡◌}
 use Prim.Native.Nat.{◌≤◌, ◌-◌}

@@ -1,6 +1,5 @@
 -- `reach::reach_seat` meets its promise.
 use Rattle.reach.proofs.Ways.{links_within, own_within, prev_within, cur_within, seat_reached, seat_resting}
-use borrow.Author.Rules.{rules}
 use Rattle.reach.proofs.reach_seat.Goals as goal
 
 pub reach-requires : goal.reach-requires

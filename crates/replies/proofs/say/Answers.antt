@@ -1,5 +1,4 @@
 -- `replies::say` meets its promise.
-use borrow.Author.Rules.{rules}
 use Rattle.replies.proofs.say.Goals as goal
 
 pub returns-in-Refused : goal.returns-in-Refused

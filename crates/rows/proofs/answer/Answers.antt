@@ -1,7 +1,6 @@
 -- `rows::answer` meets its promise.
 use Rattle.shape.proofs.Tests.{now_sound}
 use Rattle.rows.proofs.Filling.{answer_damaged}
-use borrow.Author.Rules.{rules}
 use Rattle.rows.proofs.answer.Goals as goal
 
 pub answer_sound-requires : goal.answer_sound-requires

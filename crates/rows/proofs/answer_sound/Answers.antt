@@ -3,7 +3,6 @@ use native.Mathlib.Omega.{arith}
 use Prim.Native.Nat.{◌≤◌}
 use Rattle.rules.proofs.Laws.Shape.{seats_few}
 use Rattle.rows.proofs.Filling.{answer_short, answer_filled}
-use borrow.Author.Rules.{rules}
 use Rattle.rows.proofs.answer_sound.Goals as goal
 
 pub overflow_cast-count : goal.overflow_cast-count

@@ -1,9 +1,6 @@
 -- `rows::last_holder` meets its promise.
 use Rattle.rows.proofs.Filling.{last_found, last_again, last_none}
-use Rattle.rows.specs.Filling.{last_below}
-use borrow.Author.Rules.{rules}
-use mathlib.Core.Path.{◌≡◌, refl}
-use native.Mathlib.Omega.{arith}
+use mathlib.Core.Path.{refl}
 use Rattle.rows.proofs.last_holder.Goals as goal
 
 pub loop-s-init : goal.loop-s-init

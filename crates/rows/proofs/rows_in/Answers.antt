@@ -1,6 +1,5 @@
 -- `rows::rows_in` meets its promise.
 use Rattle.rows.proofs.Filling.{rows_filled, rows_refused}
-use borrow.Author.Rules.{rules}
 use Rattle.rows.proofs.rows_in.Goals as goal
 
 pub returns-in-Rows : goal.returns-in-Rows

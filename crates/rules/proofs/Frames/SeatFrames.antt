@@ -7,7 +7,7 @@ use mathlib.Core.List.{List}
 use native.Mathlib.Omega.{arith}
 use lib.ListN.{length}
 use Rattle.rules.specs.Notation.{◌is◌}
-use Rattle.rules.specs.Tables.{Tables, tables, seat_count, seat_word, link, next, head, own, prev, cur}
+use Rattle.rules.specs.Tables.{Tables, tables, seat_count, link, next, head, own, prev, cur}
 use Rattle.rules.specs.Comparison.{Claim}
 use Rattle.rules.specs.Shape.{sound}
 use Rattle.rules.specs.Fetch.{Fetched, write_claim, take_node, taken_out, reserve_for}

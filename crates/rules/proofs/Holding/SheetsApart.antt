@@ -1,18 +1,18 @@
 -- A sheet that is reached: it stays a sheet, its holders share no frame, and whoever is linked in holds.
 use Prim.Native.Nat.{ℕ}
 use mathlib.Core.Path.{◌≡◌, refl, ◌∙◌}
-use mathlib.Core.Bool.{true, false, not}
+use mathlib.Core.Bool.{not}
 use mathlib.Core.List.{List}
 use mathlib.Core.Logic.{◌≢◌, inl, inr}
 use native.Mathlib.Omega.{arith}
 use Rattle.rules.specs.Notation.{◌is◌}
-use Rattle.rules.specs.Tables.{Tables, kind, link, phase, own, fresh, node_count, seat_count}
+use Rattle.rules.specs.Tables.{Tables, kind, link, own, fresh, node_count, seat_count}
 use Rattle.rules.specs.Shape.{lengths_fit}
 use Rattle.rules.specs.Answers.{Done, done}
 use Rattle.rules.specs.Calls.{clear}
 use Rattle.rules.specs.Reach.{list_of}
 use Rattle.rules.specs.Board.{holders, covered_by}
-use Rattle.rules.specs.Play.{Call, seat_of, call}
+use Rattle.rules.specs.Play.{Call, call}
 use Rattle.rules.specs.Reached.{Request, after_requests, Reached}
 use Rattle.rules.specs.Apart.{Covers, claim_of_seat, Holds, LinkedIn, Stands}
 use Rattle.rules.specs.Covered.{added_up}

@@ -16,7 +16,7 @@ use Rattle.rules.proofs.Invariant.Phases.{outside_busy, linked_busy}
 use Rattle.rules.proofs.Invariant.Clauses.{Ordered, from_prev, Invariant}
 use Rattle.rules.proofs.Invariant.Known.{Known, named_in, precedes_ordered, own_pos, own_proper, hidden}
 use Rattle.rules.proofs.Invariant.Unlink.{unlink_keeps}
-use Rattle.rules.proofs.Invariant.Insert.{Starts, reader, writer, insert_keeps}
+use Rattle.rules.proofs.Invariant.Insert.{Starts, insert_keeps}
 use Rattle.rules.proofs.Invariant.Leave.{Leaves, leave_keeps}
 use Rattle.rules.proofs.Rules.Effects.{Seated, reseated, same_nodes, only_links, only_marks}
 use Rattle.rules.proofs.Rules.Reasons.{Joined}

@@ -5,7 +5,6 @@ use mathlib.Core.Bool.{true, false, ◌||◌}
 use mathlib.Core.Logic.{◌≢◌}
 use native.Mathlib.Omega.{arith}
 use native.Mathlib.Decide.{dec_lt}
-use Rattle.rules.specs.Notation.{◌is◌}
 use Rattle.rules.specs.Tables.{Tables, node_count, seat_word, phase_at, own_at, prev_at, cur_at, link, head, phase, prev, cur}
 use Rattle.rules.specs.Reach.{met, listed, others_reach, free, Reach}
 use Rattle.rules.proofs.Ground.Logic.{or_neither, not_true, clash}

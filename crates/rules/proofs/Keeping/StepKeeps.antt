@@ -9,7 +9,7 @@ use Rattle.rules.specs.Steps.{link_in, pass, kind_of, hold, withdraw, leave, ent
 use Rattle.rules.proofs.Ground.Deciding.{if_same}
 use Rattle.rules.proofs.Laws.Words.{link_put_same, link_put_other, node_put_link}
 use Rattle.rules.proofs.Laws.Compared.{Precedes}
-use Rattle.rules.proofs.Invariant.View.{nodes_of, seats_of, Linked, validating, holding}
+use Rattle.rules.proofs.Invariant.View.{nodes_of, seats_of, validating, holding}
 use Rattle.rules.proofs.Invariant.Clauses.{Invariant}
 use Rattle.rules.proofs.Invariant.SeatMoves.{Moved}
 use Rattle.rules.proofs.Invariant.Known.{known_prev, own_proper}

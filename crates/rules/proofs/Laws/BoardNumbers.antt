@@ -1,6 +1,6 @@
 -- The board on numbers is the board on rows. Any lent list of numbers is so many whole rows and fewer than four numbers behind them; the
 -- board on it answers as the board on those rows does, leaves the numbers of the rows that that leaves, and the numbers behind stay.
-use Prim.Native.Nat.{ℕ, zero, suc, ◌+◌, ◌*◌, ◌/◌, ◌≤◌, ◌<◌}
+use Prim.Native.Nat.{ℕ, zero, suc, ◌*◌, ◌/◌, ◌≤◌, ◌<◌}
 use mathlib.Core.Path.{◌≡◌, refl, sym, ap, ◌∙◌}
 use mathlib.Core.Bool.{Bool, true, false}
 use mathlib.Core.List.{List, [], ◌∷◌, ◌++◌, append_assoc}

@@ -7,7 +7,7 @@ use native.Mathlib.Omega.{arith}
 use native.Mathlib.Decide.{dec_le}
 use lib.ListN.{length, take, drop}
 use borrow.Author.Tests.{lt-ltb, le-ltb, eq-eqb, ne_eqb}
-use Rattle.rules.specs.Locks.{Taken, taken, bad, All, all, first_bad, behind, and_then, each, record_width, in_threes, threes, Listed, listed, moved, written, move_all}
+use Rattle.rules.specs.Locks.{Taken, taken, bad, All, all, first_bad, and_then, each, record_width, in_threes, threes, Listed, listed, moved, written, move_all}
 use Rattle.rules.specs.Refusing.{NoneRefused, no_record, not_this, RecordsRefuse, no_title, bad_record, no_room}
 use Rattle.rules.specs.Archive.{record_numbers}
 use Rattle.rules.specs.declared.Moved.{Moved}

@@ -1,7 +1,7 @@
 -- What a store leaves in each word of the tables, N and S by the lengths, the words of fresh tables, and stores that come to nothing new: the
 -- one place beside specs/Tables.antt that knows where a word stands. Stated over the node, the seat, the field and the value; all above
 -- cites these.
-use Prim.Native.Nat.{ℕ, zero, suc, ◌+◌, ◌-◌, ◌*◌, ◌/◌, ◌<◌, ◌≤◌}
+use Prim.Native.Nat.{ℕ, zero, suc, ◌+◌, ◌*◌, ◌/◌, ◌<◌, ◌≤◌}
 use mathlib.Core.Path.{◌≡◌, refl, sym, ap, ◌∙◌}
 use mathlib.Core.Bool.{Bool, true, false}
 use mathlib.Core.List.{List}

@@ -3,7 +3,7 @@ use Prim.Native.Nat.{ℕ, ◌/◌, ◌≤◌, ◌<◌}
 use mathlib.Core.Path.{◌≡◌, refl, sym, ap, subst, ◌∙◌}
 use mathlib.Core.Bool.{Bool, true, false, not}
 use mathlib.Core.List.{List}
-use mathlib.Core.Logic.{◌≢◌, ◌⊎◌, inl, inr}
+use mathlib.Core.Logic.{◌≢◌}
 use native.Mathlib.Omega.{arith}
 use lib.ListN.{length}
 use borrow.Author.Tests.{ltb-true, lt-ltb, le-ltb, le-leb, lt-leb, eqb-true, eqb-false, eq-eqb, ne_eqb, not-false}
@@ -21,7 +21,7 @@ use Rattle.rules.specs.Run.{refusal_of}
 use Rattle.rules.specs.Play.{Call, reserve_call, enter_call, step_call, release_call, call, seat_of}
 use Rattle.rules.specs.Refusing.{HasSeat, Proper, WritesOnSheet, WithinTitle, NoNodeFree, Refuses, damaged, no_such_seat, no_frames, beyond_title, no_kind, reads_on_sheet, not_idle, idle, not_holding, not_reserved, none_to_reserve, none_again, ClearRefuses, lengths_wrong, title_of_none, DamageRefuses, tables_damaged, BoardRefuses, board_damaged, too_few_rows}
 use Rattle.rules.specs.declared.Row.{Row}
-use Rattle.rules.proofs.Ground.Logic.{clash, branch, not_true, neither, or_left, or_right}
+use Rattle.rules.proofs.Ground.Logic.{clash, branch, not_true, neither}
 use Rattle.rules.proofs.Laws.Answers.{refused_as, answers_no_refusal}
 use Rattle.rules.proofs.Rules.Reasons.{Fetching, found, found_then, none, Stepping, in_1, in_2, in_3, in_4, in_6, in_7, at_rest, by_phase_6}
 use Rattle.rules.proofs.Rules.Accepting.{Reserving, reserve_refused, reserve_accepted, reserving, Entering, enter_refused, enter_accepted, enters, Stepped, step_refused, step_accepted, stepped, Releasing, release_refused, release_accepted, releasing, step_is}

@@ -1,11 +1,11 @@
 -- What sound shape says of a sheet: which phases and kinds there are, and that nobody reads. Of any sound tables.
 use Prim.Native.Nat.{ℕ, ◌≤◌}
-use mathlib.Core.Path.{◌≡◌, refl, sym, ◌∙◌}
+use mathlib.Core.Path.{◌≡◌, refl, ◌∙◌}
 use mathlib.Core.Bool.{Bool, true, false, ◌&&◌}
 use mathlib.Core.Logic.{◌≢◌, inl, inr}
 use native.Mathlib.Omega.{arith}
 use borrow.Author.Tests.{ne_eqb}
-use Rattle.rules.specs.Notation.{◌is◌, count}
+use Rattle.rules.specs.Notation.{◌is◌}
 use Rattle.rules.specs.Tables.{Tables, seat_count, readers, kind_at, kind, phase, own}
 use Rattle.rules.specs.Shape.{sound, holds_with, holders_of_kind}
 use Rattle.rules.specs.Sheets.{OnSheet, SheetPhase, idle, walking, waiting, holding, reserved, SheetKind, none, writes}
@@ -14,7 +14,7 @@ use Rattle.rules.proofs.Ground.Counting.{count_none, count_gap}
 use Rattle.rules.proofs.Laws.Words.{node_zero}
 use Rattle.rules.proofs.Laws.Shape.{none_left, is_sound}
 use Rattle.rules.proofs.Laws.Counts.{sound_right}
-use Rattle.rules.proofs.Soundness.SoundShape.{Shaped, sound_shaped}
+use Rattle.rules.proofs.Soundness.SoundShape.{sound_shaped}
 
 -- of the phases up to 7, those that a sheet has
 named_phase : (p : ℕ) → p ≤ 7 → p ≢ 3 → p ≢ 4 → p ≢ 6 → SheetPhase p

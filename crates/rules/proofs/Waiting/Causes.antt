@@ -19,7 +19,6 @@ use Rattle.rules.proofs.Laws.SharedRuns.{shared_whole, shared_some, clash_shares
 use Rattle.rules.proofs.Invariant.View.{seats_of, waiting, waiting_reader}
 use Rattle.rules.proofs.Invariant.Phases.{linked_busy, linked_in}
 use Rattle.rules.proofs.Invariant.Clauses.{Seen, from_cur}
-use Rattle.rules.specs.Refusing.{Proper}
 use Rattle.rules.specs.Reached.{Reached}
 use Rattle.rules.proofs.Invariant.Known.{seen_proper, own_proper, hidden}
 use Rattle.rules.proofs.Rules.Reasons.{by_phase_2, by_phase_4, by_phase_5, by_phase_6}

@@ -2,12 +2,12 @@
 -- waits at a holder. The walks are those of both profiles.
 use Prim.Native.Nat.{ℕ, zero, suc, ◌+◌, ◌*◌, ◌≤◌, ◌<◌}
 use mathlib.Core.Path.{◌≡◌, refl, sym, ap, subst, ◌∙◌}
-use mathlib.Core.Bool.{Bool, true, false}
+use mathlib.Core.Bool.{Bool}
 use mathlib.Core.List.{List, [], ◌∷◌}
-use mathlib.Core.Logic.{◌≢◌, ◌⊎◌, inl, inr}
+use mathlib.Core.Logic.{◌≢◌, inl, inr}
 use native.Mathlib.Omega.{arith}
 use lib.ListN.{replicate}
-use borrow.Author.Tests.{eqb-true, eqb-false}
+use borrow.Author.Tests.{eqb-false}
 use Rattle.rules.specs.Notation.{◌is◌}
 use Rattle.rules.specs.Tables.{Tables, mark, phase, cur, phase_at}
 use Rattle.rules.specs.Answers.{Answer, wait, back, refused, Done, done, answer_of}
@@ -18,7 +18,6 @@ use Rattle.rules.specs.Play.{step_call, call}
 use Rattle.rules.specs.Reached.{Reached}
 use Rattle.rules.specs.Refusing.{Refuses, damaged, no_such_seat, none_again}
 use Rattle.rules.specs.Refusing.{idle as idle_seat}
-use Rattle.rules.specs.Apart.{Holds}
 use Rattle.rules.specs.Cause.{step_times, Cause, Settled, holds, waits, no_node, RunEnds, all_stepped, stopped_at_8}
 use Rattle.rules.specs.Sheets.{OnSheet, idle, walking, waiting, holding, reserved, WaitsAtHolder, SheetSettled, SheetTold}
 use Rattle.rules.specs.declared.Ran.{Ran}
@@ -30,8 +29,8 @@ use Rattle.rules.proofs.Rules.RefusedExactly.{call_by_table}
 use Rattle.rules.proofs.Frames.SeatFrames.{other_seats_kept}
 use Rattle.rules.proofs.Keeping.Hops.{busy_in}
 use Rattle.rules.proofs.Keeping.CallKeeps.{good}
-use Rattle.rules.proofs.Waiting.Within.{Within, now, later, more_time, and_then, then_now, within_keeps}
-use Rattle.rules.proofs.Waiting.Alone.{alone, AtRest, rests_holding, rests_waiting, step_reached, after_2}
+use Rattle.rules.proofs.Waiting.Within.{now, later, more_time, and_then, then_now, within_keeps}
+use Rattle.rules.proofs.Waiting.Alone.{alone, rests_holding, rests_waiting, step_reached, after_2}
 use Rattle.rules.proofs.Waiting.WalkAlone as walk
 use Rattle.rules.proofs.Waiting.WalkAlone.{WalkAt, walk_ends}
 use Rattle.rules.proofs.Waiting.LooseWalkAlone as loose

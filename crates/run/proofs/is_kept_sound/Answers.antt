@@ -1,6 +1,5 @@
 -- `run::is_kept_sound` meets its promise.
 use Rattle.run.proofs.Counting.{kept_linked, kept_other}
-use borrow.Author.Rules.{rules}
 use Rattle.run.proofs.is_kept_sound.Goals as goal
 
 pub returns-then-before-after : goal.returns-then-before-after

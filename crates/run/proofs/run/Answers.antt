@@ -1,7 +1,6 @@
 -- `run::run` meets its promise.
 use Rattle.shape.proofs.Tests.{now_sound}
 use Rattle.run.proofs.Counting.{run_sound, run_damaged}
-use borrow.Author.Rules.{rules}
 use Rattle.run.proofs.run.Goals as goal
 
 pub run_steps-requires : goal.run_steps-requires

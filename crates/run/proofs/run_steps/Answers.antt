@@ -1,15 +1,10 @@
 -- `run::run_steps` meets its promise.
-use Rattle.rules.specs.Run.{run_steps}
-use Rattle.rules.specs.Shape.{sound}
-use Rattle.rules.specs.Tables.{tables}
-use lib.ListN.{length, drop}
-use mathlib.Core.Bool.{true, not}
-use Prim.Native.Nat.{◌-◌, ◌≤◌}
-use mathlib.Core.Path.{◌≡◌, refl, ap}
+use mathlib.Core.Bool.{not}
+use mathlib.Core.Path.{refl, ap}
 use native.Mathlib.Omega.{arith}
 use Rattle.rules.proofs.Laws.Shape.{seats_few}
 use borrow.Author.Rules.{rules}
-use Rattle.run.proofs.Counting.{plus, seat_there, still_there, left_all, left_again, left_refused, left_past, left_budget, left_end, left_stopped, still_fit, still_sound, now_damaged}
+use Rattle.run.proofs.Counting.{seat_there, still_there, left_all, left_again, left_refused, left_past, left_budget, left_end, left_stopped, still_fit, still_sound, now_damaged}
 use Rattle.run.proofs.run_steps.Goals as goal
 
 pub loop-steps-init : goal.loop-steps-init

@@ -5,11 +5,8 @@ use Rattle.rules.specs.Tables.{tables}
 use lib.ListN.{length, drop}
 use mathlib.Core.Bool.{true}
 use Prim.Native.Nat.{◌-◌, ◌≤◌}
-use mathlib.Core.Path.{◌≡◌, refl}
-use native.Mathlib.Omega.{arith}
-use Rattle.rules.proofs.Laws.Shape.{seats_few}
-use borrow.Author.Rules.{rules}
-use Rattle.run.proofs.Counting.{plus, seat_there, still_there, left_all, left_again, left_refused, left_past, left_budget, left_end, left_stopped, still_fit, still_sound, now_damaged}
+use mathlib.Core.Path.{◌≡◌}
+use Rattle.run.proofs.Counting.{plus}
 use Rattle.run.proofs.run_steps.Given as goal
 
 abbrev pub invariant-loop-steps : goal.invariant-loop-steps

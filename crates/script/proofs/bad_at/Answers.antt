@@ -1,6 +1,5 @@
 -- `script::bad_at` meets its contract.
 use Rattle.rules.specs.Script.{bad_at}
-use borrow.Author.Rules.{rules}
 use Rattle.script.proofs.bad_at.Goals as goal
 
 pub returns : goal.returns

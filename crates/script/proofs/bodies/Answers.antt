@@ -3,10 +3,7 @@
 use Rattle.script.proofs.Reading.{bodies_start, bodies_again, bodies_wrong, bodies_extra, bodies_done}
 use native.Mathlib.Omega.{arith}
 use borrow.Author.Rules.{rules}
-use Rattle.rules.specs.Script.{bodies_from, no_lines}
-use mathlib.Core.Path.{◌≡◌, refl}
-use Prim.Native.Nat.{◌≤◌, ◌-◌}
-use lib.ListN.{length}
+use mathlib.Core.Path.{refl}
 use Rattle.script.proofs.bodies.Goals as goal
 
 pub loop-i-init : goal.loop-i-init

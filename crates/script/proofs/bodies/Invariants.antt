@@ -1,10 +1,7 @@
 -- `script::bodies` meets its contract. The loop's invariant: what is still to be read, from the place reached and with the rows so
 -- far, gives the whole. The measure is the number of bodies left.
-use Rattle.script.proofs.Reading.{bodies_start, bodies_again, bodies_wrong, bodies_extra, bodies_done}
-use native.Mathlib.Omega.{arith}
-use borrow.Author.Rules.{rules}
 use Rattle.rules.specs.Script.{bodies_from, no_lines}
-use mathlib.Core.Path.{◌≡◌, refl}
+use mathlib.Core.Path.{◌≡◌}
 use Prim.Native.Nat.{◌≤◌, ◌-◌}
 use lib.ListN.{length}
 use Rattle.script.proofs.bodies.Given as goal

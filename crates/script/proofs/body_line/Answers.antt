@@ -1,7 +1,6 @@
 -- `script::body_line` meets its contract.
 use Rattle.script.proofs.Reading.{byte_inside, body_reserve, body_step, body_release, body_enter, body_none}
 use native.Mathlib.Omega.{arith}
-use borrow.Author.Rules.{rules}
 use Rattle.script.proofs.body_line.Goals as goal
 
 pub overflow_add-at : goal.overflow_add-at

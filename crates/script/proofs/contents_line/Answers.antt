@@ -1,5 +1,4 @@
 -- `script::contents_line` meets its contract.
-use borrow.Author.Rules.{rules}
 use Rattle.script.proofs.Reading.{contents_in, contents_out}
 use Rattle.script.proofs.contents_line.Goals as goal
 

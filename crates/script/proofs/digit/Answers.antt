@@ -1,6 +1,5 @@
 -- `script::digit` meets its contract.
 use Rattle.script.proofs.Reading.{digit_low, digit_high, digit_here}
-use borrow.Author.Rules.{rules}
 use Rattle.script.proofs.digit.Goals as goal
 
 pub returns-then-b-lt48 : goal.returns-then-b-lt48

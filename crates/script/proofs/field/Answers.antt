@@ -1,5 +1,4 @@
 -- `script::field` meets its contract.
-use borrow.Author.Rules.{rules}
 use native.Mathlib.Omega.{arith}
 use Rattle.script.proofs.Reading.{byte_inside, field_here, field_none}
 use Rattle.script.proofs.field.Goals as goal

@@ -1,7 +1,6 @@
 -- `script::line_end` meets its contract.
 use Rattle.script.proofs.Reading.{byte_inside, end_here, end_none}
 use native.Mathlib.Omega.{arith}
-use borrow.Author.Rules.{rules}
 use Rattle.script.proofs.line_end.Goals as goal
 
 pub overflow_add-result : goal.overflow_add-result

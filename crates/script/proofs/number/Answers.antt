@@ -1,5 +1,4 @@
 -- `script::number` meets its contract.
-use borrow.Author.Rules.{rules}
 use native.Mathlib.Omega.{arith}
 use Rattle.script.proofs.Reading.{number_none, number_zero, number_digits, digit_inside}
 use Rattle.script.proofs.number.Goals as goal

@@ -1,7 +1,6 @@
 -- `script::read` meets its contract.
 use Rattle.script.proofs.Reading.{read_long, read_wrong, read_bodies}
 use Rattle.script.proofs.Bounds.{contents_calls}
-use borrow.Author.Rules.{rules}
 use Rattle.script.proofs.read.Goals as goal
 
 pub returns-then-src-gt16384 : goal.returns-then-src-gt16384

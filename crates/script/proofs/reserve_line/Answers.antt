@@ -1,6 +1,5 @@
 -- `script::reserve_line` meets its contract.
 use Rattle.rules.specs.Script.{reserve_line}
-use borrow.Author.Rules.{rules}
 use Rattle.script.proofs.reserve_line.Goals as goal
 
 pub returns : goal.returns

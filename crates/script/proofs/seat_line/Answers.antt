@@ -1,6 +1,5 @@
 -- `script::seat_line` meets its contract.
 use Rattle.rules.specs.Script.{seat_line}
-use borrow.Author.Rules.{rules}
 use Rattle.script.proofs.seat_line.Goals as goal
 
 pub returns : goal.returns

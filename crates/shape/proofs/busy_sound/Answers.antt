@@ -1,6 +1,5 @@
 -- `shape::busy_sound` meets its promise.
 use Rattle.shape.proofs.Tests.{own_none, own_lost, prev_lost, all_named}
-use Rattle.std.proofs.Common.{rules}
 use Rattle.shape.proofs.busy_sound.Goals as goal
 
 pub returns-then-own-eq0 : goal.returns-then-own-eq0

@@ -1,6 +1,5 @@
 -- `shape::holds` meets its promise.
 use Rattle.shape.proofs.Counted.{is_holder}
-use Rattle.std.proofs.Common.{rules}
 use Rattle.shape.proofs.holds.Goals as goal
 
 pub returns : goal.returns

@@ -1,6 +1,5 @@
 -- `shape::is_sound` meets its promise.
 use Rattle.shape.proofs.Tests.{fits, sound_not}
-use Rattle.std.proofs.Common.{rules}
 use Rattle.shape.proofs.is_sound.Goals as goal
 
 pub words_sound-requires : goal.words_sound-requires

@@ -1,6 +1,5 @@
 -- `shape::lengths_fit` meets its promise.
 use Rattle.shape.proofs.Tests.{lengths_is}
-use Rattle.std.proofs.Common.{rules}
 use Rattle.shape.proofs.lengths_fit.Goals as goal
 
 pub returns : goal.returns

@@ -1,9 +1,8 @@
 -- `shape::list_ends` meets its promise.
 use Rattle.rules.specs.Shape.{ends_within}
 use Rattle.rules.specs.Tables.{tables}
-use Rattle.std.proofs.Common.{◌≡◌, [], arith, rules}
+use Rattle.std.proofs.Common.{◌≡◌, []}
 use Rattle.shape.specs.Parts.{list_ends}
-use Rattle.shape.proofs.Tests.{ends_all, ends_again, ends_left, ends_out, within_some, within_in, few_fit}
 use Rattle.shape.proofs.list_ends.Given as goal
 
 abbrev pub invariant-loop-left : goal.invariant-loop-left

@@ -1,6 +1,5 @@
 -- `shape::may_claim` meets its promise.
 use Rattle.shape.proofs.Tests.{least_small, may_claim_is}
-use Rattle.std.proofs.Common.{rules}
 use Rattle.shape.proofs.may_claim.Goals as goal
 
 pub overflow_sub-result : goal.overflow_sub-result

@@ -1,6 +1,5 @@
 -- `shape::names_node` meets its promise.
 use Rattle.shape.proofs.Tests.{names_zero, names_past, names_kind}
-use Rattle.std.proofs.Common.{rules}
 use Rattle.shape.proofs.names_node.Goals as goal
 
 pub returns-then-a-eq0 : goal.returns-then-a-eq0

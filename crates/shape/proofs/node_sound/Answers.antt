@@ -1,6 +1,5 @@
 -- `shape::node_sound` meets its promise.
 use Rattle.shape.proofs.Tests.{node_zero, node_lost, node_claim}
-use Rattle.std.proofs.Common.{rules}
 use Rattle.shape.proofs.node_sound.Goals as goal
 
 pub returns-then-kind-eq0 : goal.returns-then-kind-eq0

@@ -1,7 +1,6 @@
 -- `shape::nodes_sound` meets its promise.
-use Rattle.std.proofs.Common.{◌≡◌, ◌+◌, ◌-◌, ◌≤◌, true, refl, arith, rules}
-use Rattle.words.specs.Parts.{with_zeros}
-use Rattle.shape.proofs.Tests.{nodes_below, nodes_none, nodes_more, nodes_fail, nodes_all}
+use Rattle.std.proofs.Common.{arith}
+use Rattle.shape.proofs.Tests.{nodes_none, nodes_more, nodes_fail, nodes_all}
 use Rattle.shape.proofs.nodes_sound.Goals as goal
 
 pub loop-i-init : goal.loop-i-init

@@ -1,7 +1,7 @@
 -- `shape::nodes_sound` meets its promise.
-use Rattle.std.proofs.Common.{◌≡◌, ◌+◌, ◌-◌, ◌≤◌, true, refl, arith, rules}
+use Rattle.std.proofs.Common.{◌≡◌, ◌-◌, ◌≤◌, true}
 use Rattle.words.specs.Parts.{with_zeros}
-use Rattle.shape.proofs.Tests.{nodes_below, nodes_none, nodes_more, nodes_fail, nodes_all}
+use Rattle.shape.proofs.Tests.{nodes_below}
 use Rattle.shape.proofs.nodes_sound.Given as goal
 
 abbrev pub invariant-loop-i : goal.invariant-loop-i

@@ -1,6 +1,5 @@
 -- `shape::ordinary_sound` meets its promise.
 use Rattle.shape.proofs.Tests.{lacks, has_3, has_4, has_other}
-use Rattle.std.proofs.Common.{rules}
 use Rattle.shape.proofs.ordinary_sound.Goals as goal
 
 pub returns-then-sheet : goal.returns-then-sheet

@@ -1,6 +1,5 @@
 -- `shape::resting_sound` meets its promise.
 use Rattle.shape.proofs.Tests.{rests_not, rests}
-use Rattle.std.proofs.Common.{rules}
 use Rattle.shape.proofs.resting_sound.Goals as goal
 
 pub returns-then-own-prev : goal.returns-then-own-prev

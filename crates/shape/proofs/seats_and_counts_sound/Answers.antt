@@ -1,7 +1,6 @@
 -- `shape::seats_and_counts_sound` meets its promise.
-use Rattle.std.proofs.Common.{◌-◌, ◌≤◌, refl, arith, rules}
-use Rattle.words.specs.Parts.{with_zeros}
-use Rattle.shape.proofs.Counted.{Counted, counted_none, counted_reader, counted_writer, counted_other, seat_fits, seat_fails, all_counted}
+use Rattle.std.proofs.Common.{refl, arith, rules}
+use Rattle.shape.proofs.Counted.{counted_none, counted_reader, counted_writer, counted_other, seat_fits, seat_fails, all_counted}
 use Rattle.shape.proofs.seats_and_counts_sound.Goals as goal
 
 pub loop-s-init : goal.loop-s-init

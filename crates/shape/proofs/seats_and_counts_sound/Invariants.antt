@@ -1,7 +1,7 @@
 -- `shape::seats_and_counts_sound` meets its promise.
-use Rattle.std.proofs.Common.{◌-◌, ◌≤◌, arith, rules}
+use Rattle.std.proofs.Common.{◌-◌, ◌≤◌}
 use Rattle.words.specs.Parts.{with_zeros}
-use Rattle.shape.proofs.Counted.{Counted, counted_none, counted_reader, counted_writer, counted_other, seat_fits, seat_fails, all_counted}
+use Rattle.shape.proofs.Counted.{Counted}
 use Rattle.shape.proofs.seats_and_counts_sound.Given as goal
 
 abbrev pub invariant-loop-s : goal.invariant-loop-s

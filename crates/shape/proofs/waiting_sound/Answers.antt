@@ -1,6 +1,5 @@
 -- `shape::waiting_sound` meets its promise.
 use Rattle.shape.proofs.Tests.{waits_nowhere, waits_at_cur}
-use Rattle.std.proofs.Common.{rules}
 use Rattle.shape.proofs.waiting_sound.Goals as goal
 
 pub returns-then-cur-eq0 : goal.returns-then-cur-eq0

@@ -1,6 +1,5 @@
 -- `steps::answer` meets its promise.
 use Rattle.steps.proofs.Arms.{answer_wait, answer_held, answer_back, answer_on}
-use borrow.Author.Rules.{rules}
 use Rattle.steps.proofs.answer.Goals as goal
 
 pub returns-in-2 : goal.returns-in-2

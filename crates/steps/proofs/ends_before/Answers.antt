@@ -1,6 +1,5 @@
 -- `steps::ends_before` meets its promise.
 use Rattle.steps.proofs.Arms.{before_is}
-use borrow.Author.Rules.{rules}
 use Rattle.steps.proofs.ends_before.Goals as goal
 
 pub returns : goal.returns

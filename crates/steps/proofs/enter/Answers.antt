@@ -1,6 +1,5 @@
 -- `steps::enter` meets its promise.
 use Rattle.steps.proofs.Arms.{entering_is}
-use borrow.Author.Rules.{rules}
 use Rattle.steps.proofs.enter.Goals as goal
 
 pub returns : goal.returns

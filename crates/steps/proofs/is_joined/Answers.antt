@@ -1,6 +1,5 @@
 -- `steps::is_joined` meets its promise.
 use Rattle.steps.proofs.Arms.{joined_is}
-use borrow.Author.Rules.{rules}
 use Rattle.steps.proofs.is_joined.Goals as goal
 
 pub returns : goal.returns

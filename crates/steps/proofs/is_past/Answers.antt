@@ -1,6 +1,5 @@
 -- `steps::is_past` meets its promise.
 use Rattle.steps.proofs.Arms.{past_is}
-use borrow.Author.Rules.{rules}
 use Rattle.steps.proofs.is_past.Goals as goal
 
 pub returns : goal.returns

@@ -1,6 +1,5 @@
 -- `steps::link_in` meets its promise.
 use Rattle.rules.specs.Steps.{link_in}
-use borrow.Author.Rules.{rules}
 use Rattle.steps.proofs.link_in.Goals as goal
 
 pub returns : goal.returns

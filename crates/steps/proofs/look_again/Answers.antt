@@ -1,6 +1,5 @@
 -- `steps::look_again` meets its promise.
 use Rattle.steps.proofs.Arms.{again_from_head, again_from_prev}
-use borrow.Author.Rules.{rules}
 use Rattle.steps.proofs.look_again.Goals as goal
 
 pub returns-then-node_word-eq1 : goal.returns-then-node_word-eq1

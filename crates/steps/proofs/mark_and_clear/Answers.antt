@@ -1,6 +1,5 @@
 -- `steps::mark_and_clear` meets its promise.
 use Rattle.steps.proofs.Arms.{clear_is}
-use borrow.Author.Rules.{rules}
 use Rattle.steps.proofs.mark_and_clear.Goals as goal
 
 pub returns : goal.returns

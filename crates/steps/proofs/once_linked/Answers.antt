@@ -1,6 +1,5 @@
 -- `steps::once_linked` meets its promise.
 use Rattle.steps.proofs.Arms.{linked_holds, linked_validates}
-use borrow.Author.Rules.{rules}
 use Rattle.steps.proofs.once_linked.Goals as goal
 
 pub returns-then-sheet : goal.returns-then-sheet

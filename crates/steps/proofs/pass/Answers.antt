@@ -1,6 +1,5 @@
 -- `steps::pass` meets its promise.
 use Rattle.rules.specs.Steps.{pass}
-use borrow.Author.Rules.{rules}
 use Rattle.steps.proofs.pass.Goals as goal
 
 pub returns : goal.returns

@@ -1,6 +1,5 @@
 -- `steps::read_on` meets its promise.
 use Rattle.steps.proofs.Arms.{read_marked, read_reader, read_writer}
-use borrow.Author.Rules.{rules}
 use Rattle.steps.proofs.read_on.Goals as goal
 
 pub returns-then-node_word-eq1 : goal.returns-then-node_word-eq1

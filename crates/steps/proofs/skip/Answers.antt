@@ -1,5 +1,4 @@
 -- `steps::skip` meets its promise.
-use borrow.Author.Rules.{rules}
 use Rattle.steps.proofs.skip.Goals as goal
 
 pub returns : goal.returns

@@ -1,5 +1,4 @@
 -- `steps::skip_and_link` meets its promise.
-use borrow.Author.Rules.{rules}
 use Rattle.steps.proofs.skip_and_link.Goals as goal
 
 pub returns : goal.returns

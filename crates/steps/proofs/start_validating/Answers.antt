@@ -1,6 +1,5 @@
 -- `steps::start_validating` meets its promise.
 use Rattle.steps.proofs.Arms.{start_reader, start_writer}
-use borrow.Author.Rules.{rules}
 use Rattle.steps.proofs.start_validating.Goals as goal
 
 pub returns-then-node_word-eq1 : goal.returns-then-node_word-eq1

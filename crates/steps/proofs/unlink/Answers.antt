@@ -1,6 +1,5 @@
 -- `steps::unlink` meets its promise.
 use Rattle.steps.proofs.Arms.{unlink_joined, unlink_not}
-use borrow.Author.Rules.{rules}
 use Rattle.steps.proofs.unlink.Goals as goal
 
 pub returns-then-is_joined : goal.returns-then-is_joined

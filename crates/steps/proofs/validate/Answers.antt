@@ -1,6 +1,5 @@
 -- `steps::validate` meets its promise.
 use Rattle.steps.proofs.Arms.{validate_reader, validate_writer}
-use borrow.Author.Rules.{rules}
 use Rattle.steps.proofs.validate.Goals as goal
 
 pub returns-then-node_word-eq1 : goal.returns-then-node_word-eq1

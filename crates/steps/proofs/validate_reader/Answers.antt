@@ -1,6 +1,5 @@
 -- `steps::validate_reader` meets its promise.
 use Rattle.steps.proofs.Arms.{reader_holds, reader_on}
-use borrow.Author.Rules.{rules}
 use Rattle.steps.proofs.validate_reader.Goals as goal
 
 pub returns-then-is_past : goal.returns-then-is_past

@@ -1,6 +1,5 @@
 -- `steps::validate_writer` meets its promise.
 use Rattle.steps.proofs.Arms.{writer_holds, writer_ends, writer_on}
-use borrow.Author.Rules.{rules}
 use Rattle.steps.proofs.validate_writer.Goals as goal
 
 pub returns-then-cur-own : goal.returns-then-cur-own

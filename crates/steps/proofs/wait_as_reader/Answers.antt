@@ -1,6 +1,5 @@
 -- `steps::wait_as_reader` meets its promise.
 use Rattle.steps.proofs.Arms.{reader_is}
-use borrow.Author.Rules.{rules}
 use Rattle.steps.proofs.wait_as_reader.Goals as goal
 
 pub returns : goal.returns

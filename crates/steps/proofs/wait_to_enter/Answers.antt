@@ -1,6 +1,5 @@
 -- `steps::wait_to_enter` meets its promise.
 use Rattle.steps.proofs.Arms.{to_enter_is}
-use borrow.Author.Rules.{rules}
 use Rattle.steps.proofs.wait_to_enter.Goals as goal
 
 pub returns : goal.returns

@@ -1,6 +1,5 @@
 -- `steps::waiting` meets its promise.
 use Rattle.steps.proofs.Arms.{waiting_is}
-use borrow.Author.Rules.{rules}
 use Rattle.steps.proofs.waiting.Goals as goal
 
 pub returns : goal.returns

@@ -1,6 +1,5 @@
 -- `steps::wake` meets its promise.
 use Rattle.steps.proofs.Arms.{wake_up, wake_not}
-use borrow.Author.Rules.{rules}
 use Rattle.steps.proofs.wake.Goals as goal
 
 pub returns-then-node_word-eq1 : goal.returns-then-node_word-eq1

@@ -1,6 +1,5 @@
 -- `steps::walk` meets its promise.
 use Rattle.steps.proofs.Arms.{walk_end, walk_marked, walk_on}
-use borrow.Author.Rules.{rules}
 use Rattle.steps.proofs.walk.Goals as goal
 
 pub returns-then-cur-eq0 : goal.returns-then-cur-eq0

@@ -1,6 +1,5 @@
 -- `steps::walk_by_comparison` meets its promise.
 use Rattle.steps.proofs.Arms.{walk_clash, walk_before, walk_after}
-use borrow.Author.Rules.{rules}
 use Rattle.steps.proofs.walk_by_comparison.Goals as goal
 
 pub returns-then-way-eq0 : goal.returns-then-way-eq0

@@ -1,6 +1,5 @@
 -- `steps::withdraw` meets its promise.
 use Rattle.steps.proofs.Arms.{withdraw_is}
-use borrow.Author.Rules.{rules}
 use Rattle.steps.proofs.withdraw.Goals as goal
 
 pub returns : goal.returns

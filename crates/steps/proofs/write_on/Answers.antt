@@ -1,6 +1,5 @@
 -- `steps::write_on` meets its promise.
 use Rattle.steps.proofs.Arms.{write_marked, write_past, write_clash}
-use borrow.Author.Rules.{rules}
 use Rattle.steps.proofs.write_on.Goals as goal
 
 pub returns-then-node_word-eq1 : goal.returns-then-node_word-eq1

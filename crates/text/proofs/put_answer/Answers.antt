@@ -2,7 +2,6 @@
 use Rattle.rules.specs.Play.{answer_text}
 use Rattle.replies.specs.Codes.{answer_by}
 use Rattle.text.proofs.Lines.{answer_by_law, answer_other}
-use borrow.Author.Rules.{rules}
 use Rattle.text.proofs.put_answer.Goals as goal
 
 pub returns-in-1 : goal.returns-in-1

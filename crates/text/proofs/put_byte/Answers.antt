@@ -1,6 +1,5 @@
 -- `text::put_byte` meets its contract.
 use Rattle.text.proofs.Pages.{put_in, put_out}
-use borrow.Author.Rules.{rules}
 use Rattle.text.proofs.put_byte.Goals as goal
 
 pub returns-then-at-out : goal.returns-then-at-out

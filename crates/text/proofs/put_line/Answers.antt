@@ -1,7 +1,6 @@
 -- `text::put_line` meets its contract.
 use Rattle.text.proofs.Pages.{joined}
 use Rattle.text.proofs.Lines.{line_put}
-use borrow.Author.Rules.{rules}
 use Rattle.text.proofs.put_line.Goals as goal
 
 pub returns : goal.returns

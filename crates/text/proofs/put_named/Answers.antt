@@ -1,6 +1,5 @@
 -- `text::put_named` meets its contract.
 use Rattle.text.proofs.Pages.{joined}
-use borrow.Author.Rules.{rules}
 use Rattle.text.proofs.put_named.Goals as goal
 
 pub returns : goal.returns

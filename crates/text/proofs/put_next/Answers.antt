@@ -1,6 +1,5 @@
 -- `text::put_next` meets its contract.
 use Rattle.text.proofs.Pages.{joined}
-use borrow.Author.Rules.{rules}
 use Rattle.text.proofs.put_next.Goals as goal
 
 pub returns : goal.returns

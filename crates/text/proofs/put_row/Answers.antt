@@ -3,7 +3,6 @@ use Rattle.rules.specs.Play.{row_text}
 use Rattle.text.proofs.Pages.{joined, joined_two}
 use Rattle.text.proofs.Lines.{row_reaches}
 use native.Mathlib.Omega.{arith}
-use borrow.Author.Rules.{rules}
 use Rattle.text.proofs.put_row.Goals as goal
 
 pub returns : goal.returns

@@ -1,11 +1,7 @@
 -- `text::put_text` meets its contract. The loop's invariant: the bytes still to be put, on the page so far, give the whole. The measure
 -- is their number.
-use lib.ListN.{length, drop}
-use Prim.Native.Nat.{◌≤◌, ◌-◌}
-use mathlib.Core.Path.{◌≡◌, refl}
+use mathlib.Core.Path.{refl}
 use native.Mathlib.Omega.{arith}
-use borrow.Author.Rules.{rules}
-use Rattle.text.specs.Page.{page, puts}
 use Rattle.text.proofs.Pages.{text_again, text_done}
 use Rattle.text.proofs.put_text.Goals as goal
 

@@ -1,7 +1,6 @@
 -- `text::put_turn` meets its contract: its four calls put four texts, one after another.
 use Rattle.text.specs.Lines.{answer_line}
 use Rattle.text.proofs.Pages.{joined}
-use borrow.Author.Rules.{rules}
 use Rattle.text.proofs.put_turn.Goals as goal
 
 pub returns : goal.returns

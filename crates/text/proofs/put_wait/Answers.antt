@@ -1,7 +1,6 @@
 -- `text::put_wait` meets its contract: its three calls put three texts, one after another.
 use Rattle.rules.specs.Play.{answer_text}
 use Rattle.text.proofs.Pages.{joined_two}
-use borrow.Author.Rules.{rules}
 use Rattle.text.proofs.put_wait.Goals as goal
 
 pub returns : goal.returns

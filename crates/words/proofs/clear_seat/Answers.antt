@@ -1,10 +1,7 @@
 -- `words::clear_seat` meets its promise.
-use lib.ListN.{length}
-use Prim.Native.Nat.{◌-◌, ◌≤◌}
-use mathlib.Core.Path.{◌≡◌, refl}
+use mathlib.Core.Path.{refl}
 use native.Mathlib.Omega.{arith}
 use borrow.Author.Rules.{rules}
-use Rattle.rules.specs.Tables.{clear_words}
 use Rattle.words.proofs.Places.{clear_none, clear_more, clear_all}
 use Rattle.words.proofs.clear_seat.Goals as goal
 

@@ -1,6 +1,5 @@
 -- `words::count_word` meets its promise.
 use Rattle.words.proofs.Places.{read_count}
-use borrow.Author.Rules.{rules}
 use Rattle.words.proofs.count_word.Goals as goal
 
 pub returns : goal.returns

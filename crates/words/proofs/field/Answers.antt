@@ -1,6 +1,5 @@
 -- `words::field` meets its promise.
 use Rattle.words.proofs.Places.{read_field}
-use borrow.Author.Rules.{rules}
 use Rattle.words.proofs.field.Goals as goal
 
 pub returns : goal.returns

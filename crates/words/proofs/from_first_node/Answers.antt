@@ -1,6 +1,5 @@
 -- `words::from_first_node` meets its promise.
 use Rattle.words.proofs.Places.{to_the_end}
-use borrow.Author.Rules.{rules}
 use Rattle.words.proofs.from_first_node.Goals as goal
 
 pub returns : goal.returns

@@ -1,6 +1,5 @@
 -- `words::link` meets its promise.
 use Rattle.words.proofs.Places.{read_head, read_next}
-use borrow.Author.Rules.{rules}
 use Rattle.words.proofs.link.Goals as goal
 
 pub returns-then-a-eq0 : goal.returns-then-a-eq0

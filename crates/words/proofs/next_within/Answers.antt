@@ -1,6 +1,5 @@
 -- `words::next_within` meets its promise.
 use Rattle.words.proofs.Places.{read_next}
-use borrow.Author.Rules.{rules}
 use Rattle.words.proofs.next_within.Goals as goal
 
 pub returns : goal.returns

@@ -1,6 +1,5 @@
 -- `words::node_count` meets its promise.
 use borrow.Author.Rules.{rules}
-use native.Mathlib.Omega.{arith}
 use Rattle.rules.specs.Tables.{node_count_of}
 use Rattle.words.proofs.node_count.Goals as goal
 

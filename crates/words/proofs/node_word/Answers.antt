@@ -1,7 +1,6 @@
 -- `words::node_word` meets its promise.
 use Rattle.rules.specs.Tables.{node_word}
 use Rattle.words.proofs.Places.{read_node}
-use borrow.Author.Rules.{rules}
 use Rattle.words.proofs.node_word.Goals as goal
 
 pub returns-then-a-eq0 : goal.returns-then-a-eq0

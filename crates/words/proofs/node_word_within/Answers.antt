@@ -1,6 +1,5 @@
 -- `words::node_word_within` meets its promise.
 use Rattle.words.proofs.Places.{read_node, node_in}
-use borrow.Author.Rules.{rules}
 use Rattle.words.proofs.node_word_within.Goals as goal
 
 pub bounds-nodes-node_place : goal.bounds-nodes-node_place

@@ -1,7 +1,6 @@
 -- `words::nodes_fit` meets its promise.
 use native.Mathlib.Omega.{arith}
 use Rattle.words.proofs.Places.{nodes_within, nodes_fit_is}
-use borrow.Author.Rules.{rules}
 use Rattle.words.proofs.nodes_fit.Goals as goal
 
 pub overflow_mul-result : goal.overflow_mul-result

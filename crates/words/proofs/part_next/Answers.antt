@@ -1,6 +1,5 @@
 -- `words::part_next` meets its promise.
 use Rattle.words.proofs.Places.{read_next}
-use borrow.Author.Rules.{rules}
 use Rattle.words.proofs.part_next.Goals as goal
 
 pub returns : goal.returns

@@ -1,6 +1,5 @@
 -- `words::part_word` meets its promise.
 use Rattle.words.proofs.Places.{read_part, part_in}
-use borrow.Author.Rules.{rules}
 use Rattle.words.proofs.part_word.Goals as goal
 
 pub bounds-part-part_place : goal.bounds-part-part_place

@@ -1,6 +1,5 @@
 -- `words::put_count` meets its promise.
 use Rattle.words.proofs.Places.{store_count}
-use borrow.Author.Rules.{rules}
 use Rattle.words.proofs.put_count.Goals as goal
 
 pub returns : goal.returns

@@ -1,6 +1,5 @@
 -- `words::put_field` meets its promise.
 use Rattle.words.proofs.Places.{store_field}
-use borrow.Author.Rules.{rules}
 use Rattle.words.proofs.put_field.Goals as goal
 
 pub returns : goal.returns

@@ -1,6 +1,5 @@
 -- `words::put_link` meets its promise.
 use Rattle.words.proofs.Places.{store_head, store_next}
-use borrow.Author.Rules.{rules}
 use Rattle.words.proofs.put_link.Goals as goal
 
 pub returns-then-a-eq0 : goal.returns-then-a-eq0

@@ -1,7 +1,6 @@
 -- `words::put_node` meets its promise.
 use Rattle.rules.specs.Tables.{put_node}
 use Rattle.words.proofs.Places.{store_node}
-use borrow.Author.Rules.{rules}
 use Rattle.words.proofs.put_node.Goals as goal
 
 pub returns-then-a-eq0 : goal.returns-then-a-eq0

@@ -1,6 +1,5 @@
 -- `words::put_seat` meets its promise.
 use Rattle.words.proofs.Places.{store_seat, place_there}
-use borrow.Author.Rules.{rules}
 use Rattle.words.proofs.put_seat.Goals as goal
 
 pub bounds-seats-seat_place : goal.bounds-seats-seat_place

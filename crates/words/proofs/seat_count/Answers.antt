@@ -1,5 +1,4 @@
 -- `words::seat_count` meets its promise.
-use borrow.Author.Rules.{rules}
 use Rattle.words.proofs.Places.{seat_count_is}
 use Rattle.words.proofs.seat_count.Goals as goal
 

@@ -1,7 +1,6 @@
 -- `words::seat_place` meets its promise.
 use native.Mathlib.Omega.{arith}
 use native.Mathlib.Nat.{mul-le-mul_right}
-use borrow.Author.Rules.{rules}
 use Rattle.words.proofs.seat_place.Goals as goal
 
 pub overflow_mul-result : goal.overflow_mul-result

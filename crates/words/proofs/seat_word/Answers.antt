@@ -1,6 +1,5 @@
 -- `words::seat_word` meets its promise.
 use Rattle.words.proofs.Places.{read_seat, seat_there, field_there}
-use borrow.Author.Rules.{rules}
 use Rattle.words.proofs.seat_word.Goals as goal
 
 pub seat_word_within-requires : goal.seat_word_within-requires

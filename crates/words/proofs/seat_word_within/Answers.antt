@@ -1,6 +1,5 @@
 -- `words::seat_word_within` meets its promise.
 use Rattle.words.proofs.Places.{read_seat, seat_in}
-use borrow.Author.Rules.{rules}
 use Rattle.words.proofs.seat_word_within.Goals as goal
 
 pub bounds-seats-seat_place : goal.bounds-seats-seat_place

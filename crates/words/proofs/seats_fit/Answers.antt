@@ -1,7 +1,6 @@
 -- `words::seats_fit` meets its promise.
 use native.Mathlib.Omega.{arith}
 use Rattle.words.proofs.Places.{seats_within, seats_fit_is}
-use borrow.Author.Rules.{rules}
 use Rattle.words.proofs.seats_fit.Goals as goal
 
 pub overflow_mul-result : goal.overflow_mul-result
