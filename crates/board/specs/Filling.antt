@@ -1,6 +1,6 @@
 -- How the board is filled: a row written at a place, and the rows of the first seats one behind the other.
-use Rattle.std.specs.Prelude.{ℕ, ◌+◌, ◌*◌, ◌/◌, List, ◌++◌, set, length, drop}
-use Rattle.rules.specs.Notation.{if◌then◌else◌, ◌is◌, ◌<?◌}
+use Rattle.std.specs.Prelude.{ℕ, ◌+◌, ◌*◌, ◌/◌, List, ◌++◌, set, length, drop, if◌then◌else◌}
+use Rattle.rules.specs.Notation.{◌is◌, ◌<?◌}
 use Rattle.rules.specs.Tables.{Tables, phase}
 use Rattle.rules.specs.Board.{row_of, rows_below, holders, covered_by, numbers_of, row_width, Boarded, Shown, shown}
 use Rattle.rules.specs.declared.Row.{Row}

@@ -1,7 +1,7 @@
 -- What a caller reads in the number that a call returns: from its upper half what kind of answer, from its lower the answer's number. No
 -- promise cites these; that they read back what was encoded is proved in proofs/Told.antt.
-use Rattle.std.specs.Prelude.{ℕ, zero, suc, ◌+◌, List, [], ◌∷◌, ◌++◌, get_or}
-use Rattle.rules.specs.Notation.{if◌then◌else◌, ◌is◌}
+use Rattle.std.specs.Prelude.{ℕ, zero, suc, ◌+◌, List, [], ◌∷◌, ◌++◌, get_or, if◌then◌else◌}
+use Rattle.rules.specs.Notation.{◌is◌}
 use Rattle.rules.specs.Answers.{Answer}
 use Rattle.rules.specs.FreeCount.{Counted}
 use Rattle.rules.specs.Run.{ran}

@@ -1,8 +1,8 @@
 -- An answer as one number: what kind of answer in the upper 32 bits, its number in the lower. The promises speak of the two halves, so
 -- that no two answers are one number, however large theirs are; of a wait, together with its shared run, which crosses in two words of its own. A
 -- refusal is its own number.
-use Rattle.std.specs.Prelude.{ℕ, zero, suc, ◌+◌, ◌*◌, ◌/◌, ◌%◌, List, [], ◌∷◌, get_or, set}
-use Rattle.rules.specs.Notation.{if◌then◌else◌, ◌is◌}
+use Rattle.std.specs.Prelude.{ℕ, zero, suc, ◌+◌, ◌*◌, ◌/◌, ◌%◌, List, [], ◌∷◌, get_or, set, if◌then◌else◌}
+use Rattle.rules.specs.Notation.{◌is◌}
 use Rattle.rules.specs.Tables.{Tables}
 use Rattle.rules.specs.Answers.{Answer, node, out, on, wait, held, back, refused, Done, done}
 use Rattle.rules.specs.FreeCount.{Counted}

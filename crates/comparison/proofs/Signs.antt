@@ -1,4 +1,5 @@
 -- The comparison as one law for each way through the code, and what the code's tests of a signed number tell.
+use Rattle.std.specs.Prelude.{if◌then◌else◌}
 use Prim.Native.Nat.{ℕ, zero, suc, ◌<◌}
 use mathlib.Core.Path.{◌≡◌, refl, sym, ap, ◌∙◌}
 use mathlib.Core.Bool.{Bool, true, false, ◌&&◌, true≢false}
@@ -11,7 +12,6 @@ use mir.Syntax.{w32}
 use mir.Val.{SFits, of_z, to_z}
 use mir.Facts.{to_z-of_z, sfits_lit}
 use borrow.Author.Tests.{ltb-true}
-use Rattle.rules.specs.Notation.{if◌then◌else◌}
 use Rattle.rules.specs.Tables.{tables, node_word, start_at, end_at, kind_at}
 use Rattle.rules.specs.Comparison.{Claim, claim, claim_of, lies_after, lies_before, compare, by_comparison}
 use Rattle.comparison.specs.Behind.{lies_behind}

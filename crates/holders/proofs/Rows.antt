@@ -1,4 +1,5 @@
 -- The rows of the first seats, seat by seat: what one seat more adds to them and to their number.
+use Rattle.std.specs.Prelude.{if◌then◌else◌}
 use Prim.Native.Nat.{ℕ, zero, suc, ◌+◌, ◌-◌, ◌≤◌}
 use native.Mathlib.Omega.{arith}
 use native.Mathlib.Numerals.{add-one}
@@ -8,7 +9,7 @@ use mathlib.Core.Logic.{◌≢◌}
 use mathlib.Core.Path.{◌≡◌, refl, sym, ap, ◌∙◌}
 use lib.ListN.{length, length-append}
 use borrow.Author.Tests.{eq-eqb, ne_eqb}
-use Rattle.rules.specs.Notation.{if◌then◌else◌, ◌is◌, count}
+use Rattle.rules.specs.Notation.{◌is◌, count}
 use Rattle.rules.specs.Tables.{Tables, seat_word, seat_count, phase_at, phase}
 use Rattle.rules.specs.Board.{row_of, rows_below, holders}
 use Rattle.holders.specs.Holding.{holding, held_by}

@@ -1,6 +1,6 @@
 -- The holders among the first seats. The board's own definitions, rows and covered frames, are those of the rules.
-use Rattle.std.specs.Prelude.{ℕ, ◌+◌, Bool, List, [], ◌∷◌}
-use Rattle.rules.specs.Notation.{if◌then◌else◌, ◌is◌, count}
+use Rattle.std.specs.Prelude.{ℕ, ◌+◌, Bool, List, [], ◌∷◌, if◌then◌else◌}
+use Rattle.rules.specs.Notation.{◌is◌, count}
 use Rattle.rules.specs.Tables.{Tables, seat_word, phase_at, phase}
 use Rattle.rules.specs.Board.{row_of}
 use Rattle.rules.specs.declared.Row.{Row}

@@ -1,5 +1,6 @@
 -- Laws of a word as a set of numbers: what is in a word that the machine's or, complement and mask make, how many are in it, and which
 -- of them is the lowest.
+use Rattle.std.specs.Prelude.{if◌then◌else◌}
 use Prim.Native.Nat.{ℕ, zero, suc, ◌+◌, ◌-◌, ◌*◌, ◌/◌, ◌%◌, ◌^◌, ◌≤◌, ◌<◌, max}
 use mathlib.Core.Path.{◌≡◌, refl, sym, ap, ◌∙◌}
 use mathlib.Core.Bool.{true, false, ◌&&◌, ◌||◌, not}
@@ -12,7 +13,7 @@ use lib.Bits.{bit_or, bit_and, or_step, or_zero_r, and_mask}
 use lib.Count.{ones, ones_step, count_trailing_zeros}
 use lib.Pow.{shl_exact, mod-pow-add}
 use borrow.Author.Tests.{eq-eqb, eqb-true, lt-ltb, le-ltb, ltb-true}
-use Rattle.rules.specs.Notation.{if◌then◌else◌, ◌is◌, ◌<?◌, count}
+use Rattle.rules.specs.Notation.{◌is◌, ◌<?◌, count}
 use Rattle.rules.proofs.Ground.Logic.{same, or_right}
 use Rattle.rules.proofs.Ground.Counting.{count_none, count_first}
 use Rattle.nodesets.specs.Word.{in_word, add_word}

@@ -1,4 +1,5 @@
 -- One record, by each way through the code: why it is refused or not, and the numbers of one that is not.
+use Rattle.std.specs.Prelude.{if◌then◌else◌}
 use Prim.Native.Nat.{ℕ, zero, suc, ◌+◌, ◌-◌, ◌*◌, ◌<◌, ◌≤◌}
 use mathlib.Core.Path.{◌≡◌, refl, sym, ap, ◌∙◌}
 use mathlib.Core.List.{List}
@@ -12,7 +13,7 @@ use mir.Syntax.{w32, w64}
 use mir.Val.{SFits, Fits, of_z, to_z}
 use mir.Facts.{to_z-of_z, to_z_pos}
 use borrow.Author.Tests.{lt-ltb, le-ltb, le-leb, lt-leb, eq-eqb, ne_eqb, ltb-true}
-use Rattle.rules.specs.Notation.{if◌then◌else◌, ◌≤?◌, ◌<?◌}
+use Rattle.rules.specs.Notation.{◌≤?◌, ◌<?◌}
 use Rattle.rules.specs.Comparison.{Claim, claim}
 use Rattle.rules.specs.Shape.{is_kind}
 use Rattle.rules.specs.Locks.{Lock, lock, by_sign, first_frame, length_of, is_type, Taken, taken, bad, import_lock, export_claim, record_width}

@@ -1,7 +1,7 @@
 -- How the private functions gather nodes into a set, named for their contracts. No rule stands here: proofs/ ties each set to the rules
 -- of Reach and Fetch.
-use Rattle.std.specs.Prelude.{ℕ, zero, suc, ◌≤◌, Bool, ◌||◌, List, [], ◌∷◌}
-use Rattle.rules.specs.Notation.{if◌then◌else◌, ◌is◌}
+use Rattle.std.specs.Prelude.{ℕ, zero, suc, ◌≤◌, Bool, ◌||◌, List, [], ◌∷◌, if◌then◌else◌}
+use Rattle.rules.specs.Notation.{◌is◌}
 use Rattle.rules.specs.Tables.{Tables, node_count_of, node_count, seat_count, own, prev, cur, link_word}
 use Rattle.nodesets.specs.Set.{has, add}
 

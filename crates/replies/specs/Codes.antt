@@ -1,6 +1,6 @@
 -- A reply as numbers, and the answer that they stand for.
-use Rattle.std.specs.Prelude.{ℕ}
-use Rattle.rules.specs.Notation.{if◌then◌else◌, ◌is◌}
+use Rattle.std.specs.Prelude.{ℕ, if◌then◌else◌}
+use Rattle.rules.specs.Notation.{◌is◌}
 use Rattle.rules.specs.Answers.{Answer, node, out, on, wait, held, back, refused}
 use Rattle.rules.specs.declared.Reply.{Reply}
 use Rattle.rules.specs.declared.Reply.TheVariants.{Node, Out, On, Wait, Held, Back, Refused}

@@ -1,5 +1,6 @@
 -- What the answer and the rows come to: one law for each way through the code, and that the rows written from the last holder's to the
 -- first are the board.
+use Rattle.std.specs.Prelude.{if◌then◌else◌}
 use Prim.Native.Nat.{ℕ, zero, suc, ◌+◌, ◌-◌, ◌≤◌, ◌<◌}
 use mathlib.Core.Path.{◌≡◌, refl, sym, ap, ◌∙◌}
 use mathlib.Core.Bool.{Bool, true, false}
@@ -10,7 +11,6 @@ use lib.Dec.{eqb, ltb}
 use lib.ListN.{length, drop, set, length-set, length-append}
 use lib.Seq.{drop-cons, drop-set-lt, get_or-set_same}
 use borrow.Author.Tests.{ne_eqb, eqb-true, lt-ltb, le-ltb, ltb-false}
-use Rattle.rules.specs.Notation.{if◌then◌else◌}
 use Rattle.rules.specs.Tables.{Tables, tables, seat_word, seat_count, seat_count_of, phase_at}
 use Rattle.rules.specs.Shape.{sound}
 use Rattle.rules.specs.Board.{row_of, rows_below, holders, covered_by, Boarded, shown, board}

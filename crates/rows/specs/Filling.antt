@@ -1,6 +1,6 @@
 -- How the rows are filled: what is answered where so many rows are lent, and the rows written from the last holder's to the first.
-use Rattle.std.specs.Prelude.{ℕ, zero, suc, Bool, List, length, set, replicate}
-use Rattle.rules.specs.Notation.{if◌then◌else◌, ◌is◌, ◌<?◌}
+use Rattle.std.specs.Prelude.{ℕ, zero, suc, Bool, List, length, set, replicate, if◌then◌else◌}
+use Rattle.rules.specs.Notation.{◌is◌, ◌<?◌}
 use Rattle.rules.specs.Tables.{Tables, seat_word, phase_at}
 use Rattle.rules.specs.Calls.{damaged}
 use Rattle.rules.specs.Board.{row_of, holders, covered_by, Boarded}

@@ -5,13 +5,14 @@
 -- That the code makes these stores and no others, in this order, is in the contracts of crates/fetch: there the only function that stores a link for
 -- `take_out` asks that what it stores is the first of `stores` of the tables as they stand, and leaves the tables whose stores are the others
 -- (`first-made-others-left` below); and when `take_out` ends, none is left.
+use Rattle.std.specs.Prelude.{if◌then◌else◌}
 use Prim.Native.Nat.{ℕ, suc, ◌≤◌}
 use mathlib.Core.Path.{◌≡◌}
 use mathlib.Core.Bool.{true}
 use mathlib.Core.List.{List, [], ◌∷◌, ◌++◌}
 use mathlib.Core.Logic.{◌≢◌}
 use lib.ListN.{length}
-use Rattle.rules.specs.Notation.{if◌then◌else◌, count}
+use Rattle.rules.specs.Notation.{count}
 use Rattle.rules.specs.Tables.{Tables, node_count, link, set_link}
 use Rattle.rules.specs.Shape.{sound}
 use Rattle.rules.specs.Fetch.{taken_out}

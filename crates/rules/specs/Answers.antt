@@ -1,6 +1,6 @@
 -- What a call gives back, and how it is refused.
-use Rattle.std.specs.Prelude.{ℕ, Bool, List, [], ◌∷◌}
-use Rattle.rules.specs.Notation.{if◌then◌else◌, ◌is◌}
+use Rattle.std.specs.Prelude.{ℕ, Bool, List, [], ◌∷◌, if◌then◌else◌}
+use Rattle.rules.specs.Notation.{◌is◌}
 use Rattle.rules.specs.Tables.{Tables, phase, own, cur}
 use Rattle.rules.specs.Comparison.{claim_of, shared}
 use Rattle.rules.specs.declared.SharedRun.{SharedRun}

@@ -1,6 +1,6 @@
 -- The board: who holds what.
-use Rattle.std.specs.Prelude.{ℕ, zero, suc, ◌*◌, ◌/◌, max, Bool, false, ◌&&◌, ◌||◌, List, [], ◌∷◌, ◌++◌, length, drop}
-use Rattle.rules.specs.Notation.{if◌then◌else◌, ◌is◌, ◌≤?◌, ◌<?◌, count}
+use Rattle.std.specs.Prelude.{ℕ, zero, suc, ◌*◌, ◌/◌, max, Bool, false, ◌&&◌, ◌||◌, List, [], ◌∷◌, ◌++◌, length, drop, if◌then◌else◌}
+use Rattle.rules.specs.Notation.{◌is◌, ◌≤?◌, ◌<?◌, count}
 use Rattle.rules.specs.Tables.{Tables, seat_count, start, end, kind, phase, own}
 use Rattle.rules.specs.Calls.{damaged}
 use Rattle.rules.specs.declared.Row.{Row}

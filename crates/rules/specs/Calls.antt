@@ -1,6 +1,6 @@
 -- The calls on the tables, each total: any tables, any numbers. A refused call gives its number and the tables as found.
-use Rattle.std.specs.Prelude.{ℕ, Bool, not, [], ◌∷◌}
-use Rattle.rules.specs.Notation.{if◌then◌else◌, ◌is◌, ◌≤?◌, ◌<?◌}
+use Rattle.std.specs.Prelude.{ℕ, Bool, not, [], ◌∷◌, if◌then◌else◌}
+use Rattle.rules.specs.Notation.{◌is◌, ◌≤?◌, ◌<?◌}
 use Rattle.rules.specs.Tables.{Tables, node_count, seat_count, title, phase, fresh}
 use Rattle.rules.specs.Comparison.{Claim}
 use Rattle.rules.specs.Shape.{lengths_fit, sound, may_claim}

@@ -1,6 +1,6 @@
 -- A claim, the comparison of a listed node's claim c with one's own claim o, and what the two share.
-use Rattle.std.specs.Prelude.{ℕ, zero, suc, Bool, ◌&&◌, ◌||◌, ℤ, pos, negsuc}
-use Rattle.rules.specs.Notation.{if◌then◌else◌, ◌is◌, ◌≤?◌, ◌<?◌}
+use Rattle.std.specs.Prelude.{ℕ, zero, suc, Bool, ◌&&◌, ◌||◌, ℤ, pos, negsuc, if◌then◌else◌}
+use Rattle.rules.specs.Notation.{◌is◌, ◌≤?◌, ◌<?◌}
 use Rattle.rules.specs.Tables as tables
 use Rattle.rules.specs.Tables.{Tables}
 use Rattle.rules.specs.declared.SharedRun.{SharedRun}

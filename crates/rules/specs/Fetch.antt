@@ -1,6 +1,6 @@
 -- Fetch: a free node for a seat's claim, with the taking out of marked nodes where none is free at first.
-use Rattle.std.specs.Prelude.{ℕ, zero, suc, List, [], ◌∷◌}
-use Rattle.rules.specs.Notation.{if◌then◌else◌, ◌is◌}
+use Rattle.std.specs.Prelude.{ℕ, zero, suc, List, [], ◌∷◌, if◌then◌else◌}
+use Rattle.rules.specs.Notation.{◌is◌}
 use Rattle.rules.specs.Tables.{Tables, node_count, start_at, end_at, kind_at, set_node, set_link, set_mark, set_phase, set_own, set_prev, set_cur, marked, next, head}
 use Rattle.rules.specs.Comparison.{Claim}
 use Rattle.rules.specs.Reach.{lowest_free}

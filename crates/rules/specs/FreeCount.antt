@@ -1,6 +1,5 @@
 -- Free count: "how many nodes are free, counted from the set of free nodes".
-use Rattle.std.specs.Prelude.{ℕ}
-use Rattle.rules.specs.Notation.{if◌then◌else◌}
+use Rattle.std.specs.Prelude.{ℕ, if◌then◌else◌}
 use Rattle.rules.specs.Tables.{Tables}
 use Rattle.rules.specs.Reach.{count_free}
 use Rattle.rules.specs.Calls.{damaged}

@@ -1,8 +1,8 @@
 -- Locks from the archive's file system, 02 (vi): advisory record locks of POSIX as claims, and claims as such locks. The numbers of a lock are integers,
 -- and so are their sums: "exact for every signed 64-bit start and length", and no case is made of one that 64 bits would not hold.
-use Rattle.std.specs.Prelude.{ℕ, zero, suc, ◌+◌, ◌-◌, ◌*◌, ◌/◌, Bool, false, not, ◌||◌, List, [], ◌∷◌, ◌++◌, ℤ, pos, negsuc, nat_abs, ◌+ℤ◌, ◌-ℤ◌, length, drop}
+use Rattle.std.specs.Prelude.{ℕ, zero, suc, ◌+◌, ◌-◌, ◌*◌, ◌/◌, Bool, false, not, ◌||◌, List, [], ◌∷◌, ◌++◌, ℤ, pos, negsuc, nat_abs, ◌+ℤ◌, ◌-ℤ◌, length, drop, if◌then◌else◌}
 use Rattle.std.specs.Int.Signed.{lt_z, le_z}
-use Rattle.rules.specs.Notation.{if◌then◌else◌, ◌is◌, ◌≤?◌, ◌<?◌}
+use Rattle.rules.specs.Notation.{◌is◌, ◌≤?◌, ◌<?◌}
 use Rattle.rules.specs.Comparison.{Claim, claim}
 use Rattle.rules.specs.Shape.{is_kind}
 use Rattle.rules.specs.Answers.{◌when◌, unless}

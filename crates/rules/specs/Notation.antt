@@ -1,12 +1,7 @@
--- How the rules are written: a choice, tests on numbers, and counting over the numbers below a bound. All of it computes.
-use Rattle.std.specs.Prelude.{ℕ, zero, suc, ◌+◌, Bool, true, false, ◌&&◌, ◌||◌, eqb, leb, ltb}
+-- How the rules are written, beside a choice, which is the library's if then else: tests on numbers, and counting over the numbers below a bound. All of it computes.
+use Rattle.std.specs.Prelude.{ℕ, zero, suc, ◌+◌, Bool, true, false, ◌&&◌, ◌||◌, eqb, leb, ltb, if◌then◌else◌}
 
-infix 1 if◌then◌else◌
 infix 40 ◌is◌ ◌≤?◌ ◌<?◌
-abbrev pub if◌then◌else◌ : {A : Type 0} → Bool → A → A → A
-if◌then◌else◌ true a b = a
-if◌then◌else◌ false a b = b
-
 abbrev pub ◌is◌ : ℕ → ℕ → Bool
 ◌is◌ = eqb
 

@@ -1,8 +1,8 @@
 -- Playing a script, and every byte that is printed.
-use Rattle.std.specs.Prelude.{ℕ, zero, suc, ◌+◌, ◌/◌, ◌%◌, List, [], ◌∷◌, ◌++◌, map, true, false, take}
+use Rattle.std.specs.Prelude.{ℕ, zero, suc, ◌+◌, ◌/◌, ◌%◌, List, [], ◌∷◌, ◌++◌, map, true, false, take, if◌then◌else◌}
 use Prim.Native.Char.{code}
 use Prim.Native.String.{String, [] as []ˢ, ◌∷◌ as ◌∷ˢ◌}
-use Rattle.rules.specs.Notation.{if◌then◌else◌, ◌is◌, ◌<?◌}
+use Rattle.rules.specs.Notation.{◌is◌, ◌<?◌}
 use Rattle.rules.specs.Tables.{Tables, fresh}
 use Rattle.rules.specs.Comparison.{Claim, claim}
 use Rattle.rules.specs.Answers.{Answer, node, out, on, wait, held, back, refused, Done}

@@ -1,6 +1,6 @@
 -- What is on the list, what a seat can reach, and which nodes are free.
-use Rattle.std.specs.Prelude.{ℕ, zero, suc, ◌+◌, ◌<◌, Bool, false, not, ◌&&◌, ◌||◌, List, [], ◌∷◌, ◌≢◌}
-use Rattle.rules.specs.Notation.{if◌then◌else◌, ◌is◌, any, count, lowest}
+use Rattle.std.specs.Prelude.{ℕ, zero, suc, ◌+◌, ◌<◌, Bool, false, not, ◌&&◌, ◌||◌, List, [], ◌∷◌, ◌≢◌, if◌then◌else◌}
+use Rattle.rules.specs.Notation.{◌is◌, any, count, lowest}
 use Rattle.rules.specs.Tables.{Tables, node_count, seat_count, link, next, head, own, prev, cur}
 
 -- x "can be reached by following next .. (those nodes included)" from a, over any number of nodes. 0 is no node, so nothing is reached

@@ -1,8 +1,8 @@
 -- What a script is: its bytes, read from left to right. A reader is given a place and says what stands there and the place
 -- after it. There is one way to say that a thing is not there: the place after it is `nowhere`, past the end of the script. No
 -- byte stands there, so whatever is looked for next is not there either, and the line ends nowhere: it is wrong.
-use Rattle.std.specs.Prelude.{ℕ, zero, suc, ◌+◌, ◌*◌, ◌-◌, List, Bool, not, ◌&&◌, get_or, set, replicate, length}
-use Rattle.rules.specs.Notation.{if◌then◌else◌, ◌is◌, ◌≤?◌, ◌<?◌}
+use Rattle.std.specs.Prelude.{ℕ, zero, suc, ◌+◌, ◌*◌, ◌-◌, List, Bool, not, ◌&&◌, get_or, set, replicate, length, if◌then◌else◌}
+use Rattle.rules.specs.Notation.{◌is◌, ◌≤?◌, ◌<?◌}
 use Rattle.rules.specs.declared.Line.{Line}
 use Rattle.rules.specs.declared.Script.{Script}
 use Rattle.rules.specs.declared.Found.{Found}

@@ -1,6 +1,6 @@
 -- Sound shape, clause by clause. "Any other table is damaged."
-use Rattle.std.specs.Prelude.{ℕ, zero, suc, ◌+◌, ◌*◌, Bool, true, false, not, ◌&&◌, ◌||◌, length}
-use Rattle.rules.specs.Notation.{if◌then◌else◌, ◌is◌, ◌≤?◌, ◌<?◌, all, count}
+use Rattle.std.specs.Prelude.{ℕ, zero, suc, ◌+◌, ◌*◌, Bool, true, false, not, ◌&&◌, ◌||◌, length, if◌then◌else◌}
+use Rattle.rules.specs.Notation.{◌is◌, ◌≤?◌, ◌<?◌, all, count}
 use Rattle.rules.specs.Tables.{Tables, node_count, seat_count, before_nodes, node_width, seat_width, seat_word, readers, writers, title, start, end, kind, mark, next, head, phase, own, prev, cur}
 
 -- "lengths fit", where "N is 1 to 256" and "S is 1 to 64"

@@ -1,6 +1,6 @@
 -- The step rules: "The phase decides the step, by the first clause that fits".
-use Rattle.std.specs.Prelude.{ℕ, ◌+◌, ◌-◌, Bool, not, ◌&&◌, ◌||◌}
-use Rattle.rules.specs.Notation.{if◌then◌else◌, ◌is◌, ◌≤?◌}
+use Rattle.std.specs.Prelude.{ℕ, ◌+◌, ◌-◌, Bool, not, ◌&&◌, ◌||◌, if◌then◌else◌}
+use Rattle.rules.specs.Notation.{◌is◌, ◌≤?◌}
 use Rattle.rules.specs.Tables.{Tables, count_word, set_count, start, end, kind, marked, link, next, head, phase, own, prev, cur, set_link, set_mark, set_phase, set_prev, set_cur, clear_seat}
 use Rattle.rules.specs.Comparison.{claim_of, reads, compare, by_comparison}
 use Rattle.rules.specs.Fetch.{Fetched, fetch}

@@ -1,8 +1,8 @@
 -- Request (iv) of document 02, "Store only the links that differ": the stores by which marked nodes are taken out, as a list that computes. What
 -- the tables hold afterwards is said in Fetch, and no rule uses this: proofs/Stores.antt ties the two, and `fetch::take_out` makes just these
 -- stores, in this order.
-use Rattle.std.specs.Prelude.{ℕ, zero, suc, ◌+◌, ◌≡◌, Bool, true, not, List, [], ◌∷◌}
-use Rattle.rules.specs.Notation.{if◌then◌else◌, ◌is◌}
+use Rattle.std.specs.Prelude.{ℕ, zero, suc, ◌+◌, ◌≡◌, Bool, true, not, List, [], ◌∷◌, if◌then◌else◌}
+use Rattle.rules.specs.Notation.{◌is◌}
 use Rattle.rules.specs.Tables.{Tables, node_count, marked, link, next, head, set_link}
 use Rattle.rules.specs.Shape.{ends_within}
 use Rattle.rules.specs.Fetch.{kept, taken_out}

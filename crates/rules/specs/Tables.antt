@@ -1,8 +1,8 @@
 -- The two tables: where each word stands, and how it is read and stored. No other definition knows an index.
 -- A read past the end is 0 and a store past the end does nothing. Node 0 is no node: its words read 0 and take no store, but
 -- for its link, which is the head of the list.
-use Rattle.std.specs.Prelude.{ℕ, zero, suc, ◌+◌, ◌-◌, ◌*◌, ◌/◌, Bool, true, false, List, length, get_or, set, replicate}
-use Rattle.rules.specs.Notation.{if◌then◌else◌, ◌is◌}
+use Rattle.std.specs.Prelude.{ℕ, zero, suc, ◌+◌, ◌-◌, ◌*◌, ◌/◌, Bool, true, false, List, length, get_or, set, replicate, if◌then◌else◌}
+use Rattle.rules.specs.Notation.{◌is◌}
 
 -- "Both are lent slices of 32-bit unsigned words." With them goes their profile: whether they are a writers' sheet or the ordinary tables. It is no
 -- word of theirs: whoever lends them says it, by the set of calls that is used, and no call changes it

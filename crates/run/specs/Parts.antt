@@ -1,6 +1,6 @@
 -- Parts of a run: the test whether the tables are still sound after a step, and the answer if they are not.
-use Rattle.std.specs.Prelude.{ℕ, Bool, true, ◌&&◌, ◌||◌}
-use Rattle.rules.specs.Notation.{if◌then◌else◌, ◌is◌, ◌≤?◌}
+use Rattle.std.specs.Prelude.{ℕ, Bool, true, ◌&&◌, ◌||◌, if◌then◌else◌}
+use Rattle.rules.specs.Notation.{◌is◌, ◌≤?◌}
 use Rattle.rules.specs.Tables.{Tables}
 use Rattle.rules.specs.Run.{ran}
 use Rattle.rules.specs.declared.Ran.{Ran}

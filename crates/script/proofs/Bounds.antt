@@ -1,4 +1,5 @@
 -- N, S, K and the title of what is read are within their bounds, and there are 1,000 rows, whatever the bytes.
+use Rattle.std.specs.Prelude.{if◌then◌else◌}
 use Prim.Native.Nat.{ℕ, zero, suc, ◌+◌, ◌≤◌}
 use native.Mathlib.Omega.{arith}
 use mathlib.Core.List.{List}
@@ -6,7 +7,7 @@ use mathlib.Core.Bool.{Bool, true, false}
 use mathlib.Core.Path.{◌≡◌, refl, ◌∙◌}
 use lib.ListN.{set, length, length-set, length-replicate}
 use borrow.Author.Tests.{leb-true, eqb-false}
-use Rattle.rules.specs.Notation.{if◌then◌else◌, ◌is◌, ◌≤?◌, ◌<?◌}
+use Rattle.rules.specs.Notation.{◌is◌, ◌≤?◌, ◌<?◌}
 use Rattle.rules.specs.declared.Line.{Line}
 use Rattle.rules.specs.declared.Contents.{Contents}
 use Rattle.rules.specs.Script.{nowhere, no_line, no_lines, body_at, in_bounds, contents_of, bad_at, good_script, bodies_from, read_script}

@@ -1,6 +1,5 @@
 -- The digit at a place as one number, for code that looks at each byte once.
-use Rattle.std.specs.Prelude.{ℕ, List}
-use Rattle.rules.specs.Notation.{if◌then◌else◌}
+use Rattle.std.specs.Prelude.{ℕ, List, if◌then◌else◌}
 use Rattle.rules.specs.Script.{is_digit, digit_at}
 
 -- 10 is no digit

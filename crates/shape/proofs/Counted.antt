@@ -1,8 +1,9 @@
 -- The pass over the seats: those below a bound are sound, and the two counts say how many of them hold with a reader's claim and with a
 -- writer's. One law for each way through a turn, and one for each way out.
+use Rattle.std.specs.Prelude.{if◌then◌else◌}
 use Rattle.std.proofs.Common.{◌≡◌, ℕ, ◌+◌, ◌<◌, ◌≤◌, Bool, true, false, not, ◌&&◌, eqb, ◌≢◌, List, sym, refl, ◌∙◌, add-one, arith, ne_eqb, eqb-true}
 use borrow.Author.Tests.{not-true, not-false}
-use Rattle.rules.specs.Notation.{if◌then◌else◌, ◌is◌, all, count}
+use Rattle.rules.specs.Notation.{◌is◌, all, count}
 use Rattle.rules.specs.Tables.{Tables, tables, node_word, seat_word, node_count_of, seat_count_of, kind_at, phase_at, own_at, phase, kind, own}
 use Rattle.rules.specs.Shape.{seat_sound, holds_with, holders_of_kind, seats_sound}
 use Rattle.rules.proofs.Ground.Logic.{all_fails}

@@ -1,7 +1,8 @@
 -- Each test of the code, from the words that it read, is the test of the definition: one law for each way through the code.
+use Rattle.std.specs.Prelude.{if◌then◌else◌}
 use Rattle.std.proofs.Common.{◌≡◌, ℕ, zero, suc, ◌+◌, ◌-◌, ◌%◌, ◌<◌, ◌≤◌, Bool, true, false, not, ◌&&◌, ◌||◌, eqb, ltb, leb, ◌≢◌, List, [], length, drop, sym, refl, ◌∙◌, inl, inr, add-one, arith, ltb-false, ltb-true, eq-eqb, ne_eqb, eqb-true, le-leb}
 use borrow.Author.Tests.{not-true, not-false, eqb-false, lt-leb}
-use Rattle.rules.specs.Notation.{if◌then◌else◌, ◌≤?◌, all}
+use Rattle.rules.specs.Notation.{◌≤?◌, all}
 use Rattle.rules.specs.Tables.{Tables, tables, before_nodes, seat_width, title, count_word, node_word, link_word, seat_word, node_count_of, seat_count_of, start_at, end_at, kind_at, mark_at, phase_at, own_at, prev_at, cur_at}
 use Rattle.rules.specs.Shape.{nodes_fit, seats_fit, lengths_fit, is_kind, may_claim, zero_node, claim_node, names, node_sound, may_be_in, is_phase, zero_seat, idle_or_owning, resting_at_zero, waiting_at_cur, seat_sound, counts_fit, ends_by, title_fits, ends_within, nodes_sound, seats_sound, sound}
 use Rattle.rules.proofs.Ground.Logic.{clash, not_of, or_case, or_neither, and_left, all_fails, all_and}

@@ -1,7 +1,7 @@
 -- Parts of sound shape: what it leaves out by the profile, its two clauses on the nodes together, what it asks of a seat's own, prev and cur by the seat's phase, its two clauses on
 -- the seats together, and its last clause alone.
-use Rattle.std.specs.Prelude.{ℕ, Bool, true, false, not, ◌&&◌}
-use Rattle.rules.specs.Notation.{if◌then◌else◌, ◌is◌, ◌≤?◌}
+use Rattle.std.specs.Prelude.{ℕ, Bool, true, false, not, ◌&&◌, if◌then◌else◌}
+use Rattle.rules.specs.Notation.{◌is◌, ◌≤?◌}
 use Rattle.rules.specs.Tables.{Tables, node_count, end, kind, head, phase, own}
 use Rattle.rules.specs.Shape.{names, node_sound, nodes_sound, seats_sound, holders_of_kind, ends_by, ends_within}
 

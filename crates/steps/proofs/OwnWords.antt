@@ -1,5 +1,6 @@
 -- Each rule over a seat's own words is the rule over the whole seat table, since it reads and stores the words of its own seat alone. The seat's words
 -- are a table of one seat, 0; `before` and `behind` are what stands around them in the whole table, where the seat's number is s.
+use Rattle.std.specs.Prelude.{if◌then◌else◌}
 use Prim.Native.Nat.{ℕ, zero, suc, ◌+◌, ◌-◌, ◌*◌, ◌≤◌, ◌<◌}
 use mathlib.Core.Path.{◌≡◌, refl, sym, ap, ◌∙◌}
 use mathlib.Core.Bool.{Bool, true, false, ◌||◌}
@@ -8,7 +9,7 @@ use native.Mathlib.Omega.{arith}
 use lib.IntN.{ℤ, pos, negsuc}
 use lib.ListN.{length, get_or, set, take, drop, length-drop, take-append-drop, get_or-append}
 use lib.Seq.{length-take-le, get_or-append-add, set-append_left}
-use Rattle.rules.specs.Notation.{if◌then◌else◌, ◌is◌, ◌≤?◌}
+use Rattle.rules.specs.Notation.{◌is◌, ◌≤?◌}
 use Rattle.rules.specs.Tables.{Tables, tables, seat_width, phase_at, own_at, prev_at, cur_at, seat_word, put_seat, clear_words, seat_count_of, kind, start, end, marked, link, next, head, own, prev, cur, set_link, set_mark, set_phase, set_prev, set_cur, count_word, set_count}
 use Rattle.rules.specs.Comparison.{claim_of, reads, compare, by_comparison}
 use Rattle.rules.specs.Answers.{answer_of}

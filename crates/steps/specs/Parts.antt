@@ -1,6 +1,6 @@
 -- Parts of the step rules that are functions of their own in the code. Each stands word for word in the rule it is a part of.
-use Rattle.std.specs.Prelude.{ℕ, Bool, ◌||◌}
-use Rattle.rules.specs.Notation.{if◌then◌else◌, ◌is◌, ◌≤?◌}
+use Rattle.std.specs.Prelude.{ℕ, Bool, ◌||◌, if◌then◌else◌}
+use Rattle.rules.specs.Notation.{◌is◌, ◌≤?◌}
 use Rattle.rules.specs.Tables.{Tables, count_word, start, end, marked, next, own, prev, cur, set_link, set_mark, set_phase, set_cur, clear_seat}
 use Rattle.rules.specs.Comparison.{claim_of, reads, compare, by_comparison}
 use Rattle.rules.specs.Steps.{unlink, pass, insert, kind_of, withdraw}

@@ -1,6 +1,6 @@
 -- A page: a buffer and the place where the next byte goes. A byte that finds no room is left out, so writing is total.
-use Rattle.std.specs.Prelude.{ℕ, ◌+◌, List, [], ◌∷◌, length, set}
-use Rattle.rules.specs.Notation.{if◌then◌else◌, ◌<?◌}
+use Rattle.std.specs.Prelude.{ℕ, ◌+◌, List, [], ◌∷◌, length, set, if◌then◌else◌}
+use Rattle.rules.specs.Notation.{◌<?◌}
 
 pub record Page : Type 0 where
   pub buffer : List ℕ

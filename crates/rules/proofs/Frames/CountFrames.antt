@@ -1,6 +1,7 @@
 -- How a call moves the two counts: who comes to hold adds one to the word of its kind, who is released takes one off, and nothing else changes
 -- them. Every other seat holds on with the claim it had, so where the words were right they stay right. Of any tables, reached or not: a call
 -- on damaged ones changes nothing.
+use Rattle.std.specs.Prelude.{if◌then◌else◌}
 use Prim.Native.Nat.{ℕ, ◌+◌, ◌-◌, ◌≤◌, ◌<◌}
 use mathlib.Core.Path.{◌≡◌, refl, sym, ap, ◌∙◌}
 use mathlib.Core.Bool.{Bool, true, false}
@@ -9,7 +10,7 @@ use mathlib.Core.Logic.{◌≢◌, ◌⊎◌, inl, inr}
 use native.Mathlib.Omega.{arith}
 use lib.ListN.{length}
 use borrow.Author.Tests.{eq-eqb, ne_eqb}
-use Rattle.rules.specs.Notation.{if◌then◌else◌, ◌is◌}
+use Rattle.rules.specs.Notation.{◌is◌}
 use Rattle.rules.specs.Tables.{Tables, before_nodes, node_count, seat_count, phase_at, own_at, kind_at, mark_at, readers_at, writers_at, readers, writers, count_at, count_word, phase, own, set_mark, clear_seat, fresh}
 use Rattle.rules.specs.Comparison.{Claim}
 use Rattle.rules.specs.Shape.{holds_with, holders_of_kind, sound}

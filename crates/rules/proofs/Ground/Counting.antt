@@ -1,4 +1,5 @@
 -- Laws of `count` and `lowest` over any test of numbers.
+use Rattle.std.specs.Prelude.{if◌then◌else◌}
 use Prim.Native.Nat.{ℕ, zero, suc, ◌+◌, ◌-◌, ◌≤◌, ◌<◌}
 use mathlib.Core.Path.{◌≡◌, refl, sym, ap, ◌∙◌}
 use mathlib.Core.Bool.{Bool, true, false, ◌&&◌, ◌||◌}
@@ -6,7 +7,7 @@ use mathlib.Core.Logic.{◌≢◌, ⊎_elim}
 use native.Mathlib.Omega.{arith}
 use native.Mathlib.Nat.{eq-or-lt_of_le, add-zero, add-suc}
 use borrow.Author.Tests.{ne_eqb, lt-ltb, le-ltb}
-use Rattle.rules.specs.Notation.{if◌then◌else◌, ◌is◌, ◌<?◌, count, lowest}
+use Rattle.rules.specs.Notation.{◌is◌, ◌<?◌, count, lowest}
 use Rattle.rules.proofs.Ground.Deciding.{if_same}
 use Rattle.rules.proofs.Ground.Logic.{either, or_left, or_right, neither, not_of, branch, clash}
 

@@ -1,4 +1,5 @@
 -- What `covered_by` counts, of any rows and then of the holders of any tables: the frames that some row covers, each once.
+use Rattle.std.specs.Prelude.{if◌then◌else◌}
 use Prim.Native.Nat.{ℕ, zero, suc, ◌+◌, ◌-◌, ◌*◌, ◌/◌, ◌≤◌, ◌<◌}
 use mathlib.Core.Path.{◌≡◌, refl, sym, ap, ◌∙◌}
 use mathlib.Core.Bool.{Bool, true, false, ◌||◌, true≢false}
@@ -9,7 +10,7 @@ use native.Mathlib.Decide.{dec_le}
 use native.Mathlib.Nat.{eq-or-lt_of_le}
 use lib.ListN.{length, drop}
 use borrow.Author.Tests.{leb-true, ltb-true, le-leb, lt-ltb, eqb-true, eq-eqb}
-use Rattle.rules.specs.Notation.{if◌then◌else◌, ◌is◌, ◌≤?◌, ◌<?◌, count}
+use Rattle.rules.specs.Notation.{◌is◌, ◌≤?◌, ◌<?◌, count}
 use Rattle.rules.specs.Tables.{Tables, seat_count, phase}
 use Rattle.rules.specs.Calls.{damaged}
 use Rattle.rules.specs.Board.{row_of, rows_below, holders, covers, some_covers, last_end, covered_by, Boarded, filled, refused, Shown, shown, board, row_width, numbers_of, board_numbers}

@@ -1,12 +1,13 @@
 -- The tests `met` and `ends_within` against following links. What is met is reached and, where no link leads past N and the hops are N, the other
 -- way round, also if the walk goes round in a circle. A walk ends within so many hops if it passes at most as many nodes.
+use Rattle.std.specs.Prelude.{if◌then◌else◌}
 use Prim.Native.Nat.{ℕ, zero, suc, ◌≤◌, ◌<◌}
 use mathlib.Core.Path.{◌≡◌, refl}
 use mathlib.Core.Bool.{true, false, not, ◌||◌}
 use mathlib.Core.Logic.{◌≢◌, inl, inr}
 use native.Mathlib.Omega.{arith}
 use borrow.Author.Tests.{eqb-true, eqb-false, eq-eqb, ne_eqb}
-use Rattle.rules.specs.Notation.{if◌then◌else◌, ◌is◌}
+use Rattle.rules.specs.Notation.{◌is◌}
 use Rattle.rules.specs.Tables.{Tables, link, next}
 use Rattle.rules.specs.Shape.{ends_within}
 use Rattle.rules.specs.Reach.{met, Reach, here, there}

@@ -1,5 +1,6 @@
 -- How many stores take marked nodes out: as many as links differ, no more than any other stores that come to the same, and no more than there are marked
 -- nodes on the list.
+use Rattle.std.specs.Prelude.{if◌then◌else◌}
 use Prim.Native.Nat.{ℕ, zero, suc, ◌+◌, ◌≤◌, ◌<◌}
 use mathlib.Core.Path.{◌≡◌, refl, sym, ap, ◌∙◌}
 use mathlib.Core.Bool.{Bool, true, false, not}
@@ -10,7 +11,7 @@ use native.Mathlib.Nat.{le_antisymm}
 use native.Mathlib.Decide.{dec_lt}
 use lib.ListN.{length}
 use borrow.Author.Tests.{eq-eqb, ne_eqb}
-use Rattle.rules.specs.Notation.{if◌then◌else◌, ◌is◌, count}
+use Rattle.rules.specs.Notation.{◌is◌, count}
 use Rattle.rules.specs.Tables.{Tables, node_count, mark, link, next, head, set_link}
 use Rattle.rules.specs.Fetch.{kept_from, kept, taken_out}
 use Rattle.rules.specs.Stores.{Store, store, stores_along, stores, ListEnds, store_all, times_to, differs, marked_from, marked_listed}

@@ -1,5 +1,6 @@
 -- The stores by which marked nodes are taken out of a list that ends: they come to what the rule says, each link that differs is stored once and no other,
 -- and what is left of them after the first are the others.
+use Rattle.std.specs.Prelude.{if◌then◌else◌}
 use Prim.Native.Nat.{ℕ, zero, suc, ◌+◌, ◌≤◌}
 use mathlib.Core.Path.{◌≡◌, refl, sym, ap, ◌∙◌}
 use mathlib.Core.Bool.{Bool, true, false}
@@ -7,7 +8,7 @@ use mathlib.Core.List.{List, [], ◌∷◌, ◌++◌, append-nil}
 use mathlib.Core.Logic.{◌≢◌, ◌⊎◌, inl, inr}
 use native.Mathlib.Omega.{arith}
 use borrow.Author.Tests.{eq-eqb, ne_eqb}
-use Rattle.rules.specs.Notation.{if◌then◌else◌, ◌is◌}
+use Rattle.rules.specs.Notation.{◌is◌}
 use Rattle.rules.specs.Tables.{Tables, node_count, mark, link, next, head, set_link}
 use Rattle.rules.specs.Reach.{Reach, here, there}
 use Rattle.rules.specs.Fetch.{kept_from, kept, link_through, taken_out}

@@ -1,5 +1,6 @@
 -- What stores do, seen from the theory: to the words of a seat or a node, one after another, and to the view of the nodes. Over any
 -- tables that have room for the seat or the node.
+use Rattle.std.specs.Prelude.{if◌then◌else◌}
 use Prim.Native.Nat.{ℕ, zero, suc, ◌+◌, ◌*◌, ◌≤◌, ◌<◌}
 use mathlib.Core.Path.{◌≡◌, refl, sym, ◌∙◌, fun_ext}
 use mathlib.Core.Bool.{Bool}
@@ -8,7 +9,7 @@ use mathlib.Core.Logic.{◌≢◌}
 use native.Mathlib.Omega.{arith}
 use lib.ListN.{length}
 use borrow.Author.Tests.{eq-eqb, ne_eqb}
-use Rattle.rules.specs.Notation.{if◌then◌else◌, ◌is◌}
+use Rattle.rules.specs.Notation.{◌is◌}
 use Rattle.rules.specs.Tables.{Tables, before_nodes, node_width, seat_width, start_at, end_at, kind_at, mark_at, next_at, phase_at, own_at, prev_at, cur_at, node_word, link_word, seat_word, put_node, put_link, put_seat, clear_words, count_at, set_count, link, mark}
 use Rattle.rules.proofs.Ground.Deciding.{if_same}
 use Rattle.rules.proofs.Laws.Words.{seat_put_same, seat_put_field, seat_put_seat, put_seat_length, node_put_same, node_put_field, node_put_node, put_node_length, put_link_node, link_put_other, link_put_field, node_put_top, link_put_top, count_low, count_not_head}

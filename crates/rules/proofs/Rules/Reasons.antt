@@ -1,12 +1,13 @@
 -- Why a step does what it does: for each rule a type of its outcomes, each with what was looked at to come to it. A theorem on steps goes
 -- by clauses on these, phase by phase. Over any tables.
+use Rattle.std.specs.Prelude.{if◌then◌else◌}
 use Prim.Native.Nat.{ℕ, ◌≤◌, ◌<◌}
 use mathlib.Core.Path.{◌≡◌, refl}
 use mathlib.Core.Bool.{true, false, not, ◌||◌}
 use mathlib.Core.Logic.{◌≢◌, ◌⊎◌, inl, inr}
 use lib.IntN.{ℤ}
 use borrow.Author.Tests.{eqb-true, eqb-false, leb-true, leb-false, ne_eqb}
-use Rattle.rules.specs.Notation.{if◌then◌else◌, ◌is◌, ◌≤?◌}
+use Rattle.rules.specs.Notation.{◌is◌, ◌≤?◌}
 use Rattle.rules.specs.Tables.{Tables, start, end, kind, mark, marked, link, next, head, phase, own, prev, cur, set_link, set_phase, set_prev, set_cur}
 use Rattle.rules.specs.Comparison.{Claim, claim_of, reads, by_comparison}
 use Rattle.rules.specs.Reach.{lowest_free}

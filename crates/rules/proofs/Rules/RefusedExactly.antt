@@ -1,4 +1,5 @@
 -- The calls refuse exactly as the tables of specs/Refusing.antt say, and what is refused changes nothing. Of any tables and numbers.
+use Rattle.std.specs.Prelude.{if◌then◌else◌}
 use Prim.Native.Nat.{ℕ, ◌/◌, ◌≤◌, ◌<◌}
 use mathlib.Core.Path.{◌≡◌, refl, sym, ap, subst, ◌∙◌}
 use mathlib.Core.Bool.{Bool, true, false, not}
@@ -7,7 +8,7 @@ use mathlib.Core.Logic.{◌≢◌}
 use native.Mathlib.Omega.{arith}
 use lib.ListN.{length}
 use borrow.Author.Tests.{ltb-true, lt-ltb, le-ltb, le-leb, lt-leb, eqb-true, eqb-false, eq-eqb, ne_eqb, not-false}
-use Rattle.rules.specs.Notation.{if◌then◌else◌, ◌is◌, ◌<?◌}
+use Rattle.rules.specs.Notation.{◌is◌, ◌<?◌}
 use Rattle.rules.specs.Tables.{Tables, node_count, seat_count, title, phase, own, fresh}
 use Rattle.rules.specs.Comparison.{Claim, claim_of}
 use Rattle.rules.specs.Shape.{lengths_fit, sound, is_kind, may_claim}
