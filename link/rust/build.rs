@@ -1,5 +1,5 @@
 //! Finds the proved library's archive, or has it made, and says how it is linked. In this order: the file that SOODHIQUNE_ARCHIVE names;
-//! target/staticlib/libboundary.a of the repository that this package stands in; the same file, made by `rt staticlib boundary`.
+//! crates/boundary/out/libboundary.a of the repository that this package stands in; the same file, made by `rt lib` in crates/boundary.
 
 use std::env;
 use std::fs;
@@ -9,6 +9,9 @@ use std::time::SystemTime;
 
 const VARIABLE: &str = "SOODHIQUNE_ARCHIVE";
 const CRATE: &str = "boundary";
+
+/// What `rt` makes of a crate lies in a folder of this name beside its sources.
+const MADE: &str = "out";
 
 fn give_up(what: &str) -> ! {
     eprintln!("soodhiqune: {what}");
@@ -22,10 +25,11 @@ fn variable(name: &str) -> PathBuf {
 }
 
 fn make(repository: &Path, archive: &Path) {
-    let ended = Command::new("rt").args(["staticlib", CRATE]).current_dir(repository).status();
+    let folder = repository.join("crates").join(CRATE);
+    let ended = Command::new("rt").arg("lib").current_dir(&folder).status();
     match ended {
         Ok(status) if status.success() && archive.is_file() => {}
-        Ok(status) => give_up(&format!("`rt staticlib {CRATE}` in {} gave no archive: {status}", repository.display())),
+        Ok(status) => give_up(&format!("`rt lib` in {} gave no archive: {status}", folder.display())),
         Err(error) => give_up(&format!(
             "there is no {}, and rt, Rattle's kit, which makes it, cannot be run ({error}); put rt on the path, or let {VARIABLE} name \
              an archive that was made elsewhere",
@@ -34,11 +38,14 @@ fn make(repository: &Path, archive: &Path) {
     }
 }
 
-/// A file below this folder that was changed later than that.
+/// A file below this folder that was changed later than that, and is not made by `rt`.
 fn newer(folder: &Path, than: SystemTime) -> Option<PathBuf> {
     for entry in fs::read_dir(folder).ok()?.flatten() {
         let path = entry.path();
         let found = if path.is_dir() {
+            if path.ends_with(MADE) {
+                continue;
+            }
             newer(&path, than)
         } else {
             entry.metadata().ok()?.modified().ok().filter(|changed| *changed > than).map(|_| path)
@@ -55,16 +62,27 @@ fn tell_if_older(archive: &Path, sources: &Path) {
     let made = fs::metadata(archive).and_then(|file| file.modified());
     if let Some(path) = made.ok().and_then(|made| newer(sources, made)) {
         println!(
-            "cargo:warning=the archive {} is older than {}; `rt staticlib {CRATE}` makes it anew",
+            "cargo:warning=the archive {} is older than {}; `rt lib` in crates/{CRATE} makes it anew",
             archive.display(),
             path.display()
         );
     }
 }
 
+/// The build is done again once a source changes: each crate's folders, but for what `rt` makes there.
+fn watch(sources: &Path) {
+    for folder in fs::read_dir(sources).into_iter().flatten().flatten() {
+        for entry in fs::read_dir(folder.path()).into_iter().flatten().flatten() {
+            if !entry.path().ends_with(MADE) {
+                println!("cargo:rerun-if-changed={}", entry.path().display());
+            }
+        }
+    }
+}
+
 fn archive_of_the_repository() -> PathBuf {
     let repository = variable("CARGO_MANIFEST_DIR").join("../..");
-    let archive = repository.join(format!("target/staticlib/lib{CRATE}.a"));
+    let archive = repository.join("crates").join(CRATE).join(MADE).join(format!("lib{CRATE}.a"));
     if !archive.is_file() {
         if !repository.join("crates").join(CRATE).is_dir() {
             give_up(&format!(
@@ -74,7 +92,7 @@ fn archive_of_the_repository() -> PathBuf {
         make(&repository, &archive);
     }
     let sources = repository.join("crates");
-    println!("cargo:rerun-if-changed={}", sources.display());
+    watch(&sources);
     tell_if_older(&archive, &sources);
     archive
 }

@@ -4,7 +4,7 @@
 --
 -- That the code makes these stores and no others, in this order, is in the contracts of crates/fetch: there the only function that stores a link for
 -- `take_out` asks that what it stores is the first of `stores` of the tables as they stand, and leaves the tables whose stores are the others
--- (`first-made-others-left` below); and when `take_out` ends, none is left.
+-- (`first_made_others_left` below); and when `take_out` ends, none is left.
 use Rattle.std.specs.Prelude.{if◌then◌else◌}
 use Prim.Native.Nat.{ℕ, suc, ◌≤◌}
 use mathlib.Core.Path.{◌≡◌}
