@@ -44,11 +44,11 @@ fn fill_seat(
     s: u32,
     rows: usize,
 ) -> usize
-    requires seats_value { sound (tables sheet nodes.now seats.now) ≡ true }
-    requires s_bound { s < seat_count_of sheet seats.now }
-    requires rows_le_s { rows ≤ s }
-    requires rows_value { rows ≡ length (rows_below s (tables sheet nodes.now seats.now)) }
-    requires seats_in_bounds { row_width * length (rows_below (s + 1) (tables sheet nodes.now seats.now)) ≤ length out.old }
+    requires tables_sound { sound (tables sheet nodes.now seats.now) ≡ true }
+    requires has_seat { s < seat_count_of sheet seats.now }
+    requires rows_are_few { rows ≤ s }
+    requires rows_are_counted { rows ≡ length (rows_below s (tables sheet nodes.now seats.now)) }
+    requires has_room { row_width * length (rows_below (s + 1) (tables sheet nodes.now seats.now)) ≤ length out.old }
     ensures { filled result out.new ≡ fill_seat (tables sheet nodes.now seats.now) s (filled rows out.old) }
 {
     if words::seat_word_within(sheet, seats, s, words::PHASE) == 5 {
@@ -61,9 +61,9 @@ fn fill_seat(
 
 // every holder's row, one behind the other, and how many there are
 fn fill(sheet: bool, nodes: &[u32], seats: &[u32], out: &mut [u32], count: u32) -> usize
-    requires seats_value { sound (tables sheet nodes.now seats.now) ≡ true }
-    requires count_bound { count ≤ seat_count_of sheet seats.now }
-    requires seats_in_bounds { row_width * length (rows_below count (tables sheet nodes.now seats.now)) ≤ length out.old }
+    requires tables_sound { sound (tables sheet nodes.now seats.now) ≡ true }
+    requires has_seats { count ≤ seat_count_of sheet seats.now }
+    requires has_room { row_width * length (rows_below count (tables sheet nodes.now seats.now)) ≤ length out.old }
     ensures { filled result out.new ≡ fill_below count (tables sheet nodes.now seats.now) out.old }
 {
     let mut rows: usize = 0;

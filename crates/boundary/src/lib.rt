@@ -275,9 +275,9 @@ pub extern "C" fn soodhiqune_export(title: u32, claims: &[u32], locks: &mut [i64
 // The bytes printed for a script, at most 48,986 of the 49,152 lent; their number.
 #[unsafe(no_mangle)]
 pub extern "C" fn soodhiqune_play(script: &[u8], out: &mut [u8; 49152]) -> u64
-    ensures out_after { take result out.new ≡ Play·play script.now }
-    ensures out_unchanged { drop result out.new ≡ drop result out.old }
-    ensures upper_bound { (result ≤ 48986) × (result ≡ length (take result out.new)) }
+    ensures is_printed { take result out.new ≡ Play·play script.now }
+    ensures rest_is_kept { drop result out.new ≡ drop result out.old }
+    ensures at_most { (result ≤ 48986) × (result ≡ length (take result out.new)) }
 {
     playing::play(script, out) as u64
 }
@@ -296,8 +296,8 @@ fn put_line(numbers: &mut [u32], at: usize, line: Line)
 }
 
 fn put_lines(numbers: &mut [u32], script: Script)
-    requires numbers_len { length numbers.old ≡ 5004 }
-    requires rows_len { length script.rows ≡ 1000 }
+    requires is_whole { length numbers.old ≡ 5004 }
+    requires has_rows { length script.rows ≡ 1000 }
     ensures { numbers.new ≡ lines_after 1000 numbers.old script.rows }
 {
     let mut i: usize = 0;
@@ -309,8 +309,8 @@ fn put_lines(numbers: &mut [u32], script: Script)
 }
 
 fn put_script(numbers: &mut [u32], script: Script)
-    requires numbers_len { length numbers.old ≡ 5004 }
-    requires rows_len { length script.rows ≡ 1000 }
+    requires is_whole { length numbers.old ≡ 5004 }
+    requires has_rows { length script.rows ≡ 1000 }
     ensures { numbers.new ≡ script_numbers script numbers.old }
 {
     numbers[0] = script.n;
@@ -336,8 +336,8 @@ fn read_into(bytes: &[u8], numbers: &mut [u32]) -> u64
 // The length is promised so that the promise alone tells the script (proofs/ScriptTold.antt).
 #[unsafe(no_mangle)]
 pub extern "C" fn soodhiqune_read(bytes: &[u8], numbers: &mut [u32; 5004]) -> u64
-    ensures numbers_after { read_as (halves_of result) numbers.new ≡ encode_script (read_script bytes.now) numbers.old }
-    ensures numbers_len { length numbers.new ≡ 5004 }
+    ensures is_read { read_as (halves_of result) numbers.new ≡ encode_script (read_script bytes.now) numbers.old }
+    ensures is_whole { length numbers.new ≡ 5004 }
 {
     read_into(bytes, numbers)
 }

@@ -56,8 +56,8 @@ fn reserve_fetching(
     end: u32,
     kind: u32,
 ) -> Reply
-    requires seats_value { sound (tables sheet nodes.old seats.old) ≡ true }
-    requires s_value { phase (tables sheet nodes.old seats.old) s ≡ 0 }
+    requires tables_sound { sound (tables sheet nodes.old seats.old) ≡ true }
+    requires is_idle { phase (tables sheet nodes.old seats.old) s ≡ 0 }
     ensures { done (means result) (tables sheet nodes.new seats.new) ≡ part.reserve_fetching (tables sheet nodes.old seats.old) s (claim start end kind) }
 {
     let a = fetch::fetch(sheet, nodes, seats, s, start, end, kind);
@@ -176,8 +176,8 @@ pub fn step(sheet: bool, nodes: &mut [u32], seats: &mut [u32], s: u32) -> Reply
 // ---- release
 
 fn release_seat(sheet: bool, nodes: &mut [u32], seats: &mut [u32], s: u32) -> Reply
-    requires seats_value { sound (tables sheet nodes.old seats.old) ≡ true }
-    requires s_bound { s < seat_count_of sheet seats.old }
+    requires tables_sound { sound (tables sheet nodes.old seats.old) ≡ true }
+    requires has_seat { s < seat_count_of sheet seats.old }
     ensures { done (means result) (tables sheet nodes.new seats.new) ≡ part.release_seat (tables sheet nodes.old seats.old) s }
 {
     let phase = words::seat_word_within(sheet, seats, s, words::PHASE);

@@ -12,8 +12,8 @@ ghost use Rattle.covering.specs.Moving.{up_from, down_from, Lower, Higher, Ends,
 
 // Each run from low on that is lower moves down by one place. A run that is not lower must stand there, so that they end.
 fn put_below(runs: &mut [u64; 128], low: usize, run: u64)
-    requires runs_len { length runs.old ≡ 128 }
-    requires le_low { 1 ≤ low }
+    requires is_whole { length runs.old ≡ 128 }
+    requires has_place_below { 1 ≤ low }
     requires ends { Ends (up_from low) (Lower run) runs.old }
     ensures { Put (up_from low) (Lower run) runs.old run runs.new }
 {
@@ -31,8 +31,8 @@ fn put_below(runs: &mut [u64; 128], low: usize, run: u64)
 
 // The same from the other side: each run before high that is higher moves up.
 fn put_above(runs: &mut [u64; 128], high: usize, run: u64)
-    requires runs_len { length runs.old ≡ 128 }
-    requires high_bound { high < 128 }
+    requires is_whole { length runs.old ≡ 128 }
+    requires has_place { high < 128 }
     requires ends { Ends (down_from high) (Higher run) runs.old }
     ensures { Put (down_from high) (Higher run) runs.old run runs.new }
 {
@@ -51,7 +51,7 @@ fn put_above(runs: &mut [u64; 128], high: usize, run: u64)
 // Puts a run in its place among those in order. The answer says where they begin then.
 pub fn put(runs: &mut [u64; 128], low: usize, count: usize, first: u32, end: u32) -> usize
     requires ordered { Ordered runs.old low count }
-    requires count_bound { count < 64 }
+    requires are_few { count < 64 }
     ensures { Ordered runs.new result (count + 1) × CoversOneMore runs.old low count first end runs.new result }
 {
     let run = first as u64 * 4294967296 + end as u64;

@@ -35,8 +35,8 @@ fn write_claim(sheet: bool, nodes: &mut [u32], a: u32, start: u32, end: u32, kin
 
 // A seat that fetches is idle or has withdrawn, and has no prev and no cur: those words are 0 already, and are not stored.
 fn reserve_for(sheet: bool, seats: &mut [u32], s: u32, a: u32)
-    requires s_value { prev (tables sheet [] seats.old) s ≡ 0 }
-    requires s_value_2 { cur (tables sheet [] seats.old) s ≡ 0 }
+    requires no_prev { prev (tables sheet [] seats.old) s ≡ 0 }
+    requires no_cur { cur (tables sheet [] seats.old) s ≡ 0 }
     ensures { seats.new ≡ (reserve_for (tables sheet [] seats.old) s a).seats }
 {
     words::put_seat(sheet, seats, s, words::PHASE, 7);
@@ -53,8 +53,8 @@ fn take_node(
     end: u32,
     kind: u32,
 )
-    requires s_value { prev (tables sheet [] seats.old) s ≡ 0 }
-    requires s_value_2 { cur (tables sheet [] seats.old) s ≡ 0 }
+    requires no_prev { prev (tables sheet [] seats.old) s ≡ 0 }
+    requires no_cur { cur (tables sheet [] seats.old) s ≡ 0 }
     ensures { tables sheet nodes.new seats.new ≡ take_node (tables sheet nodes.old seats.old) s a (claim start end kind) }
 {
     write_claim(sheet, nodes, a, start, end, kind);
@@ -67,7 +67,7 @@ fn take_node(
 // Nothing else stores for `take_out`, so its stores are those of the tables that it is lent, all of them and in their order.
 fn store_link(sheet: bool, nodes: &mut [u32], whose: u32, value: u32)
     requires list_ends { ListEnds (tables sheet nodes.old []) }
-    requires nodes_value { stores (tables sheet nodes.old []) ≡ store whose value ∷ drop 1 (stores (tables sheet nodes.old [])) }
+    requires is_first_store { stores (tables sheet nodes.old []) ≡ store whose value ∷ drop 1 (stores (tables sheet nodes.old [])) }
     ensures stored { nodes.new ≡ put_link sheet nodes.old whose value }
     ensures left { stores (tables sheet nodes.new []) ≡ drop 1 (stores (tables sheet nodes.old [])) }
 {
@@ -116,9 +116,9 @@ fn fetch_again(
     end: u32,
     kind: u32,
 ) -> u32
-    requires seats_value { sound (tables sheet nodes.old seats.old) ≡ true }
-    requires s_value { prev (tables sheet [] seats.old) s ≡ 0 }
-    requires s_value_2 { cur (tables sheet [] seats.old) s ≡ 0 }
+    requires tables_sound { sound (tables sheet nodes.old seats.old) ≡ true }
+    requires no_prev { prev (tables sheet [] seats.old) s ≡ 0 }
+    requires no_cur { cur (tables sheet [] seats.old) s ≡ 0 }
     ensures { fetched result (tables sheet nodes.new seats.new) ≡ fetch_again (tables sheet nodes.old seats.old) s (claim start end kind) }
 {
     let a = reach::lowest_free_after(sheet, nodes, seats, s);
@@ -140,9 +140,9 @@ pub fn fetch(
     end: u32,
     kind: u32,
 ) -> u32
-    requires seats_value { sound (tables sheet nodes.old seats.old) ≡ true }
-    requires s_value { prev (tables sheet [] seats.old) s ≡ 0 }
-    requires s_value_2 { cur (tables sheet [] seats.old) s ≡ 0 }
+    requires tables_sound { sound (tables sheet nodes.old seats.old) ≡ true }
+    requires no_prev { prev (tables sheet [] seats.old) s ≡ 0 }
+    requires no_cur { cur (tables sheet [] seats.old) s ≡ 0 }
     ensures { fetched result (tables sheet nodes.new seats.new) ≡ fetch_rule (tables sheet nodes.old seats.old) s (claim start end kind) }
 {
     let a = reach::lowest_free(sheet, nodes, seats, s);

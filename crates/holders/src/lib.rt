@@ -33,7 +33,7 @@ pub fn count(sheet: bool, seats: &[u32], below: u32) -> u32
 
 // the row of a holder
 pub fn row_of(sheet: bool, nodes: &[u32], seats: &[u32], s: u32) -> Row
-    requires seats_value { sound (tables sheet nodes.now seats.now) ≡ true }
+    requires tables_sound { sound (tables sheet nodes.now seats.now) ≡ true }
     requires holds { Holds (tables sheet nodes.now seats.now) s }
     ensures { result ≡ row_of (tables sheet nodes.now seats.now) s }
 {
@@ -59,10 +59,10 @@ fn gather(
     low: usize,
     held: usize,
 ) -> usize
-    requires seats_value { sound (tables sheet nodes.now seats.now) ≡ true }
+    requires tables_sound { sound (tables sheet nodes.now seats.now) ≡ true }
     requires holds { Holds (tables sheet nodes.now seats.now) s }
     requires ordered { Ordered places.old low held }
-    requires held_bound { held < 64 }
+    requires are_few { held < 64 }
     ensures { Joined (tables sheet nodes.now seats.now) s places.old low held places.new result }
 {
     let row = row_of(sheet, nodes, seats, s);

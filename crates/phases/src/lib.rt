@@ -13,8 +13,8 @@ ghost use Rattle.phases.specs.Parts as part;
 
 // phase 6: fetch again with the same claim, or 8
 fn fetch_again(sheet: bool, nodes: &mut [u32], seats: &mut [u32], s: u32) -> u32
-    requires seats_value { sound (tables sheet nodes.old seats.old) ≡ true }
-    requires s_value { phase (tables sheet nodes.old seats.old) s ≡ 6 }
+    requires tables_sound { sound (tables sheet nodes.old seats.old) ≡ true }
+    requires is_withdrawn { phase (tables sheet nodes.old seats.old) s ≡ 6 }
     ensures { done result (tables sheet nodes.new seats.new) ≡ part.unanswered (rule.withdrawn (tables sheet nodes.old seats.old) s) }
 {
     let own = words::seat_word(sheet, seats, s, words::OWN);
@@ -30,8 +30,8 @@ fn fetch_again(sheet: bool, nodes: &mut [u32], seats: &mut [u32], s: u32) -> u32
 
 // the phase decides the step; all but fetch, which looks at every seat, are lent the seat's own words
 fn step_by_phase(sheet: bool, nodes: &mut [u32], seats: &mut [u32], s: u32) -> u32
-    requires seats_value { sound (tables sheet nodes.old seats.old) ≡ true }
-    requires s_bound { s < seat_count_of sheet seats.old }
+    requires tables_sound { sound (tables sheet nodes.old seats.old) ≡ true }
+    requires has_seat { s < seat_count_of sheet seats.old }
     ensures { done result (tables sheet nodes.new seats.new) ≡ part.unanswered (part.step_busy (tables sheet nodes.old seats.old) s) }
 {
     let phase = words::seat_word_within(sheet, seats, s, words::PHASE);

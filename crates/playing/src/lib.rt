@@ -56,9 +56,9 @@ fn play_calls(
     script: Script,
 ) -> usize
     requires { Bounded script }
-    ensures result_after { played (tables false nodes.new seats.new) (page out.new result)
+    ensures is_printed { played (tables false nodes.new seats.new) (page out.new result)
         ≡ play_from 1 (calls_of script) (tables false nodes.old seats.old) (page out.old at) }
-    ensures upper_bound { result ≤ at + 43 * script.k }
+    ensures at_most { result ≤ at + 43 * script.k }
 {
     let k = script.k;
     let mut next = at;
@@ -74,8 +74,8 @@ fn play_calls(
 
 // ` n` for each node from a on, at most `left` of them.
 fn put_listed(nodes: &[u32], out: &mut [u8], at: usize, left: usize, a: u32) -> usize
-    ensures result_after { page out.new result ≡ puts (page out.old at) (numbers_text (nodes_from left (tables false nodes.now []) a)) }
-    ensures upper_bound { result ≤ at + 11 * left }
+    ensures is_printed { page out.new result ≡ puts (page out.old at) (numbers_text (nodes_from left (tables false nodes.now []) a)) }
+    ensures at_most { result ≤ at + 11 * left }
 {
     if left == 0 {
         return at;
@@ -89,8 +89,8 @@ fn put_listed(nodes: &[u32], out: &mut [u8], at: usize, left: usize, a: u32) -> 
 }
 
 fn put_list(nodes: &[u32], out: &mut [u8], at: usize) -> usize
-    ensures result_after { page out.new result ≡ puts (page out.old at) (list_text (tables false nodes.now [])) }
-    ensures upper_bound { result ≤ at + 11 * node_count_of false nodes.now + 5 }
+    ensures is_printed { page out.new result ≡ puts (page out.old at) (list_text (tables false nodes.now [])) }
+    ensures at_most { result ≤ at + 11 * node_count_of false nodes.now + 5 }
 {
     let n = words::node_count(false, nodes);
     let head = words::link(false, nodes, 0);
@@ -101,10 +101,10 @@ fn put_list(nodes: &[u32], out: &mut [u8], at: usize) -> usize
 
 // The seat's row, if it holds.
 fn put_held(nodes: &[u32], seats: &[u32], out: &mut [u8], at: usize, s: u32) -> usize
-    requires seats_value { sound (tables false nodes.now seats.now) ≡ true }
-    requires s_bound { s < seat_count_of false seats.now }
-    ensures result_after { page out.new result ≡ puts (page out.old at) (rows_text (held_by (tables false nodes.now seats.now) s)) }
-    ensures upper_bound { result ≤ at + 49 }
+    requires tables_sound { sound (tables false nodes.now seats.now) ≡ true }
+    requires has_seat { s < seat_count_of false seats.now }
+    ensures is_printed { page out.new result ≡ puts (page out.old at) (rows_text (held_by (tables false nodes.now seats.now) s)) }
+    ensures at_most { result ≤ at + 49 }
 {
     if words::seat_word_within(false, seats, s, words::PHASE) == 5 {
         let row = holders::row_of(false, nodes, seats, s);
@@ -115,8 +115,8 @@ fn put_held(nodes: &[u32], seats: &[u32], out: &mut [u8], at: usize, s: u32) -> 
 
 fn put_rows(nodes: &[u32], seats: &[u32], out: &mut [u8], at: usize) -> usize
     requires { sound (tables false nodes.now seats.now) ≡ true }
-    ensures result_after { page out.new result ≡ puts (page out.old at) (rows_text (rule.holders (tables false nodes.now seats.now))) }
-    ensures upper_bound { result ≤ at + 49 * seat_count_of false seats.now }
+    ensures is_printed { page out.new result ≡ puts (page out.old at) (rows_text (rule.holders (tables false nodes.now seats.now))) }
+    ensures at_most { result ≤ at + 49 * seat_count_of false seats.now }
 {
     let count = words::seat_count(false, seats) as u32;
     let mut next = at;
@@ -131,8 +131,8 @@ fn put_rows(nodes: &[u32], seats: &[u32], out: &mut [u8], at: usize) -> usize
 // What is printed after the calls: the list, the rows and the covered frames.
 fn put_end(nodes: &[u32], seats: &[u32], out: &mut [u8], at: usize) -> usize
     requires { sound (tables false nodes.now seats.now) ≡ true }
-    ensures result_after { page out.new result ≡ puts (page out.old at) (end_text (tables false nodes.now seats.now)) }
-    ensures upper_bound { result ≤ at + 11 * node_count_of false nodes.now + 49 * seat_count_of false seats.now + 34 }
+    ensures is_printed { page out.new result ≡ puts (page out.old at) (end_text (tables false nodes.now seats.now)) }
+    ensures at_most { result ≤ at + 11 * node_count_of false nodes.now + 49 * seat_count_of false seats.now + 34 }
 {
     let list = put_list(nodes, out, at);
     let rows = put_rows(nodes, seats, out, list);
@@ -144,8 +144,8 @@ fn put_end(nodes: &[u32], seats: &[u32], out: &mut [u8], at: usize) -> usize
 fn play_tables(nodes: &mut [u32], seats: &mut [u32], out: &mut [u8], script: Script) -> usize
     requires bounded { Bounded script }
     requires reached { Reached script.n script.s (tables false nodes.old seats.old) }
-    ensures result_after { page out.new result ≡ puts (page out.old 0) (played_text (tables false nodes.old seats.old) (calls_of script)) }
-    ensures upper_bound { result ≤ 48986 }
+    ensures is_printed { page out.new result ≡ puts (page out.old 0) (played_text (tables false nodes.old seats.old) (calls_of script)) }
+    ensures at_most { result ≤ 48986 }
 {
     let next = play_calls(nodes, seats, out, 0, script);
     put_end(nodes, seats, out, next)
@@ -154,9 +154,9 @@ fn play_tables(nodes: &mut [u32], seats: &mut [u32], out: &mut [u8], script: Scr
 // The same on fresh tables.
 fn play_script(out: &mut [u8], script: Script) -> usize
     requires bounded { Bounded script }
-    requires refusal_value { script.refusal ≡ 0 }
-    ensures result_after { page out.new result ≡ puts (page out.old 0) (script_text script) }
-    ensures upper_bound { result ≤ 48986 }
+    requires is_well_formed { script.refusal ≡ 0 }
+    ensures is_printed { page out.new result ≡ puts (page out.old 0) (script_text script) }
+    ensures at_most { result ≤ 48986 }
 {
     let mut nodes = words::fresh_nodes(script.title);
     let mut seats = words::fresh_seats();
@@ -168,10 +168,10 @@ fn play_script(out: &mut [u8], script: Script) -> usize
 // Every byte that the program prints for the bytes of a script, and no other byte of the buffer. The buffer has room for any: at most
 // 48,986 are printed.
 pub fn play(src: &[u8], out: &mut [u8; 49152]) -> usize
-    ensures out_after { take result out.new ≡ Play·play src.now }
-    ensures out_unchanged { drop result out.new ≡ drop result out.old }
-    ensures upper_bound { (result ≤ length out.new) × (result ≡ length (take result out.new)) }
-    ensures upper_bound_2 { result ≤ 48986 }
+    ensures is_printed { take result out.new ≡ Play·play src.now }
+    ensures rest_is_kept { drop result out.new ≡ drop result out.old }
+    ensures is_within { (result ≤ length out.new) × (result ≡ length (take result out.new)) }
+    ensures at_most { result ≤ 48986 }
 {
     let script = script::read(src);
     let refusal = script.refusal;

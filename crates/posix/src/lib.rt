@@ -157,8 +157,8 @@ fn lock_refusal_at(title: u32, locks: &[i64], place: usize) -> u32
 }
 
 fn claim_at(title: u32, locks: &[i64], place: usize) -> Claimed
-    requires place_in_bounds { record_width * place + 2 < length locks.now }
-    requires place_value { refusal_of (import_lock title (lock_at locks.now place)) ≡ 0 }
+    requires has_record { record_width * place + 2 < length locks.now }
+    requires is_accepted { refusal_of (import_lock title (lock_at locks.now place)) ≡ 0 }
     ensures { taken (claim result.start result.end result.kind) ≡ import_lock title (lock_at locks.now place) }
 {
     let at = 3 * place;
@@ -196,8 +196,8 @@ fn put_claim(claims: &mut [u32], place: usize, one: Claimed)
 }
 
 fn put_claims(title: u32, locks: &[i64], claims: &mut [u32])
-    requires record_width_in_bounds { length locks.now / record_width ≤ length claims.old / record_width }
-    requires moved_value { moved 0 0 ≡ verdict (each (import_lock title) (locks_in locks.now)) }
+    requires has_room { length locks.now / record_width ≤ length claims.old / record_width }
+    requires all_accepted { moved 0 0 ≡ verdict (each (import_lock title) (locks_in locks.now)) }
     ensures { claims.new ≡ put_from put_claim 0 (records_from (claim_for title locks.now) 0 (length locks.now / record_width)) claims.old }
 {
     let count = locks.len() / 3;
@@ -296,9 +296,9 @@ fn put_lock(locks: &mut [i64], place: usize, kind: u32, start: u32, span: i64)
 
 // the claim at a place, which is not refused, as a lock at the same place
 fn export_at(title: u32, claims: &[u32], locks: &mut [i64], place: usize)
-    requires place_in_bounds { record_width * place + 2 < length claims.now }
-    requires place_in_bounds_2 { record_width * place + 2 < length locks.old }
-    requires place_value { refusal_of (export_claim title (claim_at claims.now place)) ≡ 0 }
+    requires has_record { record_width * place + 2 < length claims.now }
+    requires has_room { record_width * place + 2 < length locks.old }
+    requires is_accepted { refusal_of (export_claim title (claim_at claims.now place)) ≡ 0 }
     ensures { locks.new ≡ put_lock locks.old place (lock_for title claims.now place) }
 {
     let at = 3 * place;
@@ -310,8 +310,8 @@ fn export_at(title: u32, claims: &[u32], locks: &mut [i64], place: usize)
 }
 
 fn put_locks(title: u32, claims: &[u32], locks: &mut [i64])
-    requires record_width_in_bounds { length claims.now / record_width ≤ length locks.old / record_width }
-    requires moved_value { moved 0 0 ≡ verdict (each (export_claim title) (claims_in claims.now)) }
+    requires has_room { length claims.now / record_width ≤ length locks.old / record_width }
+    requires all_accepted { moved 0 0 ≡ verdict (each (export_claim title) (claims_in claims.now)) }
     ensures { locks.new ≡ put_from put_lock 0 (records_from (lock_for title claims.now) 0 (length claims.now / record_width)) locks.old }
 {
     let count = claims.len() / 3;

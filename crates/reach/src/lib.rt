@@ -17,8 +17,8 @@ ghost use Rattle.reach.specs.FreeSet.{IsFreeSet};
 // The slice is lent once for the whole walk (`&&`): a call that passes it on copies nothing, and the recursion costs what a loop does.
 fn reach(sheet: bool, nodes: &&[u32], ws: &mut [u64; 4], hops: usize, a: u32)
     requires links { Links sheet nodes.now.now }
-    requires a_bound { a ≤ node_count_of sheet nodes.now.now }
-    requires hops_nonzero { hops ≢ 0 }
+    requires has_node { a ≤ node_count_of sheet nodes.now.now }
+    requires some_hops { hops ≢ 0 }
     ensures { ws.new ≡ reach_from sheet hops nodes.now.now ws.old a }
 {
     if a == 0 {
@@ -35,9 +35,9 @@ fn reach(sheet: bool, nodes: &&[u32], ws: &mut [u64; 4], hops: usize, a: u32)
 }
 
 fn reach_seat(sheet: bool, nodes: &[u32], seats: &[u32], ws: &mut [u64; 4], hops: usize, r: u32)
-    requires seats_value { sound (tables sheet nodes.now seats.now) ≡ true }
-    requires r_bound { r < seat_count_of sheet seats.now }
-    requires hops_nonzero { hops ≢ 0 }
+    requires tables_sound { sound (tables sheet nodes.now seats.now) ≡ true }
+    requires has_seat { r < seat_count_of sheet seats.now }
+    requires some_hops { hops ≢ 0 }
     ensures { ws.new ≡ reach_seat hops (tables sheet nodes.now seats.now) ws.old r }
 {
     let own = words::seat_word_within(sheet, seats, r, words::OWN);
@@ -53,8 +53,8 @@ fn reach_seat(sheet: bool, nodes: &[u32], seats: &[u32], ws: &mut [u64; 4], hops
 
 // What every seat but s reaches joins the set.
 fn reach_others(sheet: bool, nodes: &[u32], seats: &[u32], ws: &mut [u64; 4], hops: usize, s: u32)
-    requires seats_value { sound (tables sheet nodes.now seats.now) ≡ true }
-    requires hops_value { hops ≡ node_count_of sheet nodes.now }
+    requires tables_sound { sound (tables sheet nodes.now seats.now) ≡ true }
+    requires hops_are_nodes { hops ≡ node_count_of sheet nodes.now }
     ensures { ws.new ≡ reach_others (tables sheet nodes.now seats.now) s ws.old }
 {
     let count = words::seat_count(sheet, seats) as u32;

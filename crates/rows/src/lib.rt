@@ -68,7 +68,7 @@ fn last_holder(sheet: bool, seats: &[u32], below: u32) -> u32
 
 // its row
 fn last_row(sheet: bool, nodes: &[u32], seats: &[u32], below: u32) -> Row
-    requires seats_value { sound (tables sheet nodes.now seats.now) ≡ true }
+    requires tables_sound { sound (tables sheet nodes.now seats.now) ≡ true }
     requires holds { Holds (tables sheet nodes.now seats.now) (last_below sheet seats.now below) }
     ensures { result ≡ last_row (tables sheet nodes.now seats.now) below }
 {

@@ -54,9 +54,9 @@ fn names_node(sheet: bool, part: &[u32], n: u32, a: u32) -> bool
 
 // A node of kind 0 is all zeros, and so ends within any title; any other is a claim.
 fn node_sound(sheet: bool, part: &[u32], n: u32, title: u32, a: u32) -> bool
-    requires n_value { n ≡ node_count_of sheet (with_zeros sheet part.now) }
-    requires a_nonzero { a ≢ 0 }
-    requires a_le_n { a ≤ n }
+    requires nodes_are_counted { n ≡ node_count_of sheet (with_zeros sheet part.now) }
+    requires is_node { a ≢ 0 }
+    requires has_node { a ≤ n }
     ensures { result ≡ node_sound_by (tables sheet (with_zeros sheet part.now) []) title a }
 {
     let start = words::part_word(sheet, part, a, words::START);
@@ -153,8 +153,8 @@ fn ordinary_sound(
 
 // An idle seat is all zeros; any other is held to what its phase allows.
 fn seat_sound(sheet: bool, part: &[u32], seats: &[u32], n: u32, s: u32) -> bool
-    requires n_value { n ≡ node_count_of sheet (with_zeros sheet part.now) }
-    requires s_bound { s < seat_count_of sheet seats.now }
+    requires nodes_are_counted { n ≡ node_count_of sheet (with_zeros sheet part.now) }
+    requires has_seat { s < seat_count_of sheet seats.now }
     ensures { result ≡ seat_sound (tables sheet (with_zeros sheet part.now) seats.now) s }
 {
     let phase = words::seat_word_within(sheet, seats, s, words::PHASE);
@@ -183,8 +183,8 @@ fn holds(sheet: bool, seats: &[u32], s: u32) -> bool
 
 // the kind of the claim that a sound seat holds with, 0 if it holds with none
 fn held_kind(sheet: bool, part: &[u32], seats: &[u32], s: u32) -> u32
-    requires s_bound { s < seat_count_of sheet seats.now }
-    requires s_value { seat_sound (tables sheet (with_zeros sheet part.now) seats.now) s ≡ true }
+    requires has_seat { s < seat_count_of sheet seats.now }
+    requires seat_is_sound { seat_sound (tables sheet (with_zeros sheet part.now) seats.now) s ≡ true }
     ensures { result ≡ held_kind (tables sheet (with_zeros sheet part.now) seats.now) s }
 {
     if holds(sheet, seats, s) {
@@ -205,8 +205,8 @@ fn seats_and_counts_sound(
     readers: u32,
     writers: u32,
 ) -> bool
-    requires n_value { n ≡ node_count_of sheet (with_zeros sheet part.now) }
-    requires count_value { count ≡ seat_count_of sheet seats.now }
+    requires nodes_are_counted { n ≡ node_count_of sheet (with_zeros sheet part.now) }
+    requires seats_are_counted { count ≡ seat_count_of sheet seats.now }
     ensures { result ≡ seats_and_counts_sound (tables sheet (with_zeros sheet part.now) seats.now) readers writers }
 {
     let mut reading: u32 = 0;

@@ -61,8 +61,8 @@ pub fn put_next(out: &mut [u8], at: usize, n: u32) -> usize
 
 // A line of a word and a number: `bad L`, `covered n`.
 pub fn put_line(out: &mut [u8], at: usize, word: &[u8], n: u64) -> usize
-    ensures result_after { page out.new result ≡ puts (page out.old at) (word.now ++ decimal n ++ ascii "\n") }
-    ensures upper_bound { result ≤ at + length word.now + 21 }
+    ensures is_printed { page out.new result ≡ puts (page out.old at) (word.now ++ decimal n ++ ascii "\n") }
+    ensures at_most { result ≤ at + length word.now + 21 }
 {
     let next = put_named(out, at, word, n);
     put_byte(out, next, b'\n')
@@ -70,8 +70,8 @@ pub fn put_line(out: &mut [u8], at: usize, word: &[u8], n: u64) -> usize
 
 // `hold seat start end kind`
 pub fn put_row(out: &mut [u8], at: usize, seat: u32, first: u32, end: u32, kind: u32) -> usize
-    ensures result_after { page out.new result ≡ puts (page out.old at) (row_text (row seat first end kind)) }
-    ensures upper_bound { result ≤ at + 49 }
+    ensures is_printed { page out.new result ≡ puts (page out.old at) (row_text (row seat first end kind)) }
+    ensures at_most { result ≤ at + 49 }
 {
     let a = put_named(out, at, b"hold ", seat as u64);
     let b = put_next(out, a, first);

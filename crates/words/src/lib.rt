@@ -133,9 +133,9 @@ pub fn node_word(sheet: bool, nodes: &[u32], a: u32, field: u32) -> u32
 
 // a word of a node that the table has
 pub fn node_word_within(sheet: bool, nodes: &[u32], a: u32, field: u32) -> u32
-    requires fact { a ≡ 0 → ⊥ }
-    requires a_bound { a ≤ node_count_of sheet nodes.now }
-    requires field_lt_node_width { field < node_width }
+    requires is_node { a ≡ 0 → ⊥ }
+    requires has_node { a ≤ node_count_of sheet nodes.now }
+    requires has_word { field < node_width }
     ensures { result ≡ node_word sheet nodes.now a field }
 {
     nodes[node_place(sheet, a, field)]
@@ -161,8 +161,8 @@ pub fn link(sheet: bool, nodes: &[u32], a: u32) -> u32
 
 // the next of a node that the table has
 pub fn next_within(sheet: bool, nodes: &[u32], a: u32) -> u32
-    requires fact { a ≡ 0 → ⊥ }
-    requires a_bound { a ≤ node_count_of sheet nodes.now }
+    requires is_node { a ≡ 0 → ⊥ }
+    requires has_node { a ≤ node_count_of sheet nodes.now }
     ensures { result ≡ link_word sheet nodes.now a }
 {
     node_word_within(sheet, nodes, a, NEXT)
@@ -191,9 +191,9 @@ pub fn from_first_node(sheet: bool, nodes: &[u32]) -> &[u32]
 
 // a word of a node that the part has
 pub fn part_word(sheet: bool, part: &[u32], a: u32, field: u32) -> u32
-    requires fact { a ≡ 0 → ⊥ }
-    requires a_bound { a ≤ node_count_of sheet (with_zeros sheet part.now) }
-    requires field_lt_node_width { field < node_width }
+    requires is_node { a ≡ 0 → ⊥ }
+    requires has_node { a ≤ node_count_of sheet (with_zeros sheet part.now) }
+    requires has_word { field < node_width }
     ensures { result ≡ node_word sheet (with_zeros sheet part.now) a field }
 {
     part[part_place(a, field)]
@@ -201,8 +201,8 @@ pub fn part_word(sheet: bool, part: &[u32], a: u32, field: u32) -> u32
 
 // and its next
 pub fn part_next(sheet: bool, part: &[u32], a: u32) -> u32
-    requires fact { a ≡ 0 → ⊥ }
-    requires a_bound { a ≤ node_count_of sheet (with_zeros sheet part.now) }
+    requires is_node { a ≡ 0 → ⊥ }
+    requires has_node { a ≤ node_count_of sheet (with_zeros sheet part.now) }
     ensures { result ≡ link_word sheet (with_zeros sheet part.now) a }
 {
     part_word(sheet, part, a, NEXT)
@@ -240,8 +240,8 @@ pub fn put_title(nodes: &mut [u32], frames: u32)
 
 // a word of a seat that the table has
 pub fn seat_word_within(sheet: bool, seats: &[u32], s: u32, field: u32) -> u32
-    requires s_bound { s < seat_count_of sheet seats.now }
-    requires field_bound { field < seat_width sheet }
+    requires has_seat { s < seat_count_of sheet seats.now }
+    requires has_word { field < seat_width sheet }
     ensures { result ≡ seat_word sheet seats.now s field }
 {
     seats[seat_place(sheet, s, field)]

@@ -9,7 +9,7 @@ pub loop-s-init : goal.loop-s-init
 loop-s-init c = (omega arith, refl, fill_start _ _)
 
 pub fill_seat-rows-requires : goal.fill_seat-rows-requires
-fill_seat-rows-requires c = record { seats_value = search rules; s_bound = omega arith; rows_le_s = search fill_small; rows_value = search fill_counted; seats_in_bounds = search fill_fits }
+fill_seat-rows-requires c = record { tables_sound = search rules; has_seat = omega arith; rows_are_few = search fill_small; rows_are_counted = search fill_counted; has_room = search fill_fits }
 
 pub loop-s-preserved : goal.loop-s-preserved
 loop-s-preserved c = (omega arith, search rules, search fill_again)

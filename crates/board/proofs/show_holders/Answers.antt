@@ -10,7 +10,7 @@ pub overflow_cast-count : goal.overflow_cast-count
 overflow_cast-count c = let few : c.seat_count-count.result ≤ 64 = search seats_few in omega arith
 
 pub fill-rows-requires : goal.fill-rows-requires
-fill-rows-requires c = record { seats_value = search rules; count_bound = omega arith; seats_in_bounds = search long_enough }
+fill-rows-requires c = record { tables_sound = search rules; has_seats = omega arith; has_room = search long_enough }
 
 pub overflow_cast-rows : goal.overflow_cast-rows
 overflow_cast-rows c = search (rows_fit, rules)

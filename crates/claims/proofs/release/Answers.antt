@@ -5,7 +5,7 @@ use borrow.Author.Rules.{rules}
 use Rattle.claims.proofs.release.Goals as goal
 
 pub release_seat-requires : goal.release_seat-requires
-release_seat-requires c = record { seats_value = search now_sound; s_bound = search rules }
+release_seat-requires c = record { tables_sound = search now_sound; has_seat = search rules }
 
 pub returns-then-s-seat_count : goal.returns-then-s-seat_count
 returns-then-s-seat_count c = search release_seat_law

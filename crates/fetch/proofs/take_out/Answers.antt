@@ -11,10 +11,10 @@ pub loop-cur-init : goal.loop-cur-init
 loop-cur-init c = (refl, search taking_start)
 
 pub next_within-next-requires : goal.next_within-next-requires
-next_within-next-requires c = record { fact = c.loop-cur-test.true; a_bound = c.loop-cur.invariant.1.inside }
+next_within-next-requires c = record { is_node = c.loop-cur-test.true; has_node = c.loop-cur.invariant.1.inside }
 
 pub node_word_within-requires : goal.node_word_within-requires
-node_word_within-requires c = record { fact = c.loop-cur-test.true; a_bound = c.loop-cur.invariant.1.inside; field_lt_node_width = omega arith }
+node_word_within-requires c = record { is_node = c.loop-cur-test.true; has_node = c.loop-cur.invariant.1.inside; has_word = omega arith }
 
 pub overflow_sub-left : goal.overflow_sub-left
 overflow_sub-left c = search taking_left
@@ -29,7 +29,7 @@ loop-cur-preserved-then-node_word_within-eq1 c =
 pub store_link-requires : goal.store_link-requires
 store_link-requires c =
     let z = read_next c.loop-cur.invariant.1 c.loop-cur-test.true c.next_within-next.ensures c.node_word_within.ensures c.if-node_word_within-eq1.false c.if-link-cur.true in
-    record { list_ends = z.0; nodes_value = z.1 }
+    record { list_ends = z.0; is_first_store = z.1 }
 
 pub overflow_sub-left-else-node_word_within-eq1 : goal.overflow_sub-left-else-node_word_within-eq1
 overflow_sub-left-else-node_word_within-eq1 c = search taking_left
@@ -55,7 +55,7 @@ loop-cur-preserved c =
 pub store_link-requires-then-link-ne0 : goal.store_link-requires-then-link-ne0
 store_link-requires-then-link-ne0 c =
     let z = read_last c.loop-cur.invariant.1 c.loop-cur-test.false c.if-link-ne0.true in
-    record { list_ends = z.0; nodes_value = z.1 }
+    record { list_ends = z.0; is_first_store = z.1 }
 
 pub returns-then-link-ne0 : goal.returns-then-link-ne0
 returns-then-link-ne0 c =

@@ -13,4 +13,4 @@ pub loop-i-preserved : goal.loop-i-preserved
 loop-i-preserved c = (omega arith, omega arith, omega arith, omega arith, omega (arith, turn_reaches _ _ _ _ _ _ c.put_turn-next.ensures (omega arith) (record { number = omega arith; first = omega arith; end = omega arith })), search play_again)
 
 pub returns : goal.returns
-returns c = record { result_after = search play_done; upper_bound = omega arith }
+returns c = record { is_printed = search play_done; at_most = omega arith }

@@ -13,4 +13,4 @@ pub play_tables-requires : goal.play_tables-requires
 play_tables-requires c = record { bounded = search rules; reached = search lent_reached }
 
 pub returns : goal.returns
-returns c = record { result_after = search script_played; upper_bound = search rules }
+returns c = record { is_printed = search script_played; at_most = search rules }

@@ -6,4 +6,4 @@ pub put_end-requires : goal.put_end-requires
 put_end-requires c = search played_sound
 
 pub returns : goal.returns
-returns c = record { result_after = search tables_played; upper_bound = search played_short }
+returns c = record { is_printed = search tables_played; at_most = search played_short }

@@ -3,4 +3,4 @@ use Rattle.playing.proofs.Ending.{end_is, end_reach}
 use Rattle.playing.proofs.put_end.Goals as goal
 
 pub returns : goal.returns
-returns c = record { result_after = search end_is; upper_bound = search end_reach }
+returns c = record { is_printed = search end_is; at_most = search end_reach }

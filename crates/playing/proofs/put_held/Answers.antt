@@ -5,7 +5,7 @@ use borrow.Author.Rules.{rules}
 use Rattle.playing.proofs.put_held.Goals as goal
 
 pub returns-then-seat_word_within-eq5 : goal.returns-then-seat_word_within-eq5
-returns-then-seat_word_within-eq5 c = record { result_after = search text_held; upper_bound = search rules }
+returns-then-seat_word_within-eq5 c = record { is_printed = search text_held; at_most = search rules }
 
 pub returns : goal.returns
-returns c = record { result_after = search text_none; upper_bound = omega arith }
+returns c = record { is_printed = search text_none; at_most = omega arith }

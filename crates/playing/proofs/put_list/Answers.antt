@@ -9,6 +9,6 @@ returns c =
     let h = reached _ _ _ _ _ c.put_text-name.ensures in
     let i = reached _ _ _ _ _ c.put_byte.ensures in
     record {
-      result_after = list_is _ _ _ _ _ _ _ c.put_byte.ensures c.put_listed-end.ensures.result_after c.put_text-name.ensures c.node_count-n.ensures c.link-head.ensures;
-      upper_bound = omega (arith, h, i, c.put_listed-end.ensures.upper_bound, c.node_count-n.ensures);
+      is_printed = list_is _ _ _ _ _ _ _ c.put_byte.ensures c.put_listed-end.ensures.is_printed c.put_text-name.ensures c.node_count-n.ensures c.link-head.ensures;
+      at_most = omega (arith, h, i, c.put_listed-end.ensures.at_most, c.node_count-n.ensures);
     }

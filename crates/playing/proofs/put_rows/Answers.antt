@@ -17,4 +17,4 @@ pub loop-s-preserved : goal.loop-s-preserved
 loop-s-preserved c = (omega arith, omega arith, omega arith, search rows_reach, search text_again)
 
 pub returns : goal.returns
-returns c = record { result_after = search text_done; upper_bound = omega arith }
+returns c = record { is_printed = search text_done; at_most = omega arith }

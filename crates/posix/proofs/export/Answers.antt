@@ -13,7 +13,7 @@ pub returns-then-locks-claims : goal.returns-then-locks-claims
 returns-then-locks-claims c = search export_short
 
 pub put_locks-requires : goal.put_locks-requires
-put_locks-requires c = record { record_width_in_bounds = search rules; moved_value = search claims_passed }
+put_locks-requires c = record { has_room = search rules; all_accepted = search claims_passed }
 
 pub returns : goal.returns
 returns c = search export_accepted

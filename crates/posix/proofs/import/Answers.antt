@@ -13,7 +13,7 @@ pub returns-then-claims-locks : goal.returns-then-claims-locks
 returns-then-claims-locks c = search import_short
 
 pub put_claims-requires : goal.put_claims-requires
-put_claims-requires c = record { record_width_in_bounds = search rules; moved_value = search locks_passed }
+put_claims-requires c = record { has_room = search rules; all_accepted = search locks_passed }
 
 pub returns : goal.returns
 returns c = search import_accepted

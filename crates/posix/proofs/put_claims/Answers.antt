@@ -10,7 +10,7 @@ pub loop-place-init : goal.loop-place-init
 loop-place-init c = (omega arith, refl, refl, search stored_none)
 
 pub claim_at-one-requires : goal.claim_at-one-requires
-claim_at-one-requires c = record { place_in_bounds = omega arith; place_value = search lock_passed }
+claim_at-one-requires c = record { has_record = omega arith; is_accepted = search lock_passed }
 
 pub loop-place-preserved : goal.loop-place-preserved
 loop-place-preserved c = (omega arith, refl, search rules, search claim_stored)

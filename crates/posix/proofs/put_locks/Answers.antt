@@ -10,7 +10,7 @@ pub loop-place-init : goal.loop-place-init
 loop-place-init c = (omega arith, refl, refl, search stored_none)
 
 pub export_at-requires : goal.export_at-requires
-export_at-requires c = record { place_in_bounds = omega arith; place_in_bounds_2 = omega arith; place_value = search claim_passed }
+export_at-requires c = record { has_record = omega arith; has_room = omega arith; is_accepted = search claim_passed }
 
 pub loop-place-preserved : goal.loop-place-preserved
 loop-place-preserved c = (omega arith, refl, search rules, search stored_on)

@@ -14,10 +14,10 @@ pub overflow_cast-count : goal.overflow_cast-count
 overflow_cast-count c = omega (arith, seats_few _ _ _ _ c.seat_count-count.ensures c.loop-steps.invariant.4)
 
 pub seat_word_within-before-requires : goal.seat_word_within-before-requires
-seat_word_within-before-requires c = record { s_bound = seat_there _ _ _ _ c.seat_count-count.ensures c.if-count-s.false; field_bound = search rules }
+seat_word_within-before-requires c = record { has_seat = seat_there _ _ _ _ c.seat_count-count.ensures c.if-count-s.false; has_word = search rules }
 
 pub seat_word_within-after-requires : goal.seat_word_within-after-requires
-seat_word_within-after-requires c = record { s_bound = still_there _ _ _ _ c.seat_count-count.ensures c.if-count-s.false _ (search rules); field_bound = search rules }
+seat_word_within-after-requires c = record { has_seat = still_there _ _ _ _ c.seat_count-count.ensures c.if-count-s.false _ (search rules); has_word = search rules }
 
 pub is_kept_sound-requires : goal.is_kept_sound-requires
 is_kept_sound-requires c = search still_fit

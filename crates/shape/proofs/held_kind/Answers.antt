@@ -4,7 +4,7 @@ use Rattle.std.proofs.Common.{rules}
 use Rattle.shape.proofs.held_kind.Goals as goal
 
 pub part_word-requires : goal.part_word-requires
-part_word-requires c = record { fact = search holder_some; a_bound = search holder_in; field_lt_node_width = search rules }
+part_word-requires c = record { is_node = search holder_some; has_node = search holder_in; has_word = search rules }
 
 pub returns-then-holds : goal.returns-then-holds
 returns-then-holds c = search holder_kind

@@ -10,7 +10,7 @@ pub returns-then-not-seat_sound : goal.returns-then-not-seat_sound
 returns-then-not-seat_sound c = search seat_fails
 
 pub held_kind-kind-requires : goal.held_kind-kind-requires
-held_kind-kind-requires c = record { s_bound = search rules; s_value = seat_fits _ _ _ _ _ c.seat_sound.ensures (rw c.if-not-seat_sound.false refl) }
+held_kind-kind-requires c = record { has_seat = search rules; seat_is_sound = seat_fits _ _ _ _ _ c.seat_sound.ensures (rw c.if-not-seat_sound.false refl) }
 
 pub loop-s-preserved-then-kind-eq1 : goal.loop-s-preserved-then-kind-eq1
 loop-s-preserved-then-kind-eq1 c = (omega arith, omega arith, omega arith, search counted_reader)

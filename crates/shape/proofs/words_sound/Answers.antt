@@ -28,7 +28,7 @@ pub returns-then-not-names_node : goal.returns-then-not-names_node
 returns-then-not-names_node c = search head_not
 
 pub seats_and_counts_sound-requires : goal.seats_and_counts_sound-requires
-seats_and_counts_sound-requires c = record { n_value = search counts_part; count_value = search rules }
+seats_and_counts_sound-requires c = record { nodes_are_counted = search counts_part; seats_are_counted = search rules }
 
 pub returns-then-not-seats_and_counts_sound : goal.returns-then-not-seats_and_counts_sound
 returns-then-not-seats_and_counts_sound c = search seats_not

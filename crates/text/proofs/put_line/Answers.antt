@@ -4,4 +4,4 @@ use Rattle.text.proofs.Lines.{line_put}
 use Rattle.text.proofs.put_line.Goals as goal
 
 pub returns : goal.returns
-returns c = record { result_after = search joined; upper_bound = search line_put }
+returns c = record { is_printed = search joined; at_most = search line_put }

@@ -14,4 +14,4 @@ returns c =
     (joined_two _ _ _ _ _ _ (joined_two _ _ _ _ _ _ c.put_named-a.ensures c.put_next-b.ensures) c.put_next-c.ensures)
     c.put_next-d.ensures)
     c.put_byte.ensures in
-    record { result_after = put; upper_bound = row_reaches _ _ _ _ _ _ _ _ put (omega arith) (omega arith) (omega arith) (omega arith) }
+    record { is_printed = put; at_most = row_reaches _ _ _ _ _ _ _ _ put (omega arith) (omega arith) (omega arith) (omega arith) }
