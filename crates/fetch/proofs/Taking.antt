@@ -4,7 +4,7 @@ use Prim.Native.Nat.{ℕ, zero, suc, ◌-◌, ◌<◌, ◌≤◌}
 use mathlib.Core.Path.{◌≡◌, refl, sym, ap, ◌∙◌}
 use mathlib.Core.Bool.{Bool}
 use mathlib.Core.List.{List, [], ◌∷◌}
-use mathlib.Core.Logic.{◌≢◌}
+use mathlib.Core.Logic.{◌≢◌, ◌⊎◌, inl, inr}
 use native.Mathlib.Omega.{arith}
 use lib.ListN.{drop}
 use Rattle.rules.specs.Tables.{Tables, tables, mark_at, node_word, link_word, put_link, node_count, mark, link, next, head, set_link}
@@ -137,6 +137,12 @@ module _ {sheet : Bool} {whole : Tables} {nodes : List ℕ} {h prev at_prev cur 
           rw stored
           (less h (λ k. Taking whole (set_link t prev cur) k cur x x) (taking_left h g z)
           (λ k y. rw p (taking_stored k (rw y at g) z unmarked d)))
+
+      -- whether or not it was stored: only a link that differs is
+      pub read_either : {nodes' : List ℕ} → ((at_prev ≢ cur) × (nodes' ≡ put_link sheet nodes prev cur)) ⊎ ((at_prev ≡ cur) × (nodes' ≡ nodes))
+          → Taking whole (tables sheet nodes' []) (h - 1) cur x x
+      read_either (inl w) = read_stored w.0 w.1
+      read_either (inr w) = read_on_law w.0 w.1
 
       pub read_next : at_prev ≢ cur → ListEnds t × (stores t ≡ store prev cur ∷ drop 1 (stores t))
       read_next d = (

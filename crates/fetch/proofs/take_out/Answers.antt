@@ -1,11 +1,11 @@
 -- `fetch::take_out` meets its promise: each turn of its loop takes the walk on by one of the ways of Taking.
 use borrow.Author.Rules.{rules}
-use Rattle.fetch.proofs.Taking.{taking_start, taking_left, taking_less, read_skip, read_on_law, read_stored, read_next, read_last, read_ended, read_end}
+use Rattle.std.proofs.lemmas.Grind.{common_steps}
+use Rattle.fetch.proofs.Taking.{taking_start, taking_left, taking_less, read_skip, read_either, read_next, read_last, read_ended, read_end}
 use native.Mathlib.Omega.{arith}
 use lib.ListN.{length}
 use mathlib.Core.Path.{refl, ap, ◌∙◌}
 use Rattle.fetch.proofs.take_out.Goals as goal
-use Rattle.fetch.proofs.take_out.Goals.{then-link-cur, else-link-cur}
 
 pub loop-cur-init : goal.loop-cur-init
 loop-cur-init c = (refl, search taking_start)
@@ -28,7 +28,7 @@ loop-cur-preserved-then-node_word_within-eq1 c =
 
 pub store_link-requires : goal.store_link-requires
 store_link-requires c =
-    let z = read_next c.loop-cur.invariant.1 c.loop-cur-test.true c.next_within-next.ensures c.node_word_within.ensures c.if-node_word_within-eq1.false c.if-link-cur.true in
+    let z = read_next c.loop-cur.invariant.1 c.loop-cur-test.true c.next_within-next.ensures c.node_word_within.ensures c.if-node_word_within-eq1.false (search rules) in
     record { list_ends = z.0; is_first_store = z.1 }
 
 pub overflow_sub-left-else-node_word_within-eq1 : goal.overflow_sub-left-else-node_word_within-eq1
@@ -38,19 +38,10 @@ pub loop-cur-smaller : goal.loop-cur-smaller
 loop-cur-smaller c = search taking_less
 
 pub loop-cur-preserved : goal.loop-cur-preserved
-loop-cur-preserved c =
-    let came = c.loop-cur.invariant in
-    elim c.if-link-cur.branch [
-      | then-link-cur w ↦ (
-        ap length w.nodes-is ∙ (search rules),
-        read_stored came.1 c.loop-cur-test.true c.next_within-next.ensures c.node_word_within.ensures c.if-node_word_within-eq1.false w.if-link-cur.true
-            (w.nodes-is ∙ w.store_link.ensures.stored),
-      )
-      | else-link-cur w ↦ (
-        ap length w.nodes-is ∙ came.0,
-        read_on_law came.1 c.loop-cur-test.true c.next_within-next.ensures c.node_word_within.ensures c.if-node_word_within-eq1.false w.if-link-cur.false w.nodes-is,
-      )
-    ]
+loop-cur-preserved c = (
+  grind (arith, common_steps),
+  read_either c.loop-cur.invariant.1 c.loop-cur-test.true c.next_within-next.ensures c.node_word_within.ensures c.if-node_word_within-eq1.false (grind arith),
+)
 
 pub store_link-requires-then-link-ne0 : goal.store_link-requires-then-link-ne0
 store_link-requires-then-link-ne0 c =
