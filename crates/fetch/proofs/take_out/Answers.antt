@@ -3,8 +3,7 @@ use borrow.Author.Rules.{rules}
 use Rattle.std.proofs.lemmas.Grind.{common_steps}
 use Rattle.fetch.proofs.Taking.{taking_start, taking_left, taking_less, read_skip, read_either, read_next, read_last, read_ended, read_end}
 use native.Mathlib.Omega.{arith}
-use lib.ListN.{length}
-use mathlib.Core.Path.{refl, ap, ◌∙◌}
+use mathlib.Core.Path.{refl}
 use Rattle.fetch.proofs.take_out.Goals as goal
 
 pub loop-cur-init : goal.loop-cur-init
