@@ -277,7 +277,7 @@ pub extern "C" fn soodhiqune_export(title: u32, claims: &[u32], locks: &mut [i64
 pub extern "C" fn soodhiqune_play(script: &[u8], out: &mut [u8; 49152]) -> u64
     ensures is_printed { take result out.new ≡ Play·play script.now }
     ensures rest_is_kept { drop result out.new ≡ drop result out.old }
-    ensures at_most { (result ≤ 48986) × (result ≡ length (take result out.new)) }
+    ensures is_within { (result ≤ 48986) × (result ≡ length (take result out.new)) }
 {
     playing::play(script, out) as u64
 }

@@ -51,7 +51,7 @@ fn put_above(runs: &mut [u64; 128], high: usize, run: u64)
 // Puts a run in its place among those in order. The answer says where they begin then.
 pub fn put(runs: &mut [u64; 128], low: usize, count: usize, first: u32, end: u32) -> usize
     requires ordered { Ordered runs.old low count }
-    requires are_few { count < 64 }
+    requires has_room { count < 64 }
     ensures { Ordered runs.new result (count + 1) × CoversOneMore runs.old low count first end runs.new result }
 {
     let run = first as u64 * 4294967296 + end as u64;

@@ -12,7 +12,7 @@ use Rattle.rules.specs.Tables.{Tables, readers, writers, title, start, kind, pha
 use Rattle.rules.specs.Comparison.{Claim, claim_of}
 use Rattle.rules.specs.Shape.{sound}
 use Rattle.rules.specs.Reach.{list_of}
-use Rattle.rules.specs.Answers.{Answer, node, on, wait, back as IsSent-back, refused, Done, done}
+use Rattle.rules.specs.Answers.{Answer, node, on, wait, back as sent_back, refused, Done, done}
 use Rattle.rules.specs.FreeCount.{Counted}
 use Rattle.rules.specs.Board.{Boarded, Shown, row_width, holders, covered_by}
 use Rattle.rules.specs.Play.{Call, reserve_call, enter_call, step_call, call, seat_of}
@@ -331,7 +331,7 @@ module _ {N S : ℕ} {t : Tables} (l : Lent N S t) (q : OnSheet t) where
   sheet_linked_holds = sheets.linked_holds (lent_reached l) q
 
   -- nobody is sent back, and whoever waits waits at a holder
-  pub sheet_never_back : {s : ℕ} {a : Answer} {u : Tables} → CallMade t (step_call s) a u → a ≢ IsSent-back
+  pub sheet_never_back : {s : ℕ} {a : Answer} {u : Tables} → CallMade t (step_call s) a u → a ≢ sent_back
   unfolding call
   sheet_never_back {s} m = rw (ap (λ (x : Done Answer). x.answer) (made_call m)) (sheets.step_never_back (lent_reached l) q s)
 

@@ -62,7 +62,7 @@ fn gather(
     requires tables_sound { sound (tables sheet nodes.now seats.now) ≡ true }
     requires holds { Holds (tables sheet nodes.now seats.now) s }
     requires ordered { Ordered places.old low held }
-    requires are_few { held < 64 }
+    requires has_room { held < 64 }
     ensures { Joined (tables sheet nodes.now seats.now) s places.old low held places.new result }
 {
     let row = row_of(sheet, nodes, seats, s);

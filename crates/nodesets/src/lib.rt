@@ -52,7 +52,7 @@ pub fn empty() -> [u64; 4]
 // Node a joins the set. The answer says whether it was in it before.
 pub fn join(ws: &mut [u64; 4], a: u32) -> bool
     requires is_node { a ≢ 0 }
-    requires is_small { a ≤ 256 }
+    requires fits { a ≤ 256 }
     ensures { (result ≡ has ws.old a) × (ws.new ≡ add ws.old a) }
 {
     let at = ((a - 1) / 64) as usize;

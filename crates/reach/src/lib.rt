@@ -17,7 +17,7 @@ ghost use Rattle.reach.specs.FreeSet.{IsFreeSet};
 // The slice is lent once for the whole walk (`&&`): a call that passes it on copies nothing, and the recursion costs what a loop does.
 fn reach(sheet: bool, nodes: &&[u32], ws: &mut [u64; 4], hops: usize, a: u32)
     requires links { Links sheet nodes.now.now }
-    requires has_node { a ≤ node_count_of sheet nodes.now.now }
+    requires is_node_or_0 { a ≤ node_count_of sheet nodes.now.now }
     requires some_hops { hops ≢ 0 }
     ensures { ws.new ≡ reach_from sheet hops nodes.now.now ws.old a }
 {

@@ -19,7 +19,7 @@ use Rattle.rows.specs.contracts.show as show
 use Rattle.rows.proofs.show_all.Reads as show_all
 use Rattle.rows.proofs.show_all.Kinds as kinds
 
--- ---- `show`: no covered function holds a `&mut [Row]`, so its promise is read here, and is the one that stands in the source
+-- ---- `show`: its promise is read here as the checker keeps it, and is the one that stands in the source
 module _ (κs : Lfts 3) (args : Args show.signature κs) where
   abbrev pub Shows : Res show.signature κs → AtExit show.ended κs → Type 0
   Shows r s = shown (means_board r) s.1.0.now ≡ board (tables args.0 args.1.1.0.now args.1.1.1.0.now) args.1.0.now

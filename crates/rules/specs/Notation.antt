@@ -1,4 +1,5 @@
--- How the rules are written, beside a choice, which is the library's if then else: tests on numbers, and counting over the numbers below a bound. All of it computes.
+-- How the rules are written, beside the library's `if then else`: tests on numbers, and counting over the numbers below a bound. All of it
+-- computes.
 use Rattle.std.specs.Prelude.{ℕ, zero, suc, ◌+◌, Bool, true, false, ◌&&◌, ◌||◌, eqb, leb, ltb, if◌then◌else◌}
 
 infix 40 ◌is◌ ◌≤?◌ ◌<?◌

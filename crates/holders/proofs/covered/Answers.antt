@@ -14,7 +14,7 @@ pub loop-seat-init : goal.loop-seat-init
 loop-seat-init c = gathered_none _ _ _ (search seats_few) (search rules)
 
 pub gather-low-requires : goal.gather-low-requires
-gather-low-requires c = record { tables_sound = search rules; holds = search rules; ordered = search rules; are_few = search rules }
+gather-low-requires c = record { tables_sound = search rules; holds = search rules; ordered = search rules; has_room = search rules }
 
 pub loop-seat-preserved-then-seat_word_within-eq5 : goal.loop-seat-preserved-then-seat_word_within-eq5
 loop-seat-preserved-then-seat_word_within-eq5 c = gathered_more _ _ _ _ _ _ (search rules) (search rules) (search rules) _ _ c.gather-low.ensures
