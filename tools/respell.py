@@ -1,7 +1,7 @@
 #!/usr/bin/env python3
 """Brings the repository's own definitions and lemmas to today's spelling: words in snake case, types and modules in camel case.
 
-usage: python3 tools/respell.py        at the top of the repository, once, right after /opt/rattle/port/port.py
+usage: python3 tools/respell.py        at the top of the repository, once, right after the port/port.py of the kit
 
 port.py turns the spelling of the language and of the names that the kit's library has too. This turns the others: in specs/ and proofs/ each name of the
 repository's own, in src/ the names that clauses and ghost lines use, and in must-fail/ the same in an edit's text. Functions of src/, exported
