@@ -11,7 +11,7 @@ ghost use Rattle.posix.specs.Records.{below, above, IsWord, run_refusal, lock_at
 use rules::Moved;
 
 // A lock that is not refused, as reserve's numbers.
-#[derive(Drop)]
+#[derive(Clone, Copy)]
 struct Claimed {
     start: u32,
     end: u32,

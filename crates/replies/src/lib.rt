@@ -7,7 +7,7 @@ ghost use Rattle.replies.specs.Codes.{said_plainly, said_of};
 use rules::Reply;
 
 // What kind of answer a reply is, its number, and of a wait the first shared frame and the end of the shared run. 0 where the answer has none.
-#[derive(Drop)]
+#[derive(Clone, Copy)]
 pub struct Said {
     pub code: u32,
     pub number: u32,

@@ -98,7 +98,7 @@ pub fn show<'a, 'b, 'c>(
 }
 
 // The board by value, for a caller that lends no rows: there is one for each seat, and what is not shown is 0.
-#[derive(Drop)]
+#[derive(Clone, Copy)]
 pub struct Board {
     pub rows: [Row; 64],
     pub reply: BoardReply,

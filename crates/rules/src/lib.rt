@@ -21,7 +21,7 @@ pub struct Line {
 }
 
 // A script as read: refusal 10 and the line that is wrong, or N, S, K, the title's frame count and the rows. What a script does not fill is 0.
-#[derive(Drop)]
+#[derive(Clone, Copy)]
 pub struct Script {
     pub refusal: u32,
     pub wrong: u32,
