@@ -7,7 +7,7 @@ use borrow.Author.Tests.{ne_eqb}
 use Rattle.rules.specs.Script.{no_line, read_script}
 use Rattle.script.proofs.Bounds.{read_bounded}
 use Rattle.rules.specs.declared.Line.{Line}
-use Rattle.rules.specs.declared.Script.{Script}
+use Rattle.rules.specs.Script.{Script}
 use mathlib.Core.Path.{◌≡◌, refl, sym, ap, ◌∙◌}
 use mathlib.Core.List.{List, [], ◌∷◌}
 use native.Mathlib.Omega.{arith}
@@ -22,7 +22,7 @@ use Rattle.rules.specs.declared.CountReply.{CountReply}
 use Rattle.rules.specs.declared.CountReply.TheVariants.{Count, Refused as CountRefused}
 use Rattle.rules.specs.declared.BoardReply.{BoardReply}
 use Rattle.rules.specs.declared.BoardReply.TheVariants.{Rows, Refused as BoardRefused}
-use Rattle.rules.specs.declared.Ran.{Ran}
+use Rattle.rules.specs.Run.{Ran}
 use Rattle.replies.specs.Codes.{said_of}
 use Rattle.replies.specs.declared.Said.{Said}
 use Rattle.boundary.specs.Encoded.{Halves, halves, halves_of, encode, encode_count, encode_ran, encoded, encoded_run, step_told, shared_after, tell_step, Told, told, tell_answer, tell, put_line, put_top_line, row_at, lines_after, script_numbers, read_as, encode_script}

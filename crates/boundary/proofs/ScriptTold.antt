@@ -10,7 +10,7 @@ use Rattle.rules.specs.Notation.{◌is◌, ◌<?◌}
 use Rattle.rules.specs.Script.{nowhere, no_line, body_at, contents_of, bad_at, good_script, bodies_from, read_script}
 use Rattle.rules.specs.declared.Line.{Line}
 use Rattle.rules.specs.declared.Contents.{Contents}
-use Rattle.rules.specs.declared.Script.{Script}
+use Rattle.rules.specs.Script.{Script}
 use Rattle.rules.proofs.Ground.Logic.{branch}
 use Rattle.script.proofs.Bounds.{read_bounded}
 use Rattle.boundary.specs.Encoded.{halves, halves_of, put_line, put_top_line, row_at, lines_after, script_numbers, ReadAs, read_as, encode_script}

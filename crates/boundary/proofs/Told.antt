@@ -14,7 +14,7 @@ use Rattle.rules.specs.FreeCount.{Counted, free_count}
 use Rattle.rules.specs.Board.{Boarded, Shown, shown, board_numbers}
 use Rattle.rules.specs.Calls as call
 use Rattle.rules.specs.Run as running
-use Rattle.rules.specs.declared.Ran.{Ran}
+use Rattle.rules.specs.Run.{Ran}
 use Rattle.rules.proofs.Rules.Accepting.{reserve_answers, release_answers}
 use Rattle.rules.proofs.Frames.Entered.{enter_answers}
 use Rattle.replies.specs.Codes.{answer_by}

@@ -7,9 +7,9 @@ use Rattle.rules.specs.FreeCount.{Counted}
 use Rattle.rules.specs.Run.{ran}
 use Rattle.rules.specs.Board.{Boarded}
 use Rattle.rules.specs.Script.{line, bad_at}
-use Rattle.rules.specs.declared.Ran.{Ran}
+use Rattle.rules.specs.Run.{Ran}
 use Rattle.rules.specs.declared.Line.{Line}
-use Rattle.rules.specs.declared.Script.{Script}
+use Rattle.rules.specs.Script.{Script}
 use Rattle.replies.specs.Codes.{said, said_plainly, answer_by}
 use Rattle.boundary.specs.Encoded.{Halves, row_at}
 

@@ -8,9 +8,9 @@ use Rattle.rules.specs.Answers.{Answer, node, out, on, wait, held, back, refused
 use Rattle.rules.specs.FreeCount.{Counted}
 use Rattle.rules.specs.Board.{Boarded, Shown}
 use Rattle.rules.specs.Script.{no_line}
-use Rattle.rules.specs.declared.Ran.{Ran}
+use Rattle.rules.specs.Run.{Ran}
 use Rattle.rules.specs.declared.Line.{Line}
-use Rattle.rules.specs.declared.Script.{Script}
+use Rattle.rules.specs.Script.{Script}
 
 pub record Halves : Type 0 where
   pub upper : ℕ

@@ -30,7 +30,7 @@ use Rattle.rules.specs.Archive.{SameFrames, Pairwise, record_numbers}
 use Rattle.rules.specs.Reserved.{HasReserved, HasEntered}
 use Rattle.rules.specs.Sheets.{OnSheet, SheetPhase, SheetKind, OneAfterTheOther, WaitsAtHolder, SheetSettled, SheetTold}
 use Rattle.rules.specs.declared.Moved.{Moved}
-use Rattle.rules.specs.declared.Ran.{Ran}
+use Rattle.rules.specs.Run.{Ran}
 use Rattle.rules.proofs.Refusing as refusing
 use Rattle.rules.proofs.Apart as apart
 use Rattle.rules.proofs.Shared as shares

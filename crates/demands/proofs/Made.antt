@@ -16,7 +16,7 @@ use Rattle.rules.specs.Means.{means, means_count, means_board}
 use Rattle.rules.specs.Play.{Call, reserve_call, enter_call, step_call, release_call}
 use Rattle.rules.specs.Reached.{Request, single, running}
 use Rattle.rules.specs.declared.Moved.{Moved}
-use Rattle.rules.specs.declared.Ran.{Ran}
+use Rattle.rules.specs.Run.{Ran}
 use Rattle.claims.proofs.clear.Reads as clearing
 use Rattle.claims.proofs.clear.Kinds as clear_kinds
 use Rattle.claims.proofs.reserve.Reads as reserving

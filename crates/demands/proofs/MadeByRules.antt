@@ -19,7 +19,7 @@ use Rattle.rules.specs.Reached.{Request, after_request, after_requests, Reached,
 use Rattle.rules.specs.Cause.{step_times}
 use Rattle.rules.specs.Locks.{listed, import_locks, export_claims}
 use Rattle.rules.specs.declared.Moved.{Moved}
-use Rattle.rules.specs.declared.Ran.{Ran}
+use Rattle.rules.specs.Run.{Ran}
 use Rattle.rules.specs.Refusing.{tables_damaged, BoardRefuses, board_damaged}
 use Rattle.rules.proofs.Refusing.{count_only, numbers_only, numbers_there}
 use Rattle.rules.proofs.Ground.Logic.{clash}

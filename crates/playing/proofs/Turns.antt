@@ -17,7 +17,7 @@ use Rattle.rules.specs.Script.{no_line}
 use Rattle.rules.specs.Play.{Call, call, call_of, calls_of, trace, after_all, turn_text, turns_text}
 use Rattle.rules.specs.declared.Line.{Line}
 use Rattle.rules.specs.declared.Reply.{Reply}
-use Rattle.rules.specs.declared.Script.{Script}
+use Rattle.rules.specs.Script.{Script}
 use Rattle.script.specs.Bounded.{Bounded}
 use Rattle.text.specs.Page.{Page, page, puts}
 use Rattle.replies.specs.Codes.{said_of, answer_by}

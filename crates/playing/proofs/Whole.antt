@@ -16,7 +16,7 @@ use Rattle.rules.proofs.Laws.RunSteps.{calls_reached}
 use Rattle.rules.proofs.Apart.{always_sound}
 use Rattle.rules.specs.Script.{read_script}
 use Rattle.rules.specs.Play.{calls_of, trace, after_all, turns_text, end_text, ascii, decimal, start_of, script_text, play}
-use Rattle.rules.specs.declared.Script.{Script}
+use Rattle.rules.specs.Script.{Script}
 use Rattle.script.specs.Bounded.{Bounded}
 use Rattle.script.proofs.Bounds.{read_bounded}
 use Rattle.text.specs.Page.{Page, page, puts}

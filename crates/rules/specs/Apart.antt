@@ -9,7 +9,7 @@ use Rattle.rules.specs.Calls.{step, release}
 use Rattle.rules.specs.Run.{refusal_of, run}
 use Rattle.rules.specs.Play.{Call, step_call, release_call, call, after_all}
 use Rattle.rules.specs.Reached.{Request, single, running}
-use Rattle.rules.specs.declared.Ran.{Ran}
+use Rattle.rules.specs.Run.{Ran}
 
 -- ---- claims
 -- "A claim covers frames start up to but not including end"

@@ -8,7 +8,7 @@ use Rattle.rules.specs.Calls.{step}
 use Rattle.rules.specs.Refusing.{NoNodeFree}
 use Rattle.rules.specs.Apart.{claim_of_seat, Holds, LinkedIn, Stands}
 use Rattle.rules.specs.Shared.{WholeShared}
-use Rattle.rules.specs.declared.Ran.{Ran}
+use Rattle.rules.specs.Run.{Ran}
 
 -- ---- steps of one seat with no other call between
 unfoldable pub step_times : ℕ → Tables → ℕ → Tables

@@ -12,7 +12,7 @@ use Rattle.rules.specs.Board.{holders, covered_by}
 use Rattle.rules.specs.Script.{read_script}
 use Rattle.rules.specs.declared.Row.{Row}
 use Rattle.rules.specs.declared.Line.{Line}
-use Rattle.rules.specs.declared.Script.{Script}
+use Rattle.rules.specs.Script.{Script}
 
 -- ---- the calls that a script makes
 pub data Call : Type 0 where

@@ -4,9 +4,12 @@ use Rattle.rules.specs.Notation.{◌is◌}
 use Rattle.rules.specs.Tables.{Tables}
 use Rattle.rules.specs.Answers.{Answer, node, out, on, wait, held, back, refused, Done, done, ◌when◌, refusing}
 use Rattle.rules.specs.Calls.{damaged, step}
-use Rattle.rules.specs.declared.Ran.{Ran}
 
 -- "It returns the steps accepted, .. and the refusal met or 0."
+pub record Ran : Type 0 where
+  pub steps : ℕ
+  pub refusal : ℕ
+
 abbrev pub ran : ℕ → ℕ → Ran
 ran steps refusal = record { steps = steps; refusal = refusal }
 

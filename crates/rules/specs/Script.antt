@@ -4,10 +4,19 @@
 use Rattle.std.specs.Prelude.{ℕ, zero, suc, ◌+◌, ◌*◌, ◌-◌, List, Bool, not, ◌&&◌, get_or, set, replicate, length, if◌then◌else◌}
 use Rattle.rules.specs.Notation.{◌is◌, ◌≤?◌, ◌<?◌}
 use Rattle.rules.specs.declared.Line.{Line}
-use Rattle.rules.specs.declared.Script.{Script}
 use Rattle.rules.specs.declared.Found.{Found}
 use Rattle.rules.specs.declared.Body.{Body}
 use Rattle.rules.specs.declared.Contents.{Contents}
+
+-- a script as read: refusal 10 and the line that is wrong, or N, S, K, the title's frame count and the rows. What a script does not fill is 0
+pub record Script : Type 0 where
+  pub refusal : ℕ
+  pub wrong : ℕ
+  pub n : ℕ
+  pub s : ℕ
+  pub k : ℕ
+  pub title : ℕ
+  pub rows : List Line
 
 abbrev pub found : ℕ → ℕ → Found
 found value next = record { value = value; next = next }

@@ -20,16 +20,20 @@ pub struct Line {
     pub kind: u32,
 }
 
-// A script as read: refusal 10 and the line that is wrong, or N, S, K, the title's frame count and the rows. What a script does not fill is 0.
+// A script as read: N, S, K, the title's frame count and the rows. What a script does not fill is 0.
 #[derive(Clone, Copy)]
 pub struct Script {
-    pub refusal: u32,
-    pub wrong: u32,
     pub n: u32,
     pub s: u32,
     pub k: u32,
     pub title: u32,
     pub rows: [Line; 1000],
+}
+
+// The line of a script that is not well formed: the first wrong one from 1, 0 where the script is too long.
+#[derive(Clone, Copy)]
+pub struct Wrong {
+    pub line: u32,
 }
 
 // While a script is read: a number and the place after it.
@@ -39,14 +43,14 @@ pub struct Found {
     pub next: usize,
 }
 
-// A line and the place after it, or one past the end of the script where the line is wrong.
+// A line and the place after it.
 #[derive(Clone, Copy)]
 pub struct Body {
     pub line: Line,
     pub next: usize,
 }
 
-// The numbers of line 1 and the place after it, or one past the end of the script where the line is wrong.
+// The numbers of line 1 and the place after it.
 #[derive(Clone, Copy)]
 pub struct Contents {
     pub n: u32,
@@ -63,7 +67,27 @@ pub struct SharedRun {
     pub end: u32,
 }
 
-// What reserve, enter, step and release answer. A wait has the node waited at, and the first frame and the end of the shared run.
+// Why a call is refused: 01's refusals and what 02 adds to them, each with its number. Which of several comes first is for each call to say.
+#[derive(Clone, Copy, Debug, PartialEq, Eq)]
+pub enum Refused {
+    Damaged = 1,
+    NoSuchSeat = 2,
+    NoFrames = 3,
+    UnknownKind = 4,
+    HasClaim = 5,
+    HasNoClaim = 6,
+    NotHolding = 7,
+    NoNodeFree = 8,
+    NoRoom = 9,
+    NotWellFormed = 10,
+    BeyondTitle = 11,
+    NoSuchRun = 12,
+    UnknownType = 13,
+    NotReserved = 14,
+}
+
+// What reserve, enter, step and release answer where they are not refused. A wait has the node waited at, and the first frame and the end of the shared
+// run.
 #[derive(Clone, Copy)]
 pub enum Reply {
     Node(u32),
@@ -72,31 +96,30 @@ pub enum Reply {
     Wait(u32, u32, u32),
     Held,
     Back,
-    Refused(u32),
 }
 
-// What free count answers: the number of free nodes.
+// What the board answers where it is not refused: the row count and the covered frames.
 #[derive(Clone, Copy)]
-pub enum CountReply {
-    Count(u32),
-    Refused(u32),
+pub struct Filled {
+    pub rows: u32,
+    pub covered: u64,
 }
 
-// What the board answers: the row count and the covered frames.
-#[derive(Clone, Copy)]
-pub enum BoardReply {
-    Rows(u32, u64),
-    Refused(u32),
-}
-
-// What run answers: the steps accepted, and the refusal met or 0.
+// What run answers: the steps accepted, and the refusal met, if there was one.
 #[derive(Clone, Copy)]
 pub struct Ran {
     pub steps: u32,
-    pub refusal: u32,
+    pub refusal: Option<Refused>,
 }
 
-// What import and export answer: the refusal or 0, and the place from 0 of the record that is refused.
+// A record of a list that is refused, and so the list: why, and the record's place from 0.
+#[derive(Clone, Copy)]
+pub struct BadRecord {
+    pub why: Refused,
+    pub place: usize,
+}
+
+// What import and export answer to C: the refusal or 0, and the place from 0 of the record that is refused.
 #[repr(C)]
 #[derive(Clone, Copy)]
 pub struct Moved {

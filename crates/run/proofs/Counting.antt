@@ -15,7 +15,7 @@ use Rattle.rules.specs.Shape.{nodes_fit, seats_fit, lengths_fit, sound}
 use Rattle.rules.specs.Answers.{refused, Done, done}
 use Rattle.rules.specs.Calls.{step}
 use Rattle.rules.specs.Run.{ran, refusal_of, one_step_more, run_steps, run}
-use Rattle.rules.specs.declared.Ran.{Ran}
+use Rattle.rules.specs.Run.{Ran}
 use Rattle.rules.proofs.Ground.Logic.{branch, clash, not_of, or_left, or_right, or_case, or_neither, and_left}
 use Rattle.rules.proofs.Laws.Words.{same_node_count, same_seat_count}
 use Rattle.rules.proofs.Laws.Shape.{is_sound, lengths_fit_is}

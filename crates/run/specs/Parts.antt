@@ -3,7 +3,7 @@ use Rattle.std.specs.Prelude.{ℕ, Bool, true, ◌&&◌, ◌||◌, if◌then◌e
 use Rattle.rules.specs.Notation.{◌is◌, ◌≤?◌}
 use Rattle.rules.specs.Tables.{Tables}
 use Rattle.rules.specs.Run.{ran}
-use Rattle.rules.specs.declared.Ran.{Ran}
+use Rattle.rules.specs.Run.{Ran}
 use Rattle.shape.specs.Parts.{list_ends}
 
 -- by the seat's phase before and after

@@ -9,7 +9,7 @@ use lib.Dec.{eqb, leb}
 use lib.ListN.{get_or, set, length, get_or-eq_default}
 use borrow.Author.Tests.{lt-ltb, le-ltb, le-leb, lt-leb, leb-true, eq-eqb, ne_eqb}
 use Rattle.rules.specs.declared.Line.{Line}
-use Rattle.rules.specs.declared.Script.{Script}
+use Rattle.rules.specs.Script.{Script}
 use Rattle.rules.specs.declared.Found.{Found}
 use Rattle.rules.specs.declared.Body.{Body}
 use Rattle.rules.specs.declared.Contents.{Contents}

@@ -1,6 +1,6 @@
 -- What holds of every script as it is read, and is asked by whoever plays one.
 use Rattle.std.specs.Prelude.{◌≤◌, ◌≡◌, length}
-use Rattle.rules.specs.declared.Script.{Script}
+use Rattle.rules.specs.Script.{Script}
 
 pub record Bounded (script : Script) : Type 0 where
   pub nodes : script.n ≤ 256

@@ -16,7 +16,7 @@ use Rattle.rules.specs.Run.{ran, refusal_of, one_step_more, run_steps, run}
 use Rattle.rules.specs.Play.{Call, call, after_all}
 use Rattle.rules.specs.Reached.{Request, single, running, after_requests, Reached, cleared, asked}
 use Rattle.rules.specs.Refusing.{DamageRefuses, tables_damaged}
-use Rattle.rules.specs.declared.Ran.{Ran}
+use Rattle.rules.specs.Run.{Ran}
 use Rattle.rules.specs.Apart.{steps_of, no_more, one_more, IsItsSteps, Stops, at_the_end, budget_used, at_a_refusal, calls_made}
 use Rattle.rules.proofs.Ground.Logic.{branch}
 use Rattle.rules.proofs.Laws.Answers.{refused_as}

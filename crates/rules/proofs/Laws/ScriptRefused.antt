@@ -11,7 +11,7 @@ use Rattle.rules.specs.Notation.{◌is◌, ◌<?◌}
 use Rattle.rules.specs.Script.{nowhere, contents_of, body_at, no_lines, bad_at, good_script, bodies_from, read_script}
 use Rattle.rules.specs.Refusing.{ReadTo, contents_read, body_read, ScriptRefuses, too_long, contents_wrong, body_wrong, more_follows}
 use Rattle.rules.specs.declared.Line.{Line}
-use Rattle.rules.specs.declared.Script.{Script}
+use Rattle.rules.specs.Script.{Script}
 use Rattle.rules.specs.declared.Contents.{Contents}
 use Rattle.rules.proofs.Ground.Logic.{branch}
 

@@ -17,7 +17,7 @@ use Rattle.rules.specs.Run.{refusal_of, run_steps, run}
 use Rattle.rules.specs.Play.{Call, reserve_call, enter_call, step_call, release_call, call}
 use Rattle.rules.specs.Refusing.{Refuses}
 use Rattle.rules.specs.Reached.{single, Reached, asked}
-use Rattle.rules.specs.declared.Ran.{Ran}
+use Rattle.rules.specs.Run.{Ran}
 use Rattle.rules.proofs.Ground.Logic.{branch, clash}
 use Rattle.rules.proofs.Laws.Answers.{refused_as, answer_accepts}
 use Rattle.rules.proofs.Rules.Reasons.{Stepping, in_1, in_2, in_3, in_4, in_6, in_7, at_rest}

@@ -20,7 +20,7 @@ use Rattle.rules.specs.Refusing.{Refuses, damaged, no_such_seat, none_again}
 use Rattle.rules.specs.Refusing.{idle as idle_seat}
 use Rattle.rules.specs.Cause.{step_times, Cause, Settled, holds, waits, no_node, RunEnds, all_stepped, stopped_at_8}
 use Rattle.rules.specs.Sheets.{OnSheet, idle, walking, waiting, holding, reserved, WaitsAtHolder, SheetSettled, SheetTold}
-use Rattle.rules.specs.declared.Ran.{Ran}
+use Rattle.rules.specs.Run.{Ran}
 use Rattle.rules.proofs.Ground.Logic.{clash, branch}
 use Rattle.rules.proofs.Ground.Deciding.{if_same}
 use Rattle.rules.proofs.Laws.Shape.{is_sound}

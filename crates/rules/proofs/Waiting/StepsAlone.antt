@@ -11,7 +11,7 @@ use Rattle.rules.specs.Answers.{Answer, Done, done}
 use Rattle.rules.specs.Calls.{step}
 use Rattle.rules.specs.Run.{ran, refusal_of, run_steps, run}
 use Rattle.rules.specs.Cause.{step_times, Settled, holds, waits, no_node, Told, told_held, told_wait, told_8, RunEnds, all_stepped, stopped_at_8}
-use Rattle.rules.specs.declared.Ran.{Ran}
+use Rattle.rules.specs.Run.{Ran}
 use Rattle.rules.specs.Reached.{Reached}
 use Rattle.rules.proofs.Ground.Logic.{branch}
 use Rattle.rules.proofs.Rules.RefusedExactly.{refused_step_keeps}
