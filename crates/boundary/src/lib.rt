@@ -81,7 +81,7 @@ fn tell_board(reply: BoardReply, covered: &mut u64) -> u64
 pub extern "C" fn soodhiqune_clear(nodes: &mut [u32], seats: &mut [u32], title: u32) -> u64
     ensures { done result (tables false nodes.new seats.new) ≡ call.clear (tables false nodes.old seats.old) title }
 {
-    let number = claims::clear(false, nodes, seats, title);
+    let number = claims::clear::<Ordinary>(nodes, seats, title);
     number as u64
 }
 
@@ -96,7 +96,7 @@ pub extern "C" fn soodhiqune_reserve(
 ) -> u64
     ensures { done (halves_of result) (tables false nodes.new seats.new) ≡ encoded (call.reserve (tables false nodes.old seats.old) seat (claim start end kind)) }
 {
-    let reply = claims::reserve(false, nodes, seats, seat, start, end, kind);
+    let reply = claims::reserve::<Ordinary>(nodes, seats, seat, start, end, kind);
     number_of(reply)
 }
 
@@ -104,7 +104,7 @@ pub extern "C" fn soodhiqune_reserve(
 pub extern "C" fn soodhiqune_enter(nodes: &[u32], seats: &mut [u32], seat: u32) -> u64
     ensures { done (halves_of result) (tables false nodes.now seats.new) ≡ encoded (call.enter (tables false nodes.now seats.old) seat) }
 {
-    let reply = claims::enter(false, nodes, seats, seat);
+    let reply = claims::enter::<Ordinary>(nodes, seats, seat);
     number_of(reply)
 }
 
@@ -117,7 +117,7 @@ pub extern "C" fn soodhiqune_step(
 ) -> u64
     ensures { step_told (halves_of result) shared.new (tables false nodes.new seats.new) ≡ tell_step shared.old (call.step (tables false nodes.old seats.old) seat) }
 {
-    let reply = claims::step(false, nodes, seats, seat);
+    let reply = claims::step::<Ordinary>(nodes, seats, seat);
     put_shared(shared, reply);
     number_of(reply)
 }
@@ -126,7 +126,7 @@ pub extern "C" fn soodhiqune_step(
 pub extern "C" fn soodhiqune_release(nodes: &mut [u32], seats: &mut [u32], seat: u32) -> u64
     ensures { done (halves_of result) (tables false nodes.new seats.new) ≡ encoded (call.release (tables false nodes.old seats.old) seat) }
 {
-    let reply = claims::release(false, nodes, seats, seat);
+    let reply = claims::release::<Ordinary>(nodes, seats, seat);
     number_of(reply)
 }
 
@@ -134,7 +134,7 @@ pub extern "C" fn soodhiqune_release(nodes: &mut [u32], seats: &mut [u32], seat:
 pub extern "C" fn soodhiqune_free_count(nodes: &[u32], seats: &[u32]) -> u64
     ensures { halves_of result ≡ encode_count (free_count (tables false nodes.now seats.now)) }
 {
-    let reply = claims::free_count(false, nodes, seats);
+    let reply = claims::free_count::<Ordinary>(nodes, seats);
     number_of_count(reply)
 }
 
@@ -147,7 +147,7 @@ pub extern "C" fn soodhiqune_run(
 ) -> u64
     ensures { done (halves_of result) (tables false nodes.new seats.new) ≡ encoded_run (running.run (tables false nodes.old seats.old) schedule.now budget) }
 {
-    let ran = run::run(false, nodes, seats, schedule, budget);
+    let ran = run::run::<Ordinary>(nodes, seats, schedule, budget);
     number_of_run(ran)
 }
 
@@ -160,7 +160,7 @@ pub extern "C" fn soodhiqune_board(
 ) -> u64
     ensures { told (halves_of result) covered.new rows.new ≡ tell covered.old (board_numbers (tables false nodes.now seats.now) rows.old) }
 {
-    let reply = board::board(false, nodes, seats, rows);
+    let reply = board::board::<Ordinary>(nodes, seats, rows);
     tell_board(reply, covered)
 }
 
@@ -170,7 +170,7 @@ pub extern "C" fn soodhiqune_board(
 pub extern "C" fn soodhiqune_sheet_clear(nodes: &mut [u32], seats: &mut [u32], title: u32) -> u64
     ensures { done result (tables true nodes.new seats.new) ≡ call.clear (tables true nodes.old seats.old) title }
 {
-    let number = claims::clear(true, nodes, seats, title);
+    let number = claims::clear::<Sheet>(nodes, seats, title);
     number as u64
 }
 
@@ -185,7 +185,7 @@ pub extern "C" fn soodhiqune_sheet_reserve(
 ) -> u64
     ensures { done (halves_of result) (tables true nodes.new seats.new) ≡ encoded (call.reserve (tables true nodes.old seats.old) seat (claim start end kind)) }
 {
-    let reply = claims::reserve(true, nodes, seats, seat, start, end, kind);
+    let reply = claims::reserve::<Sheet>(nodes, seats, seat, start, end, kind);
     number_of(reply)
 }
 
@@ -193,7 +193,7 @@ pub extern "C" fn soodhiqune_sheet_reserve(
 pub extern "C" fn soodhiqune_sheet_enter(nodes: &[u32], seats: &mut [u32], seat: u32) -> u64
     ensures { done (halves_of result) (tables true nodes.now seats.new) ≡ encoded (call.enter (tables true nodes.now seats.old) seat) }
 {
-    let reply = claims::enter(true, nodes, seats, seat);
+    let reply = claims::enter::<Sheet>(nodes, seats, seat);
     number_of(reply)
 }
 
@@ -206,7 +206,7 @@ pub extern "C" fn soodhiqune_sheet_step(
 ) -> u64
     ensures { step_told (halves_of result) shared.new (tables true nodes.new seats.new) ≡ tell_step shared.old (call.step (tables true nodes.old seats.old) seat) }
 {
-    let reply = claims::step(true, nodes, seats, seat);
+    let reply = claims::step::<Sheet>(nodes, seats, seat);
     put_shared(shared, reply);
     number_of(reply)
 }
@@ -215,7 +215,7 @@ pub extern "C" fn soodhiqune_sheet_step(
 pub extern "C" fn soodhiqune_sheet_release(nodes: &mut [u32], seats: &mut [u32], seat: u32) -> u64
     ensures { done (halves_of result) (tables true nodes.new seats.new) ≡ encoded (call.release (tables true nodes.old seats.old) seat) }
 {
-    let reply = claims::release(true, nodes, seats, seat);
+    let reply = claims::release::<Sheet>(nodes, seats, seat);
     number_of(reply)
 }
 
@@ -223,7 +223,7 @@ pub extern "C" fn soodhiqune_sheet_release(nodes: &mut [u32], seats: &mut [u32],
 pub extern "C" fn soodhiqune_sheet_free_count(nodes: &[u32], seats: &[u32]) -> u64
     ensures { halves_of result ≡ encode_count (free_count (tables true nodes.now seats.now)) }
 {
-    let reply = claims::free_count(true, nodes, seats);
+    let reply = claims::free_count::<Sheet>(nodes, seats);
     number_of_count(reply)
 }
 
@@ -236,7 +236,7 @@ pub extern "C" fn soodhiqune_sheet_run(
 ) -> u64
     ensures { done (halves_of result) (tables true nodes.new seats.new) ≡ encoded_run (running.run (tables true nodes.old seats.old) schedule.now budget) }
 {
-    let ran = run::run(true, nodes, seats, schedule, budget);
+    let ran = run::run::<Sheet>(nodes, seats, schedule, budget);
     number_of_run(ran)
 }
 
@@ -249,7 +249,7 @@ pub extern "C" fn soodhiqune_sheet_board(
 ) -> u64
     ensures { told (halves_of result) covered.new rows.new ≡ tell covered.old (board_numbers (tables true nodes.now seats.now) rows.old) }
 {
-    let reply = board::board(true, nodes, seats, rows);
+    let reply = board::board::<Sheet>(nodes, seats, rows);
     tell_board(reply, covered)
 }
 

@@ -13,7 +13,7 @@ ghost use Rattle.rules.specs.Calls as call;
 ghost use Rattle.rules.specs.FreeCount as count;
 ghost use Rattle.claims.specs.Parts as part;
 
-use rules::{CountReply, Reply};
+use rules::{Profile, Refused, Reply};
 
 // ---- clear
 
@@ -28,10 +28,10 @@ fn fill_with_zeros(table: &mut [u32])
 }
 
 // 0, or the refusal; `title` is the title's frame count
-pub fn clear(sheet: bool, nodes: &mut [u32], seats: &mut [u32], title: u32) -> u32
-    ensures { done result (tables sheet nodes.new seats.new) ≡ call.clear (tables sheet nodes.old seats.old) title }
+pub fn clear<P: Profile>(nodes: &mut [u32], seats: &mut [u32], title: u32) -> u32
+    ensures { done result (tables P.SHEET nodes.new seats.new) ≡ call.clear (tables P.SHEET nodes.old seats.old) title }
 {
-    let fits = shape::lengths_fit(sheet, nodes, seats);
+    let fits = shape::lengths_fit::<P>(nodes, seats);
     if !fits {
         return 1;
     }
@@ -47,8 +47,7 @@ pub fn clear(sheet: bool, nodes: &mut [u32], seats: &mut [u32], title: u32) -> u
 // ---- reserve
 
 // of an idle seat
-fn reserve_fetching(
-    sheet: bool,
+fn reserve_fetching<P: Profile>(
     nodes: &mut [u32],
     seats: &mut [u32],
     s: u32,
@@ -56,19 +55,18 @@ fn reserve_fetching(
     end: u32,
     kind: u32,
 ) -> Reply
-    requires tables_sound { sound (tables sheet nodes.old seats.old) ≡ true }
-    requires is_idle { phase (tables sheet nodes.old seats.old) s ≡ 0 }
-    ensures { done (means result) (tables sheet nodes.new seats.new) ≡ part.reserve_fetching (tables sheet nodes.old seats.old) s (claim start end kind) }
+    requires tables_sound { sound (tables P.SHEET nodes.old seats.old) ≡ true }
+    requires is_idle { phase (tables P.SHEET nodes.old seats.old) s ≡ 0 }
+    ensures { done (means result) (tables P.SHEET nodes.new seats.new) ≡ part.reserve_fetching (tables P.SHEET nodes.old seats.old) s (claim start end kind) }
 {
-    let a = fetch::fetch(sheet, nodes, seats, s, start, end, kind);
+    let a = fetch::fetch::<P>(nodes, seats, s, start, end, kind);
     if a == 0 {
         return Reply::Refused(8);
     }
     Reply::Node(a)
 }
 
-fn reserve_claim(
-    sheet: bool,
+fn reserve_claim<P: Profile>(
     nodes: &mut [u32],
     seats: &mut [u32],
     s: u32,
@@ -76,12 +74,12 @@ fn reserve_claim(
     end: u32,
     kind: u32,
 ) -> Reply
-    requires { sound (tables sheet nodes.old seats.old) ≡ true }
-    ensures { done (means result) (tables sheet nodes.new seats.new) ≡ part.reserve_claim (tables sheet nodes.old seats.old) s (claim start end kind) }
+    requires { sound (tables P.SHEET nodes.old seats.old) ≡ true }
+    ensures { done (means result) (tables P.SHEET nodes.new seats.new) ≡ part.reserve_claim (tables P.SHEET nodes.old seats.old) s (claim start end kind) }
 {
     // 3, then 11, then 4: what they look at is read first, so that each is one test, and their order is that of the lines
-    let title = words::title(sheet, nodes);
-    let known = shape::may_claim(sheet, kind);
+    let title = words::title::<P>(nodes);
+    let known = shape::may_claim::<P>(kind);
     if end <= start {
         return Reply::Refused(3);
     }
@@ -91,15 +89,14 @@ fn reserve_claim(
     if !known {
         return Reply::Refused(4);
     }
-    let phase = words::seat_word(sheet, seats, s, words::PHASE);
+    let phase = words::seat_word::<P>(seats, s, words::PHASE);
     match phase {
-        0 => reserve_fetching(sheet, nodes, seats, s, start, end, kind),
+        0 => reserve_fetching::<P>(nodes, seats, s, start, end, kind),
         1..=4294967295 => Reply::Refused(5),
     }
 }
 
-pub fn reserve(
-    sheet: bool,
+pub fn reserve<P: Profile>(
     nodes: &mut [u32],
     seats: &mut [u32],
     s: u32,
@@ -107,11 +104,11 @@ pub fn reserve(
     end: u32,
     kind: u32,
 ) -> Reply
-    ensures { done (means result) (tables sheet nodes.new seats.new) ≡ call.reserve (tables sheet nodes.old seats.old) s (claim start end kind) }
+    ensures { done (means result) (tables P.SHEET nodes.new seats.new) ≡ call.reserve (tables P.SHEET nodes.old seats.old) s (claim start end kind) }
 {
-    if shape::is_sound(sheet, nodes, seats) {
-        if (s as usize) < words::seat_count(sheet, seats) {
-            return reserve_claim(sheet, nodes, seats, s, start, end, kind);
+    if shape::is_sound::<P>(nodes, seats) {
+        if (s as usize) < words::seat_count::<P>(seats) {
+            return reserve_claim::<P>(nodes, seats, s, start, end, kind);
         }
         return Reply::Refused(2);
     }
@@ -120,28 +117,28 @@ pub fn reserve(
 
 // ---- enter
 
-fn enter_seat(sheet: bool, nodes: &[u32], seats: &mut [u32], s: u32) -> Reply
-    requires { s < seat_count_of sheet seats.old }
-    ensures { done (means result) (tables sheet nodes.now seats.new) ≡ part.enter_seat (tables sheet nodes.now seats.old) s }
+fn enter_seat<P: Profile>(nodes: &[u32], seats: &mut [u32], s: u32) -> Reply
+    requires { s < seat_count_of P.SHEET seats.old }
+    ensures { done (means result) (tables P.SHEET nodes.now seats.new) ≡ part.enter_seat (tables P.SHEET nodes.now seats.old) s }
 {
-    let phase = words::seat_word_within(sheet, seats, s, words::PHASE);
-    let start = words::seat_start(sheet, s);
-    let end = words::seat_end(sheet, s);
+    let phase = words::seat_word_within::<P>(seats, s, words::PHASE);
+    let start = words::seat_start::<P>(s);
+    let end = words::seat_end::<P>(s);
     match phase {
         7 => {
-            steps::enter(sheet, nodes, &mut seats[start..end]);
+            steps::enter::<P>(nodes, &mut seats[start..end]);
             Reply::On
         }
         0..=6 | 8..=4294967295 => Reply::Refused(14),
     }
 }
 
-pub fn enter(sheet: bool, nodes: &[u32], seats: &mut [u32], s: u32) -> Reply
-    ensures { done (means result) (tables sheet nodes.now seats.new) ≡ call.enter (tables sheet nodes.now seats.old) s }
+pub fn enter<P: Profile>(nodes: &[u32], seats: &mut [u32], s: u32) -> Reply
+    ensures { done (means result) (tables P.SHEET nodes.now seats.new) ≡ call.enter (tables P.SHEET nodes.now seats.old) s }
 {
-    if shape::is_sound(sheet, nodes, seats) {
-        if (s as usize) < words::seat_count(sheet, seats) {
-            return enter_seat(sheet, nodes, seats, s);
+    if shape::is_sound::<P>(nodes, seats) {
+        if (s as usize) < words::seat_count::<P>(seats) {
+            return enter_seat::<P>(nodes, seats, s);
         }
         return Reply::Refused(2);
     }
@@ -151,53 +148,53 @@ pub fn enter(sheet: bool, nodes: &[u32], seats: &mut [u32], s: u32) -> Reply
 // ---- step
 
 // the step, and the answer from the seat's new phase
-fn step_and_answer(sheet: bool, nodes: &mut [u32], seats: &mut [u32], s: u32) -> Reply
-    requires { sound (tables sheet nodes.old seats.old) ≡ true }
-    ensures { done (means result) (tables sheet nodes.new seats.new) ≡ call.step (tables sheet nodes.old seats.old) s }
+fn step_and_answer<P: Profile>(nodes: &mut [u32], seats: &mut [u32], s: u32) -> Reply
+    requires { sound (tables P.SHEET nodes.old seats.old) ≡ true }
+    ensures { done (means result) (tables P.SHEET nodes.new seats.new) ≡ call.step (tables P.SHEET nodes.old seats.old) s }
 {
-    let refusal = phases::step_known(sheet, nodes, seats, s);
+    let refusal = phases::step_known::<P>(nodes, seats, s);
     if refusal == 0 {
-        let start = words::seat_start(sheet, s);
-        let end = words::seat_end(sheet, s);
-        return steps::answer(sheet, nodes, &seats[start..end]);
+        let start = words::seat_start::<P>(s);
+        let end = words::seat_end::<P>(s);
+        return steps::answer::<P>(nodes, &seats[start..end]);
     }
     Reply::Refused(refusal)
 }
 
-pub fn step(sheet: bool, nodes: &mut [u32], seats: &mut [u32], s: u32) -> Reply
-    ensures { done (means result) (tables sheet nodes.new seats.new) ≡ call.step (tables sheet nodes.old seats.old) s }
+pub fn step<P: Profile>(nodes: &mut [u32], seats: &mut [u32], s: u32) -> Reply
+    ensures { done (means result) (tables P.SHEET nodes.new seats.new) ≡ call.step (tables P.SHEET nodes.old seats.old) s }
 {
-    if shape::is_sound(sheet, nodes, seats) {
-        return step_and_answer(sheet, nodes, seats, s);
+    if shape::is_sound::<P>(nodes, seats) {
+        return step_and_answer::<P>(nodes, seats, s);
     }
     Reply::Refused(1)
 }
 
 // ---- release
 
-fn release_seat(sheet: bool, nodes: &mut [u32], seats: &mut [u32], s: u32) -> Reply
-    requires tables_sound { sound (tables sheet nodes.old seats.old) ≡ true }
-    requires has_seat { s < seat_count_of sheet seats.old }
-    ensures { done (means result) (tables sheet nodes.new seats.new) ≡ part.release_seat (tables sheet nodes.old seats.old) s }
+fn release_seat<P: Profile>(nodes: &mut [u32], seats: &mut [u32], s: u32) -> Reply
+    requires tables_sound { sound (tables P.SHEET nodes.old seats.old) ≡ true }
+    requires has_seat { s < seat_count_of P.SHEET seats.old }
+    ensures { done (means result) (tables P.SHEET nodes.new seats.new) ≡ part.release_seat (tables P.SHEET nodes.old seats.old) s }
 {
-    let phase = words::seat_word_within(sheet, seats, s, words::PHASE);
-    let start = words::seat_start(sheet, s);
-    let end = words::seat_end(sheet, s);
+    let phase = words::seat_word_within::<P>(seats, s, words::PHASE);
+    let start = words::seat_start::<P>(s);
+    let end = words::seat_end::<P>(s);
     match phase {
         5 => {
-            steps::leave(sheet, nodes, &mut seats[start..end]);
+            steps::leave::<P>(nodes, &mut seats[start..end]);
             Reply::Out
         }
         0..=4 | 6..=4294967295 => Reply::Refused(7),
     }
 }
 
-pub fn release(sheet: bool, nodes: &mut [u32], seats: &mut [u32], s: u32) -> Reply
-    ensures { done (means result) (tables sheet nodes.new seats.new) ≡ call.release (tables sheet nodes.old seats.old) s }
+pub fn release<P: Profile>(nodes: &mut [u32], seats: &mut [u32], s: u32) -> Reply
+    ensures { done (means result) (tables P.SHEET nodes.new seats.new) ≡ call.release (tables P.SHEET nodes.old seats.old) s }
 {
-    if shape::is_sound(sheet, nodes, seats) {
-        if (s as usize) < words::seat_count(sheet, seats) {
-            return release_seat(sheet, nodes, seats, s);
+    if shape::is_sound::<P>(nodes, seats) {
+        if (s as usize) < words::seat_count::<P>(seats) {
+            return release_seat::<P>(nodes, seats, s);
         }
         return Reply::Refused(2);
     }
@@ -206,11 +203,11 @@ pub fn release(sheet: bool, nodes: &mut [u32], seats: &mut [u32], s: u32) -> Rep
 
 // ---- free count
 
-pub fn free_count(sheet: bool, nodes: &[u32], seats: &[u32]) -> CountReply
-    ensures { means_count result ≡ count.free_count (tables sheet nodes.now seats.now) }
+pub fn free_count<P: Profile>(nodes: &[u32], seats: &[u32]) -> CountReply
+    ensures { means_count result ≡ count.free_count (tables P.SHEET nodes.now seats.now) }
 {
-    if shape::is_sound(sheet, nodes, seats) {
-        let free = fetch::free_count(sheet, nodes, seats);
+    if shape::is_sound::<P>(nodes, seats) {
+        let free = fetch::free_count::<P>(nodes, seats);
         return CountReply::Count(free);
     }
     CountReply::Refused(1)

@@ -8,7 +8,7 @@ ghost use Rattle.rules.specs.Comparison.{claim, claim_of, compare};
 ghost use Rattle.rules.specs.Comparison as rule;
 ghost use Rattle.comparison.specs.Behind.{lies_behind};
 
-use rules::SharedRun;
+use rules::{Profile, SharedRun};
 
 // ---- the number
 
@@ -40,15 +40,15 @@ fn compare_claims(
     0
 }
 
-pub fn compare_nodes(sheet: bool, nodes: &[u32], c: u32, o: u32) -> i32
-    ensures { result ≡ compare (claim_of (tables sheet nodes.now []) c) (claim_of (tables sheet nodes.now []) o) }
+pub fn compare_nodes<P: Profile>(nodes: &[u32], c: u32, o: u32) -> i32
+    ensures { result ≡ compare (claim_of (tables P.SHEET nodes.now []) c) (claim_of (tables P.SHEET nodes.now []) o) }
 {
-    let c_start = words::node_word(sheet, nodes, c, words::START);
-    let c_end = words::node_word(sheet, nodes, c, words::END);
-    let c_kind = words::node_word(sheet, nodes, c, words::KIND);
-    let o_start = words::node_word(sheet, nodes, o, words::START);
-    let o_end = words::node_word(sheet, nodes, o, words::END);
-    let o_kind = words::node_word(sheet, nodes, o, words::KIND);
+    let c_start = words::node_word::<P>(nodes, c, words::START);
+    let c_end = words::node_word::<P>(nodes, c, words::END);
+    let c_kind = words::node_word::<P>(nodes, c, words::KIND);
+    let o_start = words::node_word::<P>(nodes, o, words::START);
+    let o_end = words::node_word::<P>(nodes, o, words::END);
+    let o_kind = words::node_word::<P>(nodes, o, words::KIND);
     compare_claims(c_start, c_end, c_kind, o_start, o_end, o_kind)
 }
 
@@ -85,13 +85,13 @@ fn run_or_none(first: u32, end: u32) -> SharedRun
     SharedRun { first: 0, end: 0 }
 }
 
-pub fn shared_by_nodes(sheet: bool, nodes: &[u32], c: u32, o: u32) -> SharedRun
-    ensures { result ≡ rule.shared (claim_of (tables sheet nodes.now []) c) (claim_of (tables sheet nodes.now []) o) }
+pub fn shared_by_nodes<P: Profile>(nodes: &[u32], c: u32, o: u32) -> SharedRun
+    ensures { result ≡ rule.shared (claim_of (tables P.SHEET nodes.now []) c) (claim_of (tables P.SHEET nodes.now []) o) }
 {
-    let c_start = words::node_word(sheet, nodes, c, words::START);
-    let c_end = words::node_word(sheet, nodes, c, words::END);
-    let o_start = words::node_word(sheet, nodes, o, words::START);
-    let o_end = words::node_word(sheet, nodes, o, words::END);
+    let c_start = words::node_word::<P>(nodes, c, words::START);
+    let c_end = words::node_word::<P>(nodes, c, words::END);
+    let o_start = words::node_word::<P>(nodes, o, words::START);
+    let o_end = words::node_word::<P>(nodes, o, words::END);
     let first = later(c_start, o_start);
     let end = earlier(c_end, o_end);
     run_or_none(first, end)

@@ -11,40 +11,41 @@ ghost use Rattle.rules.specs.Stores.{store, stores, ListEnds};
 ghost use Rattle.reach.specs.Walks.{Links};
 ghost use Rattle.rules.specs.Fetch.{taken_out, write_claim, reserve_for, take_node, fetched, fetch_again, fetch as fetch_rule};
 
+use rules::Profile;
+
 // How many nodes are free, every seat counted: no seat has the number of seats.
-pub fn free_count(sheet: bool, nodes: &[u32], seats: &[u32]) -> u32
-    requires { sound (tables sheet nodes.now seats.now) ≡ true }
-    ensures { result ≡ count_free (tables sheet nodes.now seats.now) }
+pub fn free_count<P: Profile>(nodes: &[u32], seats: &[u32]) -> u32
+    requires { sound (tables P.SHEET nodes.now seats.now) ≡ true }
+    ensures { result ≡ count_free (tables P.SHEET nodes.now seats.now) }
 {
-    let count = words::seat_count(sheet, seats) as u32;
-    let free = reach::free_set(sheet, nodes, seats, count);
+    let count = words::seat_count::<P>(seats) as u32;
+    let free = reach::free_set::<P>(nodes, seats, count);
     nodesets::count(free)
 }
 
 // ---- what is stored
 
-fn write_claim(sheet: bool, nodes: &mut [u32], a: u32, start: u32, end: u32, kind: u32)
-    ensures { nodes.new ≡ (write_claim (tables sheet nodes.old []) a (claim start end kind)).nodes }
+fn write_claim<P: Profile>(nodes: &mut [u32], a: u32, start: u32, end: u32, kind: u32)
+    ensures { nodes.new ≡ (write_claim (tables P.SHEET nodes.old []) a (claim start end kind)).nodes }
 {
-    words::put_node(sheet, nodes, a, words::START, start);
-    words::put_node(sheet, nodes, a, words::END, end);
-    words::put_node(sheet, nodes, a, words::KIND, kind);
-    words::put_link(sheet, nodes, a, 0);
-    words::put_node(sheet, nodes, a, words::MARK, 0);
+    words::put_node::<P>(nodes, a, words::START, start);
+    words::put_node::<P>(nodes, a, words::END, end);
+    words::put_node::<P>(nodes, a, words::KIND, kind);
+    words::put_link::<P>(nodes, a, 0);
+    words::put_node::<P>(nodes, a, words::MARK, 0);
 }
 
 // A seat that fetches is idle or has withdrawn, and has no prev and no cur: those words are 0 already, and are not stored.
-fn reserve_for(sheet: bool, seats: &mut [u32], s: u32, a: u32)
-    requires no_prev { prev (tables sheet [] seats.old) s ≡ 0 }
-    requires no_cur { cur (tables sheet [] seats.old) s ≡ 0 }
-    ensures { seats.new ≡ (reserve_for (tables sheet [] seats.old) s a).seats }
+fn reserve_for<P: Profile>(seats: &mut [u32], s: u32, a: u32)
+    requires no_prev { prev (tables P.SHEET [] seats.old) s ≡ 0 }
+    requires no_cur { cur (tables P.SHEET [] seats.old) s ≡ 0 }
+    ensures { seats.new ≡ (reserve_for (tables P.SHEET [] seats.old) s a).seats }
 {
-    words::put_seat(sheet, seats, s, words::PHASE, 7);
-    words::put_seat(sheet, seats, s, words::OWN, a);
+    words::put_seat::<P>(seats, s, words::PHASE, 7);
+    words::put_seat::<P>(seats, s, words::OWN, a);
 }
 
-fn take_node(
-    sheet: bool,
+fn take_node<P: Profile>(
     nodes: &mut [u32],
     seats: &mut [u32],
     s: u32,
@@ -53,46 +54,46 @@ fn take_node(
     end: u32,
     kind: u32,
 )
-    requires no_prev { prev (tables sheet [] seats.old) s ≡ 0 }
-    requires no_cur { cur (tables sheet [] seats.old) s ≡ 0 }
-    ensures { tables sheet nodes.new seats.new ≡ take_node (tables sheet nodes.old seats.old) s a (claim start end kind) }
+    requires no_prev { prev (tables P.SHEET [] seats.old) s ≡ 0 }
+    requires no_cur { cur (tables P.SHEET [] seats.old) s ≡ 0 }
+    ensures { tables P.SHEET nodes.new seats.new ≡ take_node (tables P.SHEET nodes.old seats.old) s a (claim start end kind) }
 {
-    write_claim(sheet, nodes, a, start, end, kind);
-    reserve_for(sheet, seats, s, a);
+    write_claim::<P>(nodes, a, start, end, kind);
+    reserve_for::<P>(seats, s, a);
 }
 
 // ---- taking marked nodes out, by the fewest stores
 
 // One store of those that take marked nodes out: the first that is left of them, and then the others are left. It goes to a link that differs.
 // Nothing else stores for `take_out`, so its stores are those of the tables that it is lent, all of them and in their order.
-fn store_link(sheet: bool, nodes: &mut [u32], whose: u32, value: u32)
-    requires list_ends { ListEnds (tables sheet nodes.old []) }
-    requires is_first_store { stores (tables sheet nodes.old []) ≡ store whose value ∷ drop 1 (stores (tables sheet nodes.old [])) }
-    ensures stored { nodes.new ≡ put_link sheet nodes.old whose value }
-    ensures left { stores (tables sheet nodes.new []) ≡ drop 1 (stores (tables sheet nodes.old [])) }
+fn store_link<P: Profile>(nodes: &mut [u32], whose: u32, value: u32)
+    requires list_ends { ListEnds (tables P.SHEET nodes.old []) }
+    requires is_first_store { stores (tables P.SHEET nodes.old []) ≡ store whose value ∷ drop 1 (stores (tables P.SHEET nodes.old [])) }
+    ensures stored { nodes.new ≡ put_link P.SHEET nodes.old whose value }
+    ensures left { stores (tables P.SHEET nodes.new []) ≡ drop 1 (stores (tables P.SHEET nodes.old [])) }
 {
-    words::put_link(sheet, nodes, whose, value);
+    words::put_link::<P>(nodes, whose, value);
 }
 
 // Head and the unmarked listed nodes then link to the next unmarked one. `link` is prev's link as it stands.
-fn take_out(sheet: bool, nodes: &mut [u32])
-    requires list_ends { ListEnds (tables sheet nodes.old []) }
-    requires links { Links sheet nodes.old }
-    ensures out { nodes.new ≡ (taken_out (tables sheet nodes.old [])).nodes }
-    ensures none_left { stores (tables sheet nodes.new []) ≡ [] }
+fn take_out<P: Profile>(nodes: &mut [u32])
+    requires list_ends { ListEnds (tables P.SHEET nodes.old []) }
+    requires links { Links P.SHEET nodes.old }
+    ensures out { nodes.new ≡ (taken_out (tables P.SHEET nodes.old [])).nodes }
+    ensures none_left { stores (tables P.SHEET nodes.new []) ≡ [] }
 {
-    let mut left = words::node_count(sheet, nodes);
-    let mut link = words::link(sheet, nodes, 0);
+    let mut left = words::node_count::<P>(nodes);
+    let mut link = words::link::<P>(nodes, 0);
     let mut cur = link;
     let mut prev: u32 = 0;
     while cur != 0 {
-        let next = words::next_within(sheet, nodes, cur);
-        if words::node_word_within(sheet, nodes, cur, words::MARK) == 1 {
+        let next = words::next_within::<P>(nodes, cur);
+        if words::node_word_within::<P>(nodes, cur, words::MARK) == 1 {
             cur = next;
             left -= 1;
         } else {
             if link != cur {
-                store_link(sheet, nodes, prev, cur);
+                store_link::<P>(nodes, prev, cur);
             }
             prev = cur;
             link = next;
@@ -101,14 +102,13 @@ fn take_out(sheet: bool, nodes: &mut [u32])
         }
     }
     if link != 0 {
-        store_link(sheet, nodes, prev, 0);
+        store_link::<P>(nodes, prev, 0);
     }
 }
 
 // ---- fetch
 
-fn fetch_again(
-    sheet: bool,
+fn fetch_again<P: Profile>(
     nodes: &mut [u32],
     seats: &mut [u32],
     s: u32,
@@ -116,23 +116,22 @@ fn fetch_again(
     end: u32,
     kind: u32,
 ) -> u32
-    requires tables_sound { sound (tables sheet nodes.old seats.old) ≡ true }
-    requires no_prev { prev (tables sheet [] seats.old) s ≡ 0 }
-    requires no_cur { cur (tables sheet [] seats.old) s ≡ 0 }
-    ensures { fetched result (tables sheet nodes.new seats.new) ≡ fetch_again (tables sheet nodes.old seats.old) s (claim start end kind) }
+    requires tables_sound { sound (tables P.SHEET nodes.old seats.old) ≡ true }
+    requires no_prev { prev (tables P.SHEET [] seats.old) s ≡ 0 }
+    requires no_cur { cur (tables P.SHEET [] seats.old) s ≡ 0 }
+    ensures { fetched result (tables P.SHEET nodes.new seats.new) ≡ fetch_again (tables P.SHEET nodes.old seats.old) s (claim start end kind) }
 {
-    let a = reach::lowest_free_after(sheet, nodes, seats, s);
+    let a = reach::lowest_free_after::<P>(nodes, seats, s);
     if a == 0 {
         return 0;
     }
-    take_out(sheet, nodes);
-    take_node(sheet, nodes, seats, s, a, start, end, kind);
+    take_out::<P>(nodes);
+    take_node::<P>(nodes, seats, s, a, start, end, kind);
     a
 }
 
 // The node taken for seat s, or 0 if none is free.
-pub fn fetch(
-    sheet: bool,
+pub fn fetch<P: Profile>(
     nodes: &mut [u32],
     seats: &mut [u32],
     s: u32,
@@ -140,15 +139,15 @@ pub fn fetch(
     end: u32,
     kind: u32,
 ) -> u32
-    requires tables_sound { sound (tables sheet nodes.old seats.old) ≡ true }
-    requires no_prev { prev (tables sheet [] seats.old) s ≡ 0 }
-    requires no_cur { cur (tables sheet [] seats.old) s ≡ 0 }
-    ensures { fetched result (tables sheet nodes.new seats.new) ≡ fetch_rule (tables sheet nodes.old seats.old) s (claim start end kind) }
+    requires tables_sound { sound (tables P.SHEET nodes.old seats.old) ≡ true }
+    requires no_prev { prev (tables P.SHEET [] seats.old) s ≡ 0 }
+    requires no_cur { cur (tables P.SHEET [] seats.old) s ≡ 0 }
+    ensures { fetched result (tables P.SHEET nodes.new seats.new) ≡ fetch_rule (tables P.SHEET nodes.old seats.old) s (claim start end kind) }
 {
-    let a = reach::lowest_free(sheet, nodes, seats, s);
+    let a = reach::lowest_free::<P>(nodes, seats, s);
     if a == 0 {
-        return fetch_again(sheet, nodes, seats, s, start, end, kind);
+        return fetch_again::<P>(nodes, seats, s, start, end, kind);
     }
-    take_node(sheet, nodes, seats, s, a, start, end, kind);
+    take_node::<P>(nodes, seats, s, a, start, end, kind);
     a
 }

@@ -18,7 +18,7 @@ ghost use Rattle.holders.specs.Holding.{held_by};
 ghost use Rattle.playing.specs.Played.{played, play_from, played_text};
 
 use replies::Said;
-use rules::{Line, Reply, Script};
+use rules::{Line, Ordinary, Refused, Reply, Script};
 
 // The call of one line.
 fn make_call(nodes: &mut [u32], seats: &mut [u32], line: Line) -> Reply
@@ -26,17 +26,17 @@ fn make_call(nodes: &mut [u32], seats: &mut [u32], line: Line) -> Reply
 {
     let code = line.code;
     if code == 1 {
-        return claims::reserve(
-            false, nodes, seats, line.seat, line.start, line.end, line.kind,
+        return claims::reserve::<Ordinary>(
+            nodes, seats, line.seat, line.start, line.end, line.kind,
         );
     }
     if code == 2 {
-        return claims::step(false, nodes, seats, line.seat);
+        return claims::step::<Ordinary>(nodes, seats, line.seat);
     }
     if code == 3 {
-        return claims::release(false, nodes, seats, line.seat);
+        return claims::release::<Ordinary>(nodes, seats, line.seat);
     }
-    claims::enter(false, nodes, seats, line.seat)
+    claims::enter::<Ordinary>(nodes, seats, line.seat)
 }
 
 // What it answered, as it is printed.
@@ -84,7 +84,7 @@ fn put_listed(nodes: &[u32], out: &mut [u8], at: usize, left: usize, a: u32) -> 
         return at;
     }
     let next = text::put_next(out, at, a);
-    let b = words::link(false, nodes, a);
+    let b = words::link::<Ordinary>(nodes, a);
     put_listed(nodes, out, next, left - 1, b)
 }
 
@@ -92,8 +92,8 @@ fn put_list(nodes: &[u32], out: &mut [u8], at: usize) -> usize
     ensures is_printed { page out.new result ≡ puts (page out.old at) (list_text (tables false nodes.now [])) }
     ensures at_most { result ≤ at + 11 * node_count_of false nodes.now + 5 }
 {
-    let n = words::node_count(false, nodes);
-    let head = words::link(false, nodes, 0);
+    let n = words::node_count::<Ordinary>(nodes);
+    let head = words::link::<Ordinary>(nodes, 0);
     let name = text::put_text(out, at, b"list");
     let end = put_listed(nodes, out, name, n, head);
     text::put_byte(out, end, b'\n')
@@ -106,8 +106,8 @@ fn put_held(nodes: &[u32], seats: &[u32], out: &mut [u8], at: usize, s: u32) -> 
     ensures is_printed { page out.new result ≡ puts (page out.old at) (rows_text (held_by (tables false nodes.now seats.now) s)) }
     ensures at_most { result ≤ at + 49 }
 {
-    if words::seat_word_within(false, seats, s, words::PHASE) == 5 {
-        let row = holders::row_of(false, nodes, seats, s);
+    if words::seat_word_within::<Ordinary>(seats, s, words::PHASE) == 5 {
+        let row = holders::row_of::<Ordinary>(nodes, seats, s);
         return text::put_row(out, at, row.seat, row.first, row.end, row.kind);
     }
     at
@@ -118,7 +118,7 @@ fn put_rows(nodes: &[u32], seats: &[u32], out: &mut [u8], at: usize) -> usize
     ensures is_printed { page out.new result ≡ puts (page out.old at) (rows_text (rule.holders (tables false nodes.now seats.now))) }
     ensures at_most { result ≤ at + 49 * seat_count_of false seats.now }
 {
-    let count = words::seat_count(false, seats) as u32;
+    let count = words::seat_count::<Ordinary>(seats) as u32;
     let mut next = at;
     let mut s: u32 = 0;
     while s < count {
@@ -136,7 +136,7 @@ fn put_end(nodes: &[u32], seats: &[u32], out: &mut [u8], at: usize) -> usize
 {
     let list = put_list(nodes, out, at);
     let rows = put_rows(nodes, seats, out, list);
-    let covered = holders::covered(false, nodes, seats);
+    let covered = holders::covered::<Ordinary>(nodes, seats);
     text::put_line(out, rows, b"covered ", covered)
 }
 
@@ -160,8 +160,8 @@ fn play_script(out: &mut [u8], script: Script) -> usize
 {
     let mut nodes = words::fresh_nodes(script.title);
     let mut seats = words::fresh_seats();
-    let n = words::node_words(false, script.n);
-    let s = words::seat_words(false, script.s);
+    let n = words::node_words::<Ordinary>(script.n);
+    let s = words::seat_words::<Ordinary>(script.s);
     play_tables(&mut nodes[..n], &mut seats[..s], out, script)
 }
 

@@ -11,31 +11,31 @@ ghost use Rattle.rules.specs.Board.{shown, board};
 ghost use Rattle.rules.specs.Means.{means_board};
 ghost use Rattle.rows.specs.Filling.{answer_for, rows_in, last_below, last_row, no_rows};
 
-use rules::{BoardReply, Row};
+use rules::{Filled, Profile, Refused, Row};
 
 // Seats are numbered below this.
 const SEATS: u32 = 64;
 
 // on sound tables: refusal 9 where fewer rows are lent than there are holders, or their number and the frames that they cover
-fn answer_sound(sheet: bool, nodes: &[u32], seats: &[u32], room: usize) -> BoardReply
-    requires { sound (tables sheet nodes.now seats.now) ≡ true }
-    ensures { means_board result ≡ answer_for (tables sheet nodes.now seats.now) room }
+fn answer_sound<P: Profile>(nodes: &[u32], seats: &[u32], room: usize) -> BoardReply
+    requires { sound (tables P.SHEET nodes.now seats.now) ≡ true }
+    ensures { means_board result ≡ answer_for (tables P.SHEET nodes.now seats.now) room }
 {
-    let count = words::seat_count(sheet, seats) as u32;
-    let rows = holders::count(sheet, seats, count);
+    let count = words::seat_count::<P>(seats) as u32;
+    let rows = holders::count::<P>(seats, count);
     if room < rows as usize {
         return BoardReply::Refused(9);
     }
-    let covered = holders::covered(sheet, nodes, seats);
+    let covered = holders::covered::<P>(nodes, seats);
     BoardReply::Rows(rows, covered)
 }
 
 // what the board answers where so many rows are lent
-fn answer(sheet: bool, nodes: &[u32], seats: &[u32], room: usize) -> BoardReply
-    ensures { means_board result ≡ answer_for (tables sheet nodes.now seats.now) room }
+fn answer<P: Profile>(nodes: &[u32], seats: &[u32], room: usize) -> BoardReply
+    ensures { means_board result ≡ answer_for (tables P.SHEET nodes.now seats.now) room }
 {
-    if shape::is_sound(sheet, nodes, seats) {
-        return answer_sound(sheet, nodes, seats, room);
+    if shape::is_sound::<P>(nodes, seats) {
+        return answer_sound::<P>(nodes, seats, room);
     }
     BoardReply::Refused(1)
 }
@@ -51,13 +51,13 @@ fn rows_in(reply: BoardReply) -> usize
 }
 
 // the last seat below one that holds
-fn last_holder(sheet: bool, seats: &[u32], below: u32) -> u32
-    ensures { result ≡ last_below sheet seats.now below }
+fn last_holder<P: Profile>(seats: &[u32], below: u32) -> u32
+    ensures { result ≡ last_below P.SHEET seats.now below }
 {
     let mut s = below;
     while s > 0 {
         let at = s - 1;
-        if words::seat_word(sheet, seats, at, words::PHASE) == 5 {
+        if words::seat_word::<P>(seats, at, words::PHASE) == 5 {
             return at;
         } else {
             s = at;
@@ -67,29 +67,28 @@ fn last_holder(sheet: bool, seats: &[u32], below: u32) -> u32
 }
 
 // its row
-fn last_row(sheet: bool, nodes: &[u32], seats: &[u32], below: u32) -> Row
-    requires tables_sound { sound (tables sheet nodes.now seats.now) ≡ true }
-    requires holds { Holds (tables sheet nodes.now seats.now) (last_below sheet seats.now below) }
-    ensures { result ≡ last_row (tables sheet nodes.now seats.now) below }
+fn last_row<P: Profile>(nodes: &[u32], seats: &[u32], below: u32) -> Row
+    requires tables_sound { sound (tables P.SHEET nodes.now seats.now) ≡ true }
+    requires holds { Holds (tables P.SHEET nodes.now seats.now) (last_below P.SHEET seats.now below) }
+    ensures { result ≡ last_row (tables P.SHEET nodes.now seats.now) below }
 {
-    let s = last_holder(sheet, seats, below);
-    holders::row_of(sheet, nodes, seats, s)
+    let s = last_holder::<P>(seats, below);
+    holders::row_of::<P>(nodes, seats, s)
 }
 
-pub fn show<'a, 'b, 'c>(
-    sheet: bool,
+pub fn show<'a, 'b, 'c, P: Profile>(
     rows: &'a mut [Row],
     nodes: &'b [u32],
     seats: &'c [u32],
 ) -> BoardReply
-    ensures { shown (means_board result) rows.new ≡ board (tables sheet nodes.now seats.now) rows.old }
+    ensures { shown (means_board result) rows.new ≡ board (tables P.SHEET nodes.now seats.now) rows.old }
 {
     let room = rows.len();
-    let reply = answer(sheet, nodes, seats, room);
+    let reply = answer::<P>(nodes, seats, room);
     let mut left = rows_in(reply);
     let mut seat = SEATS;
     while left > 0 {
-        let row = last_row(sheet, nodes, seats, seat);
+        let row = last_row::<P>(nodes, seats, seat);
         left -= 1;
         rows[left] = row;
         seat = row.seat;
@@ -125,10 +124,10 @@ fn together(rows: [Row; 64], reply: BoardReply) -> Board
     }
 }
 
-pub fn show_all<'a, 'b>(sheet: bool, nodes: &'a [u32], seats: &'b [u32]) -> Board
-    ensures { shown (means_board result.reply) result.rows ≡ board (tables sheet nodes.now seats.now) no_rows }
+pub fn show_all<'a, 'b, P: Profile>(nodes: &'a [u32], seats: &'b [u32]) -> Board
+    ensures { shown (means_board result.reply) result.rows ≡ board (tables P.SHEET nodes.now seats.now) no_rows }
 {
     let mut rows = no_rows();
-    let reply = show(sheet, &mut rows, nodes, seats);
+    let reply = show::<P>(&mut rows, nodes, seats);
     together(rows, reply)
 }

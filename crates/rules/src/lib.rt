@@ -1,5 +1,32 @@
-// What the calls give back by value where it is more than a number. The rules themselves stand in specs/.
+// Which tables a call is for, and what the calls give back by value where it is more than a number. The rules themselves stand in specs/.
 #![tactic(auto)]
+
+ghost use Rattle.std.specs.Prelude.{Bool, true, false};
+
+// Which tables they are. It is no word of theirs: who lends them says it, by the calls that are used, and the compiler makes those of each profile.
+pub trait Profile {
+    ghost SHEET: { Bool };
+
+    const SHEET: bool;
+}
+
+// The ordinary tables.
+pub struct Ordinary;
+
+impl Profile for Ordinary {
+    ghost SHEET = { false };
+
+    const SHEET: bool = false;
+}
+
+// A writers' sheet.
+pub struct Sheet;
+
+impl Profile for Sheet {
+    ghost SHEET = { true };
+
+    const SHEET: bool = true;
+}
 
 // A row of the board: a holding seat, its claim's first frame, the frame after its last, and its kind.
 #[derive(Clone, Copy)]

@@ -8,16 +8,16 @@ ghost use Rattle.rules.specs.Answers.{done};
 ghost use Rattle.rules.specs.Run as rule;
 ghost use Rattle.run.specs.Parts as part;
 
-use rules::Ran;
+use rules::{Profile, Ran, Refused};
 
 // After an accepted step by which a seat's phase changed from one to the other. Only the step that links own in, from phase 1 to 3 or, on a sheet, to 5, can
 // leave sound tables damaged, and then it is their list that does not end: no other word is looked at again.
-fn is_kept_sound(sheet: bool, nodes: &[u32], before: u32, after: u32) -> bool
-    requires { nodes_fit (tables sheet nodes.now []) ≡ true }
-    ensures { result ≡ part.kept_sound (tables sheet nodes.now []) before after }
+fn is_kept_sound<P: Profile>(nodes: &[u32], before: u32, after: u32) -> bool
+    requires { nodes_fit (tables P.SHEET nodes.now []) ≡ true }
+    ensures { result ≡ part.kept_sound (tables P.SHEET nodes.now []) before after }
 {
     if (before == 1) & ((after == 3) | (after == 5)) {
-        return shape::list_ends(sheet, nodes);
+        return shape::list_ends::<P>(nodes);
     }
     true
 }
@@ -40,15 +40,14 @@ fn stop_at_damage(steps: u32, entries: usize, budget: u32) -> Ran
 
 // The tables are sound whenever an entry is stepped, so that none tests them. Whether there is such a seat is asked here, so that its phase
 // can be read before and after the step.
-fn run_steps(
-    sheet: bool,
+fn run_steps<P: Profile>(
     nodes: &mut [u32],
     seats: &mut [u32],
     schedule: &[u32],
     budget: u32,
 ) -> Ran
-    requires { sound (tables sheet nodes.old seats.old) ≡ true }
-    ensures { done result (tables sheet nodes.new seats.new) ≡ rule.run_steps budget (tables sheet nodes.old seats.old) schedule.now }
+    requires { sound (tables P.SHEET nodes.old seats.old) ≡ true }
+    ensures { done result (tables P.SHEET nodes.new seats.new) ≡ rule.run_steps budget (tables P.SHEET nodes.old seats.old) schedule.now }
 {
     let mut steps: u32 = 0;
     loop {
@@ -65,34 +64,34 @@ fn run_steps(
             };
         }
         let s = schedule[steps as usize];
-        let count = words::seat_count(sheet, seats) as u32;
+        let count = words::seat_count::<P>(seats) as u32;
         if count <= s {
             break Ran {
                 steps: steps,
                 refusal: 2,
             };
         }
-        let before = words::seat_word_within(sheet, seats, s, words::PHASE);
-        let refusal = phases::step_known(sheet, nodes, seats, s);
+        let before = words::seat_word_within::<P>(seats, s, words::PHASE);
+        let refusal = phases::step_known::<P>(nodes, seats, s);
         if refusal != 0 {
             break Ran {
                 steps: steps,
                 refusal: refusal,
             };
         }
-        let after = words::seat_word_within(sheet, seats, s, words::PHASE);
+        let after = words::seat_word_within::<P>(seats, s, words::PHASE);
         steps += 1;
-        if !is_kept_sound(sheet, nodes, before, after) {
+        if !is_kept_sound::<P>(nodes, before, after) {
             break stop_at_damage(steps, schedule.len(), budget);
         }
     }
 }
 
-pub fn run(sheet: bool, nodes: &mut [u32], seats: &mut [u32], schedule: &[u32], budget: u32) -> Ran
-    ensures { done result (tables sheet nodes.new seats.new) ≡ rule.run (tables sheet nodes.old seats.old) schedule.now budget }
+pub fn run<P: Profile>(nodes: &mut [u32], seats: &mut [u32], schedule: &[u32], budget: u32) -> Ran
+    ensures { done result (tables P.SHEET nodes.new seats.new) ≡ rule.run (tables P.SHEET nodes.old seats.old) schedule.now budget }
 {
-    if shape::is_sound(sheet, nodes, seats) {
-        return run_steps(sheet, nodes, seats, schedule, budget);
+    if shape::is_sound::<P>(nodes, seats) {
+        return run_steps::<P>(nodes, seats, schedule, budget);
     }
     Ran {
         steps: 0,

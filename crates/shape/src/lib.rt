@@ -9,28 +9,30 @@ ghost use Rattle.rules.specs.Shape.{nodes_fit, lengths_fit, may_claim, names, se
 ghost use Rattle.words.specs.Parts.{with_zeros};
 ghost use Rattle.shape.specs.Parts.{least_kind, node_sound_by, nodes_sound_by, busy_sound, waiting_sound, resting_sound, ordinary_sound, held_kind, seats_and_counts_sound, list_ends};
 
-pub fn lengths_fit(sheet: bool, nodes: &[u32], seats: &[u32]) -> bool
-    ensures { result ≡ lengths_fit (tables sheet nodes.now seats.now) }
+use rules::Profile;
+
+pub fn lengths_fit<P: Profile>(nodes: &[u32], seats: &[u32]) -> bool
+    ensures { result ≡ lengths_fit (tables P.SHEET nodes.now seats.now) }
 {
-    let a = words::nodes_fit(sheet, nodes);
-    let b = words::seats_fit(sheet, seats);
+    let a = words::nodes_fit::<P>(nodes);
+    let b = words::seats_fit::<P>(seats);
     a & b
 }
 
 // ---- what the profile allows
 
-fn least_kind(sheet: bool) -> u32
-    ensures { result ≡ least_kind sheet }
+fn least_kind<P: Profile>() -> u32
+    ensures { result ≡ least_kind P.SHEET }
 {
-    if sheet { 2 } else { 1 }
+    if P::SHEET { 2 } else { 1 }
 }
 
 // A claim reads or writes, and on a sheet it writes: kinds from the least one up to 2. Counted from the least, in numbers that wrap, that is one
 // comparison for either profile; two cost the test for damage an instruction in twenty.
-pub fn may_claim(sheet: bool, k: u32) -> bool
-    ensures { result ≡ may_claim sheet k }
+pub fn may_claim<P: Profile>(k: u32) -> bool
+    ensures { result ≡ may_claim P.SHEET k }
 {
-    let least = least_kind(sheet);
+    let least = least_kind::<P>();
     let above = std::num::wrapping_sub_u32(k, least);
     above <= 2 - least
 }
@@ -38,9 +40,9 @@ pub fn may_claim(sheet: bool, k: u32) -> bool
 // ---- the nodes, in that part, and the seats beside it; n is N
 
 // 0, or a node of a kind that a claim may have
-fn names_node(sheet: bool, part: &[u32], n: u32, a: u32) -> bool
-    requires { n ≡ node_count_of sheet (with_zeros sheet part.now) }
-    ensures { result ≡ names (tables sheet (with_zeros sheet part.now) []) a }
+fn names_node<P: Profile>(part: &[u32], n: u32, a: u32) -> bool
+    requires { n ≡ node_count_of P.SHEET (with_zeros P.SHEET part.now) }
+    ensures { result ≡ names (tables P.SHEET (with_zeros P.SHEET part.now) []) a }
 {
     if a == 0 {
         return true;
@@ -48,39 +50,39 @@ fn names_node(sheet: bool, part: &[u32], n: u32, a: u32) -> bool
     if n < a {
         return false;
     }
-    let kind = words::part_word(sheet, part, a, words::KIND);
-    may_claim(sheet, kind)
+    let kind = words::part_word::<P>(part, a, words::KIND);
+    may_claim::<P>(kind)
 }
 
 // A node of kind 0 is all zeros, and so ends within any title; any other is a claim.
-fn node_sound(sheet: bool, part: &[u32], n: u32, title: u32, a: u32) -> bool
-    requires nodes_are_counted { n ≡ node_count_of sheet (with_zeros sheet part.now) }
+fn node_sound<P: Profile>(part: &[u32], n: u32, title: u32, a: u32) -> bool
+    requires nodes_are_counted { n ≡ node_count_of P.SHEET (with_zeros P.SHEET part.now) }
     requires is_node { a ≢ 0 }
     requires has_node { a ≤ n }
-    ensures { result ≡ node_sound_by (tables sheet (with_zeros sheet part.now) []) title a }
+    ensures { result ≡ node_sound_by (tables P.SHEET (with_zeros P.SHEET part.now) []) title a }
 {
-    let start = words::part_word(sheet, part, a, words::START);
-    let end = words::part_word(sheet, part, a, words::END);
-    let kind = words::part_word(sheet, part, a, words::KIND);
-    let next = words::part_next(sheet, part, a);
-    let mark = words::part_word(sheet, part, a, words::MARK);
+    let start = words::part_word::<P>(part, a, words::START);
+    let end = words::part_word::<P>(part, a, words::END);
+    let kind = words::part_word::<P>(part, a, words::KIND);
+    let next = words::part_next::<P>(part, a);
+    let mark = words::part_word::<P>(part, a, words::MARK);
     if kind == 0 {
         return (start == 0) & (end == 0) & (next == 0) & (mark == 0);
     }
-    if !names_node(sheet, part, n, next) {
+    if !names_node::<P>(part, n, next) {
         return false;
     }
-    let claim = may_claim(sheet, kind);
+    let claim = may_claim::<P>(kind);
     claim & (start < end) & (end <= title) & (mark <= 1)
 }
 
-fn nodes_sound(sheet: bool, part: &[u32], n: u32, title: u32) -> bool
-    requires { n ≡ node_count_of sheet (with_zeros sheet part.now) }
-    ensures { result ≡ nodes_sound_by (tables sheet (with_zeros sheet part.now) []) title }
+fn nodes_sound<P: Profile>(part: &[u32], n: u32, title: u32) -> bool
+    requires { n ≡ node_count_of P.SHEET (with_zeros P.SHEET part.now) }
+    ensures { result ≡ nodes_sound_by (tables P.SHEET (with_zeros P.SHEET part.now) []) title }
 {
     let mut i: u32 = 0;
     while i < n {
-        if node_sound(sheet, part, n, title, i + 1) {
+        if node_sound::<P>(part, n, title, i + 1) {
             i += 1;
         } else {
             return false;
@@ -90,47 +92,46 @@ fn nodes_sound(sheet: bool, part: &[u32], n: u32, title: u32) -> bool
 }
 
 // own names a node, and prev and cur are each 0 or name one
-fn busy_sound(sheet: bool, part: &[u32], n: u32, own: u32, prev: u32, cur: u32) -> bool
-    requires { n ≡ node_count_of sheet (with_zeros sheet part.now) }
-    ensures { result ≡ busy_sound (tables sheet (with_zeros sheet part.now) []) own prev cur }
+fn busy_sound<P: Profile>(part: &[u32], n: u32, own: u32, prev: u32, cur: u32) -> bool
+    requires { n ≡ node_count_of P.SHEET (with_zeros P.SHEET part.now) }
+    ensures { result ≡ busy_sound (tables P.SHEET (with_zeros P.SHEET part.now) []) own prev cur }
 {
     if own == 0 {
         return false;
     }
-    if !names_node(sheet, part, n, own) {
+    if !names_node::<P>(part, n, own) {
         return false;
     }
-    if !names_node(sheet, part, n, prev) {
+    if !names_node::<P>(part, n, prev) {
         return false;
     }
-    names_node(sheet, part, n, cur)
+    names_node::<P>(part, n, cur)
 }
 
 // in phases 2 and 4
-fn waiting_sound(sheet: bool, part: &[u32], n: u32, own: u32, prev: u32, cur: u32) -> bool
-    requires { n ≡ node_count_of sheet (with_zeros sheet part.now) }
-    ensures { result ≡ waiting_sound (tables sheet (with_zeros sheet part.now) []) own prev cur }
+fn waiting_sound<P: Profile>(part: &[u32], n: u32, own: u32, prev: u32, cur: u32) -> bool
+    requires { n ≡ node_count_of P.SHEET (with_zeros P.SHEET part.now) }
+    ensures { result ≡ waiting_sound (tables P.SHEET (with_zeros P.SHEET part.now) []) own prev cur }
 {
     if cur == 0 {
         return false;
     }
-    busy_sound(sheet, part, n, own, prev, cur)
+    busy_sound::<P>(part, n, own, prev, cur)
 }
 
 // in phases 5, 6 and 7: of three names, only own is left to look up
-fn resting_sound(sheet: bool, part: &[u32], n: u32, own: u32, prev: u32, cur: u32) -> bool
-    requires { n ≡ node_count_of sheet (with_zeros sheet part.now) }
-    ensures { result ≡ resting_sound (tables sheet (with_zeros sheet part.now) []) own prev cur }
+fn resting_sound<P: Profile>(part: &[u32], n: u32, own: u32, prev: u32, cur: u32) -> bool
+    requires { n ≡ node_count_of P.SHEET (with_zeros P.SHEET part.now) }
+    ensures { result ≡ resting_sound (tables P.SHEET (with_zeros P.SHEET part.now) []) own prev cur }
 {
     if (own == 0) | !(prev == 0) | !(cur == 0) {
         return false;
     }
-    names_node(sheet, part, n, own)
+    names_node::<P>(part, n, own)
 }
 
 // in phases 3, 4 and 6, which a sheet lacks: the profile is looked at in these alone
-fn ordinary_sound(
-    sheet: bool,
+fn ordinary_sound<P: Profile>(
     part: &[u32],
     n: u32,
     phase: u32,
@@ -138,66 +139,65 @@ fn ordinary_sound(
     prev: u32,
     cur: u32,
 ) -> bool
-    requires { n ≡ node_count_of sheet (with_zeros sheet part.now) }
-    ensures { result ≡ ordinary_sound (tables sheet (with_zeros sheet part.now) []) phase own prev cur }
+    requires { n ≡ node_count_of P.SHEET (with_zeros P.SHEET part.now) }
+    ensures { result ≡ ordinary_sound (tables P.SHEET (with_zeros P.SHEET part.now) []) phase own prev cur }
 {
-    if sheet {
+    if P::SHEET {
         return false;
     }
     match phase {
-        3 => busy_sound(sheet, part, n, own, prev, cur),
-        4 => waiting_sound(sheet, part, n, own, prev, cur),
-        _ => resting_sound(sheet, part, n, own, prev, cur),
+        3 => busy_sound::<P>(part, n, own, prev, cur),
+        4 => waiting_sound::<P>(part, n, own, prev, cur),
+        _ => resting_sound::<P>(part, n, own, prev, cur),
     }
 }
 
 // An idle seat is all zeros; any other is held to what its phase allows.
-fn seat_sound(sheet: bool, part: &[u32], seats: &[u32], n: u32, s: u32) -> bool
-    requires nodes_are_counted { n ≡ node_count_of sheet (with_zeros sheet part.now) }
-    requires has_seat { s < seat_count_of sheet seats.now }
-    ensures { result ≡ seat_sound (tables sheet (with_zeros sheet part.now) seats.now) s }
+fn seat_sound<P: Profile>(part: &[u32], seats: &[u32], n: u32, s: u32) -> bool
+    requires nodes_are_counted { n ≡ node_count_of P.SHEET (with_zeros P.SHEET part.now) }
+    requires has_seat { s < seat_count_of P.SHEET seats.now }
+    ensures { result ≡ seat_sound (tables P.SHEET (with_zeros P.SHEET part.now) seats.now) s }
 {
-    let phase = words::seat_word_within(sheet, seats, s, words::PHASE);
-    let own = words::seat_word_within(sheet, seats, s, words::OWN);
-    let prev = words::seat_word_within(sheet, seats, s, words::PREV);
-    let cur = words::seat_word_within(sheet, seats, s, words::CUR);
+    let phase = words::seat_word_within::<P>(seats, s, words::PHASE);
+    let own = words::seat_word_within::<P>(seats, s, words::OWN);
+    let prev = words::seat_word_within::<P>(seats, s, words::PREV);
+    let cur = words::seat_word_within::<P>(seats, s, words::CUR);
     match phase {
         0 => (own == 0) & (prev == 0) & (cur == 0),
-        1 => busy_sound(sheet, part, n, own, prev, cur),
-        2 => waiting_sound(sheet, part, n, own, prev, cur),
-        3 => ordinary_sound(sheet, part, n, phase, own, prev, cur),
-        4 => ordinary_sound(sheet, part, n, phase, own, prev, cur),
-        5 => resting_sound(sheet, part, n, own, prev, cur),
-        6 => ordinary_sound(sheet, part, n, phase, own, prev, cur),
-        7 => resting_sound(sheet, part, n, own, prev, cur),
+        1 => busy_sound::<P>(part, n, own, prev, cur),
+        2 => waiting_sound::<P>(part, n, own, prev, cur),
+        3 => ordinary_sound::<P>(part, n, phase, own, prev, cur),
+        4 => ordinary_sound::<P>(part, n, phase, own, prev, cur),
+        5 => resting_sound::<P>(part, n, own, prev, cur),
+        6 => ordinary_sound::<P>(part, n, phase, own, prev, cur),
+        7 => resting_sound::<P>(part, n, own, prev, cur),
         8..=4294967295 => false,
     }
 }
 
-fn holds(sheet: bool, seats: &[u32], s: u32) -> bool
-    requires { s < seat_count_of sheet seats.now }
-    ensures { result ≡ (phase (tables sheet [] seats.now) s is 5) }
+fn holds<P: Profile>(seats: &[u32], s: u32) -> bool
+    requires { s < seat_count_of P.SHEET seats.now }
+    ensures { result ≡ (phase (tables P.SHEET [] seats.now) s is 5) }
 {
-    words::seat_word_within(sheet, seats, s, words::PHASE) == 5
+    words::seat_word_within::<P>(seats, s, words::PHASE) == 5
 }
 
 // the kind of the claim that a sound seat holds with, 0 if it holds with none
-fn held_kind(sheet: bool, part: &[u32], seats: &[u32], s: u32) -> u32
-    requires has_seat { s < seat_count_of sheet seats.now }
-    requires seat_is_sound { seat_sound (tables sheet (with_zeros sheet part.now) seats.now) s ≡ true }
-    ensures { result ≡ held_kind (tables sheet (with_zeros sheet part.now) seats.now) s }
+fn held_kind<P: Profile>(part: &[u32], seats: &[u32], s: u32) -> u32
+    requires has_seat { s < seat_count_of P.SHEET seats.now }
+    requires seat_is_sound { seat_sound (tables P.SHEET (with_zeros P.SHEET part.now) seats.now) s ≡ true }
+    ensures { result ≡ held_kind (tables P.SHEET (with_zeros P.SHEET part.now) seats.now) s }
 {
-    if holds(sheet, seats, s) {
-        let own = words::seat_word_within(sheet, seats, s, words::OWN);
-        return words::part_word(sheet, part, own, words::KIND);
+    if holds::<P>(seats, s) {
+        let own = words::seat_word_within::<P>(seats, s, words::OWN);
+        return words::part_word::<P>(part, own, words::KIND);
     }
     0
 }
 
 // Each seat is sound, and the two words, readers and writers, are the numbers of those who hold. They are counted in the pass that tests the
 // seats, whose words are then at hand: counting them in a pass of its own costs twice as much.
-fn seats_and_counts_sound(
-    sheet: bool,
+fn seats_and_counts_sound<P: Profile>(
     part: &[u32],
     seats: &[u32],
     n: u32,
@@ -205,18 +205,18 @@ fn seats_and_counts_sound(
     readers: u32,
     writers: u32,
 ) -> bool
-    requires nodes_are_counted { n ≡ node_count_of sheet (with_zeros sheet part.now) }
-    requires seats_are_counted { count ≡ seat_count_of sheet seats.now }
-    ensures { result ≡ seats_and_counts_sound (tables sheet (with_zeros sheet part.now) seats.now) readers writers }
+    requires nodes_are_counted { n ≡ node_count_of P.SHEET (with_zeros P.SHEET part.now) }
+    requires seats_are_counted { count ≡ seat_count_of P.SHEET seats.now }
+    ensures { result ≡ seats_and_counts_sound (tables P.SHEET (with_zeros P.SHEET part.now) seats.now) readers writers }
 {
     let mut reading: u32 = 0;
     let mut writing: u32 = 0;
     let mut s: u32 = 0;
     while s < count {
-        if !seat_sound(sheet, part, seats, n, s) {
+        if !seat_sound::<P>(part, seats, n, s) {
             return false;
         }
-        let kind = held_kind(sheet, part, seats, s);
+        let kind = held_kind::<P>(part, seats, s);
         s += 1;
         if kind == 1 {
             reading += 1;
@@ -230,55 +230,55 @@ fn seats_and_counts_sound(
 // ---- the whole
 
 // From the head, 0 is met after at most N nodes. Nothing is asked of the words: a next past the last node reads 0 and ends the list.
-pub fn list_ends(sheet: bool, nodes: &[u32]) -> bool
-    requires { nodes_fit (tables sheet nodes.now []) ≡ true }
-    ensures { result ≡ list_ends (tables sheet nodes.now []) }
+pub fn list_ends<P: Profile>(nodes: &[u32]) -> bool
+    requires { nodes_fit (tables P.SHEET nodes.now []) ≡ true }
+    ensures { result ≡ list_ends (tables P.SHEET nodes.now []) }
 {
-    let n = words::node_count(sheet, nodes) as u32;
+    let n = words::node_count::<P>(nodes) as u32;
     let mut left = n;
-    let mut a = words::link(sheet, nodes, 0);
+    let mut a = words::link::<P>(nodes, 0);
     while left != 0 {
         if (a == 0) | (n < a) {
             return true;
         }
-        a = words::next_within(sheet, nodes, a);
+        a = words::next_within::<P>(nodes, a);
         left -= 1;
     }
     a == 0
 }
 
 // all but the lengths
-fn words_sound(sheet: bool, nodes: &[u32], seats: &[u32]) -> bool
-    requires { lengths_fit (tables sheet nodes.now seats.now) ≡ true }
-    ensures { result ≡ sound (tables sheet nodes.now seats.now) }
+fn words_sound<P: Profile>(nodes: &[u32], seats: &[u32]) -> bool
+    requires { lengths_fit (tables P.SHEET nodes.now seats.now) ≡ true }
+    ensures { result ≡ sound (tables P.SHEET nodes.now seats.now) }
 {
-    let n = words::node_count(sheet, nodes) as u32;
-    let count = words::seat_count(sheet, seats) as u32;
-    let head = words::link(sheet, nodes, 0);
-    let readers = words::count_word(sheet, nodes, 1);
-    let writers = words::count_word(sheet, nodes, 2);
-    let title = words::title(sheet, nodes);
+    let n = words::node_count::<P>(nodes) as u32;
+    let count = words::seat_count::<P>(seats) as u32;
+    let head = words::link::<P>(nodes, 0);
+    let readers = words::count_word::<P>(nodes, 1);
+    let writers = words::count_word::<P>(nodes, 2);
+    let title = words::title::<P>(nodes);
     if title == 0 {
         return false;
     }
-    let part = words::from_first_node(sheet, nodes);
-    if !nodes_sound(sheet, part, n, title) {
+    let part = words::from_first_node::<P>(nodes);
+    if !nodes_sound::<P>(part, n, title) {
         return false;
     }
-    if !names_node(sheet, part, n, head) {
+    if !names_node::<P>(part, n, head) {
         return false;
     }
-    if !seats_and_counts_sound(sheet, part, seats, n, count, readers, writers) {
+    if !seats_and_counts_sound::<P>(part, seats, n, count, readers, writers) {
         return false;
     }
-    list_ends(sheet, nodes)
+    list_ends::<P>(nodes)
 }
 
-pub fn is_sound(sheet: bool, nodes: &[u32], seats: &[u32]) -> bool
-    ensures { result ≡ sound (tables sheet nodes.now seats.now) }
+pub fn is_sound<P: Profile>(nodes: &[u32], seats: &[u32]) -> bool
+    ensures { result ≡ sound (tables P.SHEET nodes.now seats.now) }
 {
-    if lengths_fit(sheet, nodes, seats) {
-        return words_sound(sheet, nodes, seats);
+    if lengths_fit::<P>(nodes, seats) {
+        return words_sound::<P>(nodes, seats);
     }
     false
 }

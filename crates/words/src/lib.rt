@@ -1,5 +1,5 @@
 // The words of the two tables: the only code that knows where a word stands. Each read and each store is total, as its definition is:
-// a read past the end is 0, a store past the end does nothing, and node 0 has only zeros but for its link, the head. `sheet` is the tables' profile:
+// a read past the end is 0, a store past the end does nothing, and node 0 has only zeros but for its link, the head. `P` is the tables' profile:
 // of all code these functions alone look at it for where a word stands, and they choose a number by it and never a way.
 #![tactic(auto)]
 
@@ -8,6 +8,8 @@ ghost use Rattle.rules.specs.Tables as table;
 ghost use Rattle.rules.specs.Tables.{tables, title_at, put_top, count_at, before_nodes, node_width, seat_width, node_word, put_node, link_word, put_link, count_word, set_count, seat_word, put_seat, clear_words, node_count_of, seat_count_of, zeros};
 ghost use Rattle.rules.specs.Shape.{nodes_fit, seats_fit};
 ghost use Rattle.words.specs.Parts.{with_zeros};
+
+use rules::Profile;
 
 // Where the words of a node stand in it.
 pub const START: u32 = 0;
@@ -48,22 +50,22 @@ const SEAT_WIDTH: usize = 4;
 
 const SHEET_SEAT_WIDTH: usize = 4;
 
-fn before_nodes(sheet: bool) -> usize
-    ensures words { result ≡ before_nodes sheet }
+fn before_nodes<P: Profile>() -> usize
+    ensures words { result ≡ before_nodes P.SHEET }
     ensures few { result ≤ 8 }
 {
-    if sheet {
+    if P::SHEET {
         SHEET_BEFORE_NODES
     } else {
         BEFORE_NODES
     }
 }
 
-fn seat_width(sheet: bool) -> usize
-    ensures words { result ≡ seat_width sheet }
+fn seat_width<P: Profile>() -> usize
+    ensures words { result ≡ seat_width P.SHEET }
     ensures few { result ≤ 8 }
 {
-    if sheet { SHEET_SEAT_WIDTH } else { SEAT_WIDTH }
+    if P::SHEET { SHEET_SEAT_WIDTH } else { SEAT_WIDTH }
 }
 
 // ---- where a word stands: nothing else adds up a place. Each is told to be small, so that no caller has to show that a place fits.
@@ -78,20 +80,20 @@ fn part_place(a: u32, field: u32) -> usize
 }
 
 // and in the whole table
-fn node_place(sheet: bool, a: u32, field: u32) -> usize
+fn node_place<P: Profile>(a: u32, field: u32) -> usize
     requires { a ≡ 0 → ⊥ }
-    ensures place { result ≡ before_nodes sheet + node_width * (a - 1) + field }
+    ensures place { result ≡ before_nodes P.SHEET + node_width * (a - 1) + field }
     ensures small { result < 34359738368 }
 {
-    before_nodes(sheet) + part_place(a, field)
+    before_nodes::<P>() + part_place(a, field)
 }
 
 // of a seat
-fn seat_place(sheet: bool, s: u32, field: u32) -> usize
-    ensures place { result ≡ seat_width sheet * s + field }
+fn seat_place<P: Profile>(s: u32, field: u32) -> usize
+    ensures place { result ≡ seat_width P.SHEET * s + field }
     ensures small { result < 68719476736 }
 {
-    seat_width(sheet) * s as usize + field as usize
+    seat_width::<P>() * s as usize + field as usize
 }
 
 // of the count of those who hold with a claim of this kind
@@ -122,110 +124,110 @@ fn put(table: &mut [u32], at: usize, value: u32)
 
 // ---- the words of the nodes
 
-pub fn node_word(sheet: bool, nodes: &[u32], a: u32, field: u32) -> u32
-    ensures { result ≡ node_word sheet nodes.now a field }
+pub fn node_word<P: Profile>(nodes: &[u32], a: u32, field: u32) -> u32
+    ensures { result ≡ node_word P.SHEET nodes.now a field }
 {
     if a == 0 {
         return 0;
     }
-    word(nodes, node_place(sheet, a, field))
+    word(nodes, node_place::<P>(a, field))
 }
 
 // a word of a node that the table has
-pub fn node_word_within(sheet: bool, nodes: &[u32], a: u32, field: u32) -> u32
+pub fn node_word_within<P: Profile>(nodes: &[u32], a: u32, field: u32) -> u32
     requires is_node { a ≡ 0 → ⊥ }
-    requires has_node { a ≤ node_count_of sheet nodes.now }
+    requires has_node { a ≤ node_count_of P.SHEET nodes.now }
     requires has_word { field < node_width }
-    ensures { result ≡ node_word sheet nodes.now a field }
+    ensures { result ≡ node_word P.SHEET nodes.now a field }
 {
-    nodes[node_place(sheet, a, field)]
+    nodes[node_place::<P>(a, field)]
 }
 
-pub fn put_node(sheet: bool, nodes: &mut [u32], a: u32, field: u32, value: u32)
-    ensures { nodes.new ≡ put_node sheet nodes.old a field value }
+pub fn put_node<P: Profile>(nodes: &mut [u32], a: u32, field: u32, value: u32)
+    ensures { nodes.new ≡ put_node P.SHEET nodes.old a field value }
 {
     if a == 0 {
         return;
     }
-    put(nodes, node_place(sheet, a, field), value);
+    put(nodes, node_place::<P>(a, field), value);
 }
 
-pub fn link(sheet: bool, nodes: &[u32], a: u32) -> u32
-    ensures { result ≡ link_word sheet nodes.now a }
+pub fn link<P: Profile>(nodes: &[u32], a: u32) -> u32
+    ensures { result ≡ link_word P.SHEET nodes.now a }
 {
     if a == 0 {
         return word(nodes, HEAD);
     }
-    node_word(sheet, nodes, a, NEXT)
+    node_word::<P>(nodes, a, NEXT)
 }
 
 // the next of a node that the table has
-pub fn next_within(sheet: bool, nodes: &[u32], a: u32) -> u32
+pub fn next_within<P: Profile>(nodes: &[u32], a: u32) -> u32
     requires is_node { a ≡ 0 → ⊥ }
-    requires has_node { a ≤ node_count_of sheet nodes.now }
-    ensures { result ≡ link_word sheet nodes.now a }
+    requires has_node { a ≤ node_count_of P.SHEET nodes.now }
+    ensures { result ≡ link_word P.SHEET nodes.now a }
 {
-    node_word_within(sheet, nodes, a, NEXT)
+    node_word_within::<P>(nodes, a, NEXT)
 }
 
-pub fn put_link(sheet: bool, nodes: &mut [u32], a: u32, value: u32)
-    ensures { nodes.new ≡ put_link sheet nodes.old a value }
+pub fn put_link<P: Profile>(nodes: &mut [u32], a: u32, value: u32)
+    ensures { nodes.new ≡ put_link P.SHEET nodes.old a value }
 {
     if a == 0 {
         put(nodes, HEAD, value);
         return;
     }
-    put_node(sheet, nodes, a, NEXT, value);
+    put_node::<P>(nodes, a, NEXT, value);
 }
 
 // ---- the words of the nodes in the part from node 1 on, where no place hangs on how many words stand before it: what reads them takes the profile for
 // its promise alone
 
-pub fn from_first_node(sheet: bool, nodes: &[u32]) -> &[u32]
-    requires { before_nodes sheet ≤ length nodes.now }
-    ensures { result.now ≡ drop (before_nodes sheet) nodes.now }
+pub fn from_first_node<P: Profile>(nodes: &[u32]) -> &[u32]
+    requires { before_nodes P.SHEET ≤ length nodes.now }
+    ensures { result.now ≡ drop (before_nodes P.SHEET) nodes.now }
 {
-    let before = before_nodes(sheet);
+    let before = before_nodes::<P>();
     &nodes[before..]
 }
 
 // a word of a node that the part has
-pub fn part_word(sheet: bool, part: &[u32], a: u32, field: u32) -> u32
+pub fn part_word<P: Profile>(part: &[u32], a: u32, field: u32) -> u32
     requires is_node { a ≡ 0 → ⊥ }
-    requires has_node { a ≤ node_count_of sheet (with_zeros sheet part.now) }
+    requires has_node { a ≤ node_count_of P.SHEET (with_zeros P.SHEET part.now) }
     requires has_word { field < node_width }
-    ensures { result ≡ node_word sheet (with_zeros sheet part.now) a field }
+    ensures { result ≡ node_word P.SHEET (with_zeros P.SHEET part.now) a field }
 {
     part[part_place(a, field)]
 }
 
 // and its next
-pub fn part_next(sheet: bool, part: &[u32], a: u32) -> u32
+pub fn part_next<P: Profile>(part: &[u32], a: u32) -> u32
     requires is_node { a ≡ 0 → ⊥ }
-    requires has_node { a ≤ node_count_of sheet (with_zeros sheet part.now) }
-    ensures { result ≡ link_word sheet (with_zeros sheet part.now) a }
+    requires has_node { a ≤ node_count_of P.SHEET (with_zeros P.SHEET part.now) }
+    ensures { result ≡ link_word P.SHEET (with_zeros P.SHEET part.now) a }
 {
-    part_word(sheet, part, a, NEXT)
+    part_word::<P>(part, a, NEXT)
 }
 
 // ---- the two counts: how many hold with a claim of this kind
 
-pub fn count_word(sheet: bool, nodes: &[u32], kind: u32) -> u32
-    ensures { result ≡ count_word (tables sheet nodes.now []) kind }
+pub fn count_word<P: Profile>(nodes: &[u32], kind: u32) -> u32
+    ensures { result ≡ count_word (tables P.SHEET nodes.now []) kind }
 {
     word(nodes, count_place(kind))
 }
 
-pub fn put_count(sheet: bool, nodes: &mut [u32], kind: u32, value: u32)
-    ensures { nodes.new ≡ (set_count (tables sheet nodes.old []) kind value).nodes }
+pub fn put_count<P: Profile>(nodes: &mut [u32], kind: u32, value: u32)
+    ensures { nodes.new ≡ (set_count (tables P.SHEET nodes.old []) kind value).nodes }
 {
     put(nodes, count_place(kind), value);
 }
 
 // ---- the title's frame count
 
-pub fn title(sheet: bool, nodes: &[u32]) -> u32
-    ensures { result ≡ table.title (tables sheet nodes.now []) }
+pub fn title<P: Profile>(nodes: &[u32]) -> u32
+    ensures { result ≡ table.title (tables P.SHEET nodes.now []) }
 {
     word(nodes, TITLE)
 }
@@ -239,82 +241,82 @@ pub fn put_title(nodes: &mut [u32], frames: u32)
 // ---- the words of the seats
 
 // a word of a seat that the table has
-pub fn seat_word_within(sheet: bool, seats: &[u32], s: u32, field: u32) -> u32
-    requires has_seat { s < seat_count_of sheet seats.now }
-    requires has_word { field < seat_width sheet }
-    ensures { result ≡ seat_word sheet seats.now s field }
+pub fn seat_word_within<P: Profile>(seats: &[u32], s: u32, field: u32) -> u32
+    requires has_seat { s < seat_count_of P.SHEET seats.now }
+    requires has_word { field < seat_width P.SHEET }
+    ensures { result ≡ seat_word P.SHEET seats.now s field }
 {
-    seats[seat_place(sheet, s, field)]
+    seats[seat_place::<P>(s, field)]
 }
 
 // Whether the table has the seat is asked of the seat and not of the word, so that a caller who has asked it already pays for no test here.
-pub fn seat_word(sheet: bool, seats: &[u32], s: u32, field: u32) -> u32
-    ensures { result ≡ seat_word sheet seats.now s field }
+pub fn seat_word<P: Profile>(seats: &[u32], s: u32, field: u32) -> u32
+    ensures { result ≡ seat_word P.SHEET seats.now s field }
 {
-    if ((s as usize) < seat_count(sheet, seats)) & ((field as usize) < seat_width(sheet)) {
-        return seat_word_within(sheet, seats, s, field);
+    if ((s as usize) < seat_count::<P>(seats)) & ((field as usize) < seat_width::<P>()) {
+        return seat_word_within::<P>(seats, s, field);
     }
-    word(seats, seat_place(sheet, s, field))
+    word(seats, seat_place::<P>(s, field))
 }
 
-pub fn put_seat(sheet: bool, seats: &mut [u32], s: u32, field: u32, value: u32)
-    ensures { seats.new ≡ put_seat sheet seats.old s field value }
+pub fn put_seat<P: Profile>(seats: &mut [u32], s: u32, field: u32, value: u32)
+    ensures { seats.new ≡ put_seat P.SHEET seats.old s field value }
 {
-    if ((s as usize) < seat_count(sheet, seats)) & ((field as usize) < seat_width(sheet)) {
-        seats[seat_place(sheet, s, field)] = value;
+    if ((s as usize) < seat_count::<P>(seats)) & ((field as usize) < seat_width::<P>()) {
+        seats[seat_place::<P>(s, field)] = value;
         return;
     }
-    put(seats, seat_place(sheet, s, field), value);
+    put(seats, seat_place::<P>(s, field), value);
 }
 
 // ---- the words of one seat, lent as a part of the table: that part is a table of the seat alone, in which its number is 0, so that a word is read and
 // stored whatever the profile, which is there for the promise alone
 
 // where the part starts
-pub fn seat_start(sheet: bool, s: u32) -> usize
-    ensures place { result ≡ seat_width sheet * s }
+pub fn seat_start<P: Profile>(s: u32) -> usize
+    ensures place { result ≡ seat_width P.SHEET * s }
     ensures small { result < 68719476736 }
 {
-    seat_place(sheet, s, 0)
+    seat_place::<P>(s, 0)
 }
 
 // and where it ends
-pub fn seat_end(sheet: bool, s: u32) -> usize
-    ensures { result ≡ seat_width sheet * s + seat_width sheet }
+pub fn seat_end<P: Profile>(s: u32) -> usize
+    ensures { result ≡ seat_width P.SHEET * s + seat_width P.SHEET }
 {
-    seat_start(sheet, s) + seat_width(sheet)
+    seat_start::<P>(s) + seat_width::<P>()
 }
 
-pub fn field(sheet: bool, seat: &[u32], at: u32) -> u32
-    ensures { result ≡ seat_word sheet seat.now 0 at }
+pub fn field<P: Profile>(seat: &[u32], at: u32) -> u32
+    ensures { result ≡ seat_word P.SHEET seat.now 0 at }
 {
     word(seat, at as usize)
 }
 
-pub fn put_field(sheet: bool, seat: &mut [u32], at: u32, value: u32)
-    ensures { seat.new ≡ put_seat sheet seat.old 0 at value }
+pub fn put_field<P: Profile>(seat: &mut [u32], at: u32, value: u32)
+    ensures { seat.new ≡ put_seat P.SHEET seat.old 0 at value }
 {
     put(seat, at as usize, value);
 }
 
 // 0 in every word of it
-pub fn clear_seat(sheet: bool, seat: &mut [u32])
-    ensures { seat.new ≡ clear_words sheet (seat_width sheet) seat.old 0 }
+pub fn clear_seat<P: Profile>(seat: &mut [u32])
+    ensures { seat.new ≡ clear_words P.SHEET (seat_width P.SHEET) seat.old 0 }
 {
-    let width = seat_width(sheet);
+    let width = seat_width::<P>();
     let mut at: u32 = 0;
     while (at as usize) < width {
-        put_field(sheet, seat, at, 0);
+        put_field::<P>(seat, at, 0);
         at += 1;
     }
 }
 
 // ---- the lengths
 
-pub fn node_count(sheet: bool, nodes: &[u32]) -> usize
-    ensures { result ≡ node_count_of sheet nodes.now }
+pub fn node_count<P: Profile>(nodes: &[u32]) -> usize
+    ensures { result ≡ node_count_of P.SHEET nodes.now }
 {
-    let before = before_nodes(sheet);
+    let before = before_nodes::<P>();
     let length = nodes.len();
     if length < before {
         return 0;
@@ -322,40 +324,40 @@ pub fn node_count(sheet: bool, nodes: &[u32]) -> usize
     (length - before) / NODE_WIDTH
 }
 
-pub fn seat_count(sheet: bool, seats: &[u32]) -> usize
-    ensures { result ≡ seat_count_of sheet seats.now }
+pub fn seat_count<P: Profile>(seats: &[u32]) -> usize
+    ensures { result ≡ seat_count_of P.SHEET seats.now }
 {
-    seats.len() / seat_width(sheet)
+    seats.len() / seat_width::<P>()
 }
 
-pub fn nodes_fit(sheet: bool, nodes: &[u32]) -> bool
-    ensures { result ≡ nodes_fit (tables sheet nodes.now []) }
+pub fn nodes_fit<P: Profile>(nodes: &[u32]) -> bool
+    ensures { result ≡ nodes_fit (tables P.SHEET nodes.now []) }
 {
-    let before = before_nodes(sheet);
-    let n = node_count(sheet, nodes);
+    let before = before_nodes::<P>();
+    let n = node_count::<P>(nodes);
     (nodes.len() == before + NODE_WIDTH * n) & (1 <= n) & (n <= 256)
 }
 
 // At least one seat is asked of the length, so that what follows need not ask again whether the table is empty.
-pub fn seats_fit(sheet: bool, seats: &[u32]) -> bool
-    ensures { result ≡ seats_fit (tables sheet [] seats.now) }
+pub fn seats_fit<P: Profile>(seats: &[u32]) -> bool
+    ensures { result ≡ seats_fit (tables P.SHEET [] seats.now) }
 {
-    let width = seat_width(sheet);
-    let s = seat_count(sheet, seats);
+    let width = seat_width::<P>();
+    let s = seat_count::<P>(seats);
     (seats.len() == width * s) & (width <= seats.len()) & (s <= 64)
 }
 
 // How many words the tables of n nodes and of s seats have.
-pub fn node_words(sheet: bool, n: u32) -> usize
-    ensures { result ≡ before_nodes sheet + node_width * n }
+pub fn node_words<P: Profile>(n: u32) -> usize
+    ensures { result ≡ before_nodes P.SHEET + node_width * n }
 {
-    before_nodes(sheet) + NODE_WIDTH * n as usize
+    before_nodes::<P>() + NODE_WIDTH * n as usize
 }
 
-pub fn seat_words(sheet: bool, s: u32) -> usize
-    ensures { result ≡ seat_width sheet * s }
+pub fn seat_words<P: Profile>(s: u32) -> usize
+    ensures { result ≡ seat_width P.SHEET * s }
 {
-    seat_width(sheet) * s as usize
+    seat_width::<P>() * s as usize
 }
 
 // The longest ordinary tables there are, fresh.

@@ -4,10 +4,10 @@ use Rattle.board.proofs.Rows.{shown_sound, shown_damaged}
 use Rattle.board.proofs.board.Goals as goal
 
 pub show_holders-requires : goal.show_holders-requires
-show_holders-requires c = search now_sound
+show_holders-requires g c = search now_sound
 
 pub returns-then-is_sound : goal.returns-then-is_sound
-returns-then-is_sound c = search shown_sound
+returns-then-is_sound g c = search shown_sound
 
 pub returns : goal.returns
-returns c = search shown_damaged
+returns g c = search shown_damaged

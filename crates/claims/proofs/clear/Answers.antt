@@ -4,10 +4,10 @@ use Rattle.claims.proofs.Ways.{clear_not, clear_no_title, clear_fits}
 use Rattle.claims.proofs.clear.Goals as goal
 
 pub returns-then-not-fits : goal.returns-then-not-fits
-returns-then-not-fits c = search (clear_not, clear_no_title)
+returns-then-not-fits g c = search (clear_not, clear_no_title)
 
 pub returns-then-title-eq0 : goal.returns-then-title-eq0
-returns-then-title-eq0 c = search (clear_not, clear_no_title)
+returns-then-title-eq0 g c = search (clear_not, clear_no_title)
 
 pub returns : goal.returns
-returns c = search clear_fits
+returns g c = search clear_fits

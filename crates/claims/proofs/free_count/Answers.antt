@@ -4,10 +4,10 @@ use Rattle.claims.proofs.Ways.{count_sound, count_damaged}
 use Rattle.claims.proofs.free_count.Goals as goal
 
 pub free_count-free-requires : goal.free_count-free-requires
-free_count-free-requires c = search now_sound
+free_count-free-requires g c = search now_sound
 
 pub returns-then-is_sound : goal.returns-then-is_sound
-returns-then-is_sound c = search count_sound
+returns-then-is_sound g c = search count_sound
 
 pub returns : goal.returns
-returns c = search count_damaged
+returns g c = search count_damaged

@@ -5,13 +5,13 @@ use borrow.Author.Rules.{rules}
 use Rattle.claims.proofs.release.Goals as goal
 
 pub release_seat-requires : goal.release_seat-requires
-release_seat-requires c = record { tables_sound = search now_sound; has_seat = search rules }
+release_seat-requires g c = record { tables_sound = search now_sound; has_seat = search rules }
 
 pub returns-then-s-seat_count : goal.returns-then-s-seat_count
-returns-then-s-seat_count c = search release_seat_law
+returns-then-s-seat_count g c = search release_seat_law
 
 pub returns-then-is_sound : goal.returns-then-is_sound
-returns-then-is_sound c = search release_past
+returns-then-is_sound g c = search release_past
 
 pub returns : goal.returns
-returns c = search release_damaged
+returns g c = search release_damaged

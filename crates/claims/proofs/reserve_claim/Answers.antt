@@ -4,16 +4,16 @@ use Rattle.claims.proofs.Ways.{reserve_empty, reserve_beyond, reserve_kind, rese
 use Rattle.claims.proofs.reserve_claim.Goals as goal
 
 pub returns-then-end-start : goal.returns-then-end-start
-returns-then-end-start c = search (reserve_empty, reserve_beyond, reserve_kind, reserve_busy)
+returns-then-end-start g c = search (reserve_empty, reserve_beyond, reserve_kind, reserve_busy)
 
 pub returns-then-title-end : goal.returns-then-title-end
-returns-then-title-end c = search (reserve_empty, reserve_beyond, reserve_kind, reserve_busy)
+returns-then-title-end g c = search (reserve_empty, reserve_beyond, reserve_kind, reserve_busy)
 
 pub returns-then-not-known : goal.returns-then-not-known
-returns-then-not-known c = search (reserve_empty, reserve_beyond, reserve_kind, reserve_busy)
+returns-then-not-known g c = search (reserve_empty, reserve_beyond, reserve_kind, reserve_busy)
 
 pub returns-in-0 : goal.returns-in-0
-returns-in-0 c = search reserve_idle
+returns-in-0 g c = search reserve_idle
 
 pub returns-in-1-to-4294967295 : goal.returns-in-1-to-4294967295
-returns-in-1-to-4294967295 c = search (reserve_empty, reserve_beyond, reserve_kind, reserve_busy)
+returns-in-1-to-4294967295 g c = search (reserve_empty, reserve_beyond, reserve_kind, reserve_busy)

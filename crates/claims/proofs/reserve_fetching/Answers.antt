@@ -4,10 +4,10 @@ use Rattle.fetch.proofs.Ways.{idle_no_prev, idle_no_cur}
 use Rattle.claims.proofs.reserve_fetching.Goals as goal
 
 pub fetch-a-requires : goal.fetch-a-requires
-fetch-a-requires c = search (idle_no_prev, idle_no_cur)
+fetch-a-requires g c = search (idle_no_prev, idle_no_cur)
 
 pub returns-then-a-eq0 : goal.returns-then-a-eq0
-returns-then-a-eq0 c = search reserve_none
+returns-then-a-eq0 g c = search reserve_none
 
 pub returns : goal.returns
-returns c = search reserve_node
+returns g c = search reserve_node

@@ -4,7 +4,7 @@ use Rattle.claims.proofs.Ways.{step_damaged}
 use Rattle.claims.proofs.step.Goals as goal
 
 pub step_and_answer-requires : goal.step_and_answer-requires
-step_and_answer-requires c = search now_sound
+step_and_answer-requires g c = search now_sound
 
 pub returns : goal.returns
-returns c = search step_damaged
+returns g c = search step_damaged

@@ -4,10 +4,10 @@ use borrow.Author.Rules.{rules}
 use Rattle.claims.proofs.step_and_answer.Goals as goal
 
 pub slice_bounds-answer-end : goal.slice_bounds-answer-end
-slice_bounds-answer-end c = search (part_there, rules)
+slice_bounds-answer-end g c = search (part_there, rules)
 
 pub returns-then-refusal-eq0 : goal.returns-then-refusal-eq0
-returns-then-refusal-eq0 c = search (step_answered, rules)
+returns-then-refusal-eq0 g c = search (step_answered, rules)
 
 pub returns : goal.returns
-returns c = search step_turned_away
+returns g c = search step_turned_away

@@ -3,4 +3,4 @@ use Rattle.comparison.proofs.Signs.{of_words}
 use Rattle.comparison.proofs.compare_nodes.Goals as goal
 
 pub returns : goal.returns
-returns c = search of_words
+returns g c = search of_words

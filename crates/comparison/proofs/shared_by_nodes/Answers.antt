@@ -3,4 +3,4 @@ use Rattle.comparison.proofs.Shares.{shared_is}
 use Rattle.comparison.proofs.shared_by_nodes.Goals as goal
 
 pub returns : goal.returns
-returns c = search shared_is
+returns g c = search shared_is

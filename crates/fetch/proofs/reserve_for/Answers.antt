@@ -3,4 +3,4 @@ use Rattle.fetch.proofs.Ways.{reserves}
 use Rattle.fetch.proofs.reserve_for.Goals as goal
 
 pub returns : goal.returns
-returns c = search reserves
+returns g c = search reserves

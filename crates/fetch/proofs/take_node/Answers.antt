@@ -2,4 +2,4 @@ use Rattle.fetch.proofs.Ways.{taken}
 use Rattle.fetch.proofs.take_node.Goals as goal
 
 pub returns : goal.returns
-returns c = search taken
+returns g c = search taken

@@ -8,7 +8,7 @@ use mathlib.Core.Path.{◌≡◌}
 use Rattle.fetch.proofs.take_out.Given as goal
 
 abbrev pub invariant-loop-cur : goal.invariant-loop-cur
-invariant-loop-cur l = (length l.nodes ≡ length l.initial.nodes) × Taking (taken_out (tables l.sheet l.initial.nodes [])) (tables l.sheet l.nodes []) l.left l.prev l.link l.cur
+invariant-loop-cur g l = (length l.nodes ≡ length l.initial.nodes) × Taking (taken_out (tables g.P.Profile.SHEET l.initial.nodes [])) (tables g.P.Profile.SHEET l.nodes []) l.left l.prev l.link l.cur
 
 abbrev pub decreases-loop-cur : goal.decreases-loop-cur
-decreases-loop-cur l = l.left
+decreases-loop-cur g l = l.left

@@ -3,4 +3,4 @@ use Rattle.fetch.proofs.write_claim.Goals as goal
 
 pub returns : goal.returns
 unfolding write_claim
-returns c = cc
+returns g c = cc

@@ -4,13 +4,13 @@ use Rattle.holders.proofs.Rows.{holding_none, holding_more, holding_same, holdin
 use Rattle.holders.proofs.count.Goals as goal
 
 pub loop-s-init : goal.loop-s-init
-loop-s-init c = (omega arith, omega arith, holding_none _ _)
+loop-s-init g c = (omega arith, omega arith, holding_none _ _)
 
 pub loop-s-preserved-then-seat_word_within-eq5 : goal.loop-s-preserved-then-seat_word_within-eq5
-loop-s-preserved-then-seat_word_within-eq5 c = (omega arith, omega arith, search holding_more)
+loop-s-preserved-then-seat_word_within-eq5 g c = (omega arith, omega arith, search holding_more)
 
 pub loop-s-preserved : goal.loop-s-preserved
-loop-s-preserved c = (omega arith, omega arith, search holding_same)
+loop-s-preserved g c = (omega arith, omega arith, search holding_same)
 
 pub returns : goal.returns
-returns c = search holding_done
+returns g c = search holding_done

@@ -8,19 +8,19 @@ use Rattle.holders.proofs.Gathering.{gathered_none, gathered_more, gathered_same
 use Rattle.holders.proofs.covered.Goals as goal
 
 pub overflow_cast-count : goal.overflow_cast-count
-overflow_cast-count c = let few : c.seat_count-count.result ≤ 64 = search seats_few in omega arith
+overflow_cast-count g c = let few : c.seat_count-count.result ≤ 64 = search seats_few in omega arith
 
 pub loop-seat-init : goal.loop-seat-init
-loop-seat-init c = gathered_none _ _ _ (search seats_few) (search rules)
+loop-seat-init g c = gathered_none _ _ _ (search seats_few) (search rules)
 
 pub gather-low-requires : goal.gather-low-requires
-gather-low-requires c = record { tables_sound = search rules; holds = search rules; ordered = search rules; has_room = search rules }
+gather-low-requires g c = record { tables_sound = search rules; holds = search rules; ordered = search rules; has_room = search rules }
 
 pub loop-seat-preserved-then-seat_word_within-eq5 : goal.loop-seat-preserved-then-seat_word_within-eq5
-loop-seat-preserved-then-seat_word_within-eq5 c = gathered_more _ _ _ _ _ _ (search rules) (search rules) (search rules) _ _ c.gather-low.ensures
+loop-seat-preserved-then-seat_word_within-eq5 g c = gathered_more _ _ _ _ _ _ (search rules) (search rules) (search rules) _ _ c.gather-low.ensures
 
 pub loop-seat-preserved : goal.loop-seat-preserved
-loop-seat-preserved c = search gathered_same
+loop-seat-preserved g c = search gathered_same
 
 pub returns : goal.returns
-returns c = search gathered_all
+returns g c = search gathered_all

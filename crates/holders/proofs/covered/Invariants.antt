@@ -6,7 +6,7 @@ use Rattle.holders.proofs.Gathering.{Gathered}
 use Rattle.holders.proofs.covered.Given as goal
 
 abbrev pub invariant-loop-seat : goal.invariant-loop-seat
-invariant-loop-seat l = Gathered (tables l.sheet l.nodes l.seats) l.count l.places l.low l.held l.seat
+invariant-loop-seat g l = Gathered (tables g.P.Profile.SHEET l.nodes l.seats) l.count l.places l.low l.held l.seat
 
 abbrev pub decreases-loop-seat : goal.decreases-loop-seat
-decreases-loop-seat l = l.count - l.seat
+decreases-loop-seat g l = l.count - l.seat

@@ -3,4 +3,4 @@ use Rattle.holders.proofs.Gathering.{row_joined}
 use Rattle.holders.proofs.gather.Goals as goal
 
 pub returns : goal.returns
-returns c = search row_joined
+returns g c = search row_joined

@@ -4,16 +4,16 @@ use borrow.Author.Rules.{rules}
 use Rattle.holders.proofs.row_of.Goals as goal
 
 pub seat_word_within-own-requires : goal.seat_word_within-own-requires
-seat_word_within-own-requires c = search (held_seat, rules)
+seat_word_within-own-requires g c = search (held_seat, rules)
 
 pub node_word_within-first-requires : goal.node_word_within-first-requires
-node_word_within-first-requires c = search (held_node, held_within, rules)
+node_word_within-first-requires g c = search (held_node, held_within, rules)
 
 pub node_word_within-end-requires : goal.node_word_within-end-requires
-node_word_within-end-requires c = search (held_node, held_within, rules)
+node_word_within-end-requires g c = search (held_node, held_within, rules)
 
 pub node_word_within-kind-requires : goal.node_word_within-kind-requires
-node_word_within-kind-requires c = search (held_node, held_within, rules)
+node_word_within-kind-requires g c = search (held_node, held_within, rules)
 
 pub returns : goal.returns
-returns c = search row_is
+returns g c = search row_is

@@ -2,4 +2,4 @@
 use Rattle.reach.proofs.+reach.Given as goal
 
 abbrev pub decreases-reach : goal.decreases-reach
-decreases-reach l = l.hops
+decreases-reach g l = l.hops

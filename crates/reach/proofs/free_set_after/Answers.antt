@@ -3,7 +3,7 @@ use Rattle.reach.proofs.Ways.{links_within, free_after}
 use Rattle.reach.proofs.free_set_after.Goals as goal
 
 pub kept_set-used-requires : goal.kept_set-used-requires
-kept_set-used-requires c = search links_within
+kept_set-used-requires g c = search links_within
 
 pub returns : goal.returns
-returns c = search (free_after, c.outside.ensures)
+returns g c = search (free_after, c.outside.ensures)

@@ -3,4 +3,4 @@ use Rattle.reach.proofs.Ways.{lowest_read}
 use Rattle.reach.proofs.lowest_free.Goals as goal
 
 pub returns : goal.returns
-returns c = search lowest_read
+returns g c = search lowest_read

@@ -6,7 +6,7 @@ use Prim.Native.Nat.{◌≤◌, ◌-◌}
 use Rattle.reach.proofs.reach_others.Given as goal
 
 abbrev pub invariant-loop-r : goal.invariant-loop-r
-invariant-loop-r l = (l.count ≤ 64) × (l.r ≤ l.count) × (l.ws ≡ reach_seats l.hops (tables l.sheet l.nodes l.seats) l.s l.initial.ws l.r)
+invariant-loop-r g l = (l.count ≤ 64) × (l.r ≤ l.count) × (l.ws ≡ reach_seats l.hops (tables g.P.Profile.SHEET l.nodes l.seats) l.s l.initial.ws l.r)
 
 abbrev pub decreases-loop-r : goal.decreases-loop-r
-decreases-loop-r l = l.count - l.r
+decreases-loop-r g l = l.count - l.r

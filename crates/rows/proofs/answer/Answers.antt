@@ -4,7 +4,7 @@ use Rattle.rows.proofs.Filling.{answer_damaged}
 use Rattle.rows.proofs.answer.Goals as goal
 
 pub answer_sound-requires : goal.answer_sound-requires
-answer_sound-requires c = search now_sound
+answer_sound-requires g c = search now_sound
 
 pub returns : goal.returns
-returns c = search answer_damaged
+returns g c = search answer_damaged

@@ -4,13 +4,13 @@ use mathlib.Core.Path.{refl}
 use Rattle.rows.proofs.last_holder.Goals as goal
 
 pub loop-s-init : goal.loop-s-init
-loop-s-init c = refl
+loop-s-init g c = refl
 
 pub returns-then-seat_word-eq5 : goal.returns-then-seat_word-eq5
-returns-then-seat_word-eq5 c = search last_found
+returns-then-seat_word-eq5 g c = search last_found
 
 pub loop-s-preserved : goal.loop-s-preserved
-loop-s-preserved c = search last_again
+loop-s-preserved g c = search last_again
 
 pub returns : goal.returns
-returns c = search last_none
+returns g c = search last_none

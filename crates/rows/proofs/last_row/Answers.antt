@@ -4,7 +4,7 @@ use borrow.Author.Rules.{rules}
 use Rattle.rows.proofs.last_row.Goals as goal
 
 pub row_of-requires : goal.row_of-requires
-row_of-requires c = search (last_holds, rules)
+row_of-requires g c = search (last_holds, rules)
 
 pub returns : goal.returns
-returns c = search last_row_is
+returns g c = search last_row_is

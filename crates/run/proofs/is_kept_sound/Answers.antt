@@ -3,7 +3,7 @@ use Rattle.run.proofs.Counting.{kept_linked, kept_other}
 use Rattle.run.proofs.is_kept_sound.Goals as goal
 
 pub returns-then-before-after : goal.returns-then-before-after
-returns-then-before-after c = search kept_linked
+returns-then-before-after g c = search kept_linked
 
 pub returns : goal.returns
-returns c = search kept_other
+returns g c = search kept_other

@@ -8,22 +8,22 @@ use Rattle.run.proofs.Counting.{seat_there, still_there, left_all, left_again, l
 use Rattle.run.proofs.run_steps.Goals as goal
 
 pub loop-steps-init : goal.loop-steps-init
-loop-steps-init c = (refl, refl, omega arith, omega arith, search rules, left_all _ _ _)
+loop-steps-init g c = (refl, refl, omega arith, omega arith, search rules, left_all _ _ _)
 
 pub overflow_cast-count : goal.overflow_cast-count
-overflow_cast-count c = omega (arith, seats_few _ _ _ _ c.seat_count-count.ensures c.loop-steps.invariant.4)
+overflow_cast-count g c = omega (arith, seats_few _ _ _ _ c.seat_count-count.ensures c.loop-steps.invariant.4)
 
 pub seat_word_within-before-requires : goal.seat_word_within-before-requires
-seat_word_within-before-requires c = record { has_seat = seat_there _ _ _ _ c.seat_count-count.ensures c.if-count-s.false; has_word = search rules }
+seat_word_within-before-requires g c = record { has_seat = seat_there _ _ _ _ c.seat_count-count.ensures c.if-count-s.false; has_word = search rules }
 
 pub seat_word_within-after-requires : goal.seat_word_within-after-requires
-seat_word_within-after-requires c = record { has_seat = still_there _ _ _ _ c.seat_count-count.ensures c.if-count-s.false _ (search rules); has_word = search rules }
+seat_word_within-after-requires g c = record { has_seat = still_there _ _ _ _ c.seat_count-count.ensures c.if-count-s.false _ (search rules); has_word = search rules }
 
 pub is_kept_sound-requires : goal.is_kept_sound-requires
-is_kept_sound-requires c = search still_fit
+is_kept_sound-requires g c = search still_fit
 
 pub loop-steps-preserved : goal.loop-steps-preserved
-loop-steps-preserved c =
+loop-steps-preserved g c =
     let loop = c.loop-steps.invariant in
     let stepped = c.step_known-refusal.ensures in (
       search rules,
@@ -35,23 +35,23 @@ loop-steps-preserved c =
     )
 
 pub returns-then-steps-budget : goal.returns-then-steps-budget
-returns-then-steps-budget c = search left_budget
+returns-then-steps-budget g c = search left_budget
 
 pub returns-then-schedule-steps : goal.returns-then-schedule-steps
-returns-then-schedule-steps c = search left_end
+returns-then-schedule-steps g c = search left_end
 
 pub returns-then-count-s : goal.returns-then-count-s
-returns-then-count-s c =
+returns-then-count-s g c =
     let loop = c.loop-steps.invariant in
     left_past _ _ _ _ _ _ _ _ _ loop.5 loop.4 c.seat_count-count.ensures c.if-count-s.true refl (omega (arith, loop.2, c.if-steps-budget.false)) (omega (arith, loop.3, c.if-schedule-steps.false))
 
 pub returns-then-refusal-ne0 : goal.returns-then-refusal-ne0
-returns-then-refusal-ne0 c =
+returns-then-refusal-ne0 g c =
     let loop = c.loop-steps.invariant in
     left_refused _ _ _ _ _ _ _ _ _ _ _ loop.5 c.step_known-refusal.ensures refl (omega (arith, loop.2, c.if-steps-budget.false)) (omega (arith, loop.3, c.if-schedule-steps.false)) c.if-refusal-ne0.true
 
 pub returns-then-not-is_kept_sound : goal.returns-then-not-is_kept_sound
-returns-then-not-is_kept_sound c =
+returns-then-not-is_kept_sound g c =
     let loop = c.loop-steps.invariant in
     let stepped = c.step_known-refusal.ensures in
     left_stopped _ _ _ _ _ _ _ _

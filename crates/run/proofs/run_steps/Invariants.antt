@@ -10,9 +10,9 @@ use Rattle.run.proofs.Counting.{plus}
 use Rattle.run.proofs.run_steps.Given as goal
 
 abbrev pub invariant-loop-steps : goal.invariant-loop-steps
-invariant-loop-steps l =
-    (length l.nodes ≡ length l.initial.nodes) × (length l.seats ≡ length l.initial.seats) × (l.steps ≤ l.budget) × (l.steps ≤ length l.schedule) × (sound (tables l.sheet l.nodes l.seats) ≡ true)
-    × (plus l.steps (run_steps (l.budget - l.steps) (tables l.sheet l.nodes l.seats) (drop l.steps l.schedule)) ≡ run_steps l.budget (tables l.sheet l.initial.nodes l.initial.seats) l.schedule)
+invariant-loop-steps g l =
+    (length l.nodes ≡ length l.initial.nodes) × (length l.seats ≡ length l.initial.seats) × (l.steps ≤ l.budget) × (l.steps ≤ length l.schedule) × (sound (tables g.P.Profile.SHEET l.nodes l.seats) ≡ true)
+    × (plus l.steps (run_steps (l.budget - l.steps) (tables g.P.Profile.SHEET l.nodes l.seats) (drop l.steps l.schedule)) ≡ run_steps l.budget (tables g.P.Profile.SHEET l.initial.nodes l.initial.seats) l.schedule)
 
 abbrev pub decreases-loop-steps : goal.decreases-loop-steps
-decreases-loop-steps l = l.budget - l.steps
+decreases-loop-steps g l = l.budget - l.steps

@@ -4,10 +4,10 @@ use Rattle.std.proofs.Common.{rules}
 use Rattle.shape.proofs.held_kind.Goals as goal
 
 pub part_word-requires : goal.part_word-requires
-part_word-requires c = record { is_node = search holder_some; has_node = search holder_in; has_word = search rules }
+part_word-requires g c = record { is_node = search holder_some; has_node = search holder_in; has_word = search rules }
 
 pub returns-then-holds : goal.returns-then-holds
-returns-then-holds c = search holder_kind
+returns-then-holds g c = search holder_kind
 
 pub returns : goal.returns
-returns c = search holder_none
+returns g c = search holder_none

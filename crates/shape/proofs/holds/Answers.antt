@@ -3,4 +3,4 @@ use Rattle.shape.proofs.Counted.{is_holder}
 use Rattle.shape.proofs.holds.Goals as goal
 
 pub returns : goal.returns
-returns c = search is_holder
+returns g c = search is_holder

@@ -3,7 +3,7 @@ use Rattle.shape.proofs.Tests.{fits, sound_not}
 use Rattle.shape.proofs.is_sound.Goals as goal
 
 pub words_sound-requires : goal.words_sound-requires
-words_sound-requires c = search fits
+words_sound-requires g c = search fits
 
 pub returns : goal.returns
-returns c = search sound_not
+returns g c = search sound_not

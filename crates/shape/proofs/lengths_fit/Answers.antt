@@ -3,4 +3,4 @@ use Rattle.shape.proofs.Tests.{lengths_is}
 use Rattle.shape.proofs.lengths_fit.Goals as goal
 
 pub returns : goal.returns
-returns c = search lengths_is
+returns g c = search lengths_is

@@ -6,7 +6,7 @@ use Rattle.shape.specs.Parts.{list_ends}
 use Rattle.shape.proofs.list_ends.Given as goal
 
 abbrev pub invariant-loop-left : goal.invariant-loop-left
-invariant-loop-left l = ends_within l.left (tables l.sheet l.nodes []) l.a ≡ list_ends (tables l.sheet l.nodes [])
+invariant-loop-left g l = ends_within l.left (tables g.P.Profile.SHEET l.nodes []) l.a ≡ list_ends (tables g.P.Profile.SHEET l.nodes [])
 
 abbrev pub decreases-loop-left : goal.decreases-loop-left
-decreases-loop-left l = l.left
+decreases-loop-left g l = l.left

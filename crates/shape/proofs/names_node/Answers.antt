@@ -3,10 +3,10 @@ use Rattle.shape.proofs.Tests.{names_zero, names_past, names_kind}
 use Rattle.shape.proofs.names_node.Goals as goal
 
 pub returns-then-a-eq0 : goal.returns-then-a-eq0
-returns-then-a-eq0 c = search names_zero
+returns-then-a-eq0 g c = search names_zero
 
 pub returns-then-n-a : goal.returns-then-n-a
-returns-then-n-a c = search names_past
+returns-then-n-a g c = search names_past
 
 pub returns : goal.returns
-returns c = search names_kind
+returns g c = search names_kind

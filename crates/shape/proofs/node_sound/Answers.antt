@@ -3,10 +3,10 @@ use Rattle.shape.proofs.Tests.{node_zero, node_lost, node_claim}
 use Rattle.shape.proofs.node_sound.Goals as goal
 
 pub returns-then-kind-eq0 : goal.returns-then-kind-eq0
-returns-then-kind-eq0 c = search node_zero
+returns-then-kind-eq0 g c = search node_zero
 
 pub returns-then-not-names_node : goal.returns-then-not-names_node
-returns-then-not-names_node c = search node_lost
+returns-then-not-names_node g c = search node_lost
 
 pub returns : goal.returns
-returns c = search node_claim
+returns g c = search node_claim

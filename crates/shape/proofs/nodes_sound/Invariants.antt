@@ -5,7 +5,7 @@ use Rattle.shape.proofs.Tests.{nodes_below}
 use Rattle.shape.proofs.nodes_sound.Given as goal
 
 abbrev pub invariant-loop-i : goal.invariant-loop-i
-invariant-loop-i l = (l.i ≤ l.n) × (nodes_below l.sheet (with_zeros l.sheet l.part) l.title l.i ≡ true)
+invariant-loop-i g l = (l.i ≤ l.n) × (nodes_below g.P.Profile.SHEET (with_zeros g.P.Profile.SHEET l.part) l.title l.i ≡ true)
 
 abbrev pub decreases-loop-i : goal.decreases-loop-i
-decreases-loop-i l = l.n - l.i
+decreases-loop-i g l = l.n - l.i

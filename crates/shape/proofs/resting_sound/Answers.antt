@@ -3,7 +3,7 @@ use Rattle.shape.proofs.Tests.{rests_not, rests}
 use Rattle.shape.proofs.resting_sound.Goals as goal
 
 pub returns-then-own-prev : goal.returns-then-own-prev
-returns-then-own-prev c = search rests_not
+returns-then-own-prev g c = search rests_not
 
 pub returns : goal.returns
-returns c = search rests
+returns g c = search rests

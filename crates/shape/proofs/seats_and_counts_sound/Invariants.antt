@@ -5,7 +5,7 @@ use Rattle.shape.proofs.Counted.{Counted}
 use Rattle.shape.proofs.seats_and_counts_sound.Given as goal
 
 abbrev pub invariant-loop-s : goal.invariant-loop-s
-invariant-loop-s l = (l.s ≤ l.count) × (l.reading ≤ l.s) × (l.writing ≤ l.s) × Counted l.sheet (with_zeros l.sheet l.part) l.seats l.s l.reading l.writing
+invariant-loop-s g l = (l.s ≤ l.count) × (l.reading ≤ l.s) × (l.writing ≤ l.s) × Counted g.P.Profile.SHEET (with_zeros g.P.Profile.SHEET l.part) l.seats l.s l.reading l.writing
 
 abbrev pub decreases-loop-s : goal.decreases-loop-s
-decreases-loop-s l = l.count - l.s
+decreases-loop-s g l = l.count - l.s

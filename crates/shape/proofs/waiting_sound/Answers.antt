@@ -3,7 +3,7 @@ use Rattle.shape.proofs.Tests.{waits_nowhere, waits_at_cur}
 use Rattle.shape.proofs.waiting_sound.Goals as goal
 
 pub returns-then-cur-eq0 : goal.returns-then-cur-eq0
-returns-then-cur-eq0 c = search waits_nowhere
+returns-then-cur-eq0 g c = search waits_nowhere
 
 pub returns : goal.returns
-returns c = search waits_at_cur
+returns g c = search waits_at_cur

@@ -3,4 +3,4 @@ use Rattle.steps.proofs.Arms.{before_is}
 use Rattle.steps.proofs.ends_before.Goals as goal
 
 pub returns : goal.returns
-returns c = search before_is
+returns g c = search before_is

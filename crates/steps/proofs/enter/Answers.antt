@@ -3,4 +3,4 @@ use Rattle.steps.proofs.Arms.{entering_is}
 use Rattle.steps.proofs.enter.Goals as goal
 
 pub returns : goal.returns
-returns c = search entering_is
+returns g c = search entering_is

@@ -4,7 +4,7 @@ use borrow.Author.Rules.{rules}
 use Rattle.steps.proofs.hold.Goals as goal
 
 pub overflow_add-count : goal.overflow_add-count
-overflow_add-count c = search (count_fits, rules)
+overflow_add-count g c = search (count_fits, rules)
 
 pub returns : goal.returns
-returns c = search hold_is
+returns g c = search hold_is

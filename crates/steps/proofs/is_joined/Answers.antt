@@ -3,4 +3,4 @@ use Rattle.steps.proofs.Arms.{joined_is}
 use Rattle.steps.proofs.is_joined.Goals as goal
 
 pub returns : goal.returns
-returns c = search joined_is
+returns g c = search joined_is

@@ -3,4 +3,4 @@ use Rattle.steps.proofs.Arms.{past_is}
 use Rattle.steps.proofs.is_past.Goals as goal
 
 pub returns : goal.returns
-returns c = search past_is
+returns g c = search past_is

@@ -2,4 +2,4 @@
 use Rattle.steps.proofs.kind_of.Goals as goal
 
 pub returns : goal.returns
-returns c = cc
+returns g c = cc

@@ -4,7 +4,7 @@ use borrow.Author.Rules.{rules}
 use Rattle.steps.proofs.leave.Goals as goal
 
 pub overflow_sub-count : goal.overflow_sub-count
-overflow_sub-count c = search (count_some, rules)
+overflow_sub-count g c = search (count_some, rules)
 
 pub returns : goal.returns
-returns c = search leave_is
+returns g c = search leave_is

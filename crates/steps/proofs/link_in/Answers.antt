@@ -4,4 +4,4 @@ use Rattle.steps.proofs.link_in.Goals as goal
 
 pub returns : goal.returns
 unfolding link_in
-returns c = cc
+returns g c = cc

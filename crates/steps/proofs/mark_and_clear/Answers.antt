@@ -3,4 +3,4 @@ use Rattle.steps.proofs.Arms.{clear_is}
 use Rattle.steps.proofs.mark_and_clear.Goals as goal
 
 pub returns : goal.returns
-returns c = search clear_is
+returns g c = search clear_is

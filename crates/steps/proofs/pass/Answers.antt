@@ -4,4 +4,4 @@ use Rattle.steps.proofs.pass.Goals as goal
 
 pub returns : goal.returns
 unfolding pass
-returns c = cc
+returns g c = cc

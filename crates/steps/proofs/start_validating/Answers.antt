@@ -3,7 +3,7 @@ use Rattle.steps.proofs.Arms.{start_reader, start_writer}
 use Rattle.steps.proofs.start_validating.Goals as goal
 
 pub returns-then-node_word-eq1 : goal.returns-then-node_word-eq1
-returns-then-node_word-eq1 c = search start_reader
+returns-then-node_word-eq1 g c = search start_reader
 
 pub returns : goal.returns
-returns c = search start_writer
+returns g c = search start_writer

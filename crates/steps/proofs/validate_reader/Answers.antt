@@ -3,7 +3,7 @@ use Rattle.steps.proofs.Arms.{reader_holds, reader_on}
 use Rattle.steps.proofs.validate_reader.Goals as goal
 
 pub returns-then-is_past : goal.returns-then-is_past
-returns-then-is_past c = search reader_holds
+returns-then-is_past g c = search reader_holds
 
 pub returns : goal.returns
-returns c = search reader_on
+returns g c = search reader_on

@@ -3,4 +3,4 @@ use Rattle.steps.proofs.Arms.{reader_is}
 use Rattle.steps.proofs.wait_as_reader.Goals as goal
 
 pub returns : goal.returns
-returns c = search reader_is
+returns g c = search reader_is

@@ -3,4 +3,4 @@ use Rattle.steps.proofs.Arms.{to_enter_is}
 use Rattle.steps.proofs.wait_to_enter.Goals as goal
 
 pub returns : goal.returns
-returns c = search to_enter_is
+returns g c = search to_enter_is

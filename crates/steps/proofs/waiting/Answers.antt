@@ -3,4 +3,4 @@ use Rattle.steps.proofs.Arms.{waiting_is}
 use Rattle.steps.proofs.waiting.Goals as goal
 
 pub returns : goal.returns
-returns c = search waiting_is
+returns g c = search waiting_is

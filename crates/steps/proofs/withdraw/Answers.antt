@@ -3,4 +3,4 @@ use Rattle.steps.proofs.Arms.{withdraw_is}
 use Rattle.steps.proofs.withdraw.Goals as goal
 
 pub returns : goal.returns
-returns c = search withdraw_is
+returns g c = search withdraw_is

@@ -6,7 +6,7 @@ use Rattle.rules.specs.Tables.{clear_words}
 use Rattle.words.proofs.clear_seat.Given as goal
 
 abbrev pub invariant-loop-at : goal.invariant-loop-at
-invariant-loop-at l = (l.at ≤ l.width) × (length l.seat ≡ length l.initial.seat) × (l.seat ≡ clear_words l.sheet l.at l.initial.seat 0)
+invariant-loop-at g l = (l.at ≤ l.width) × (length l.seat ≡ length l.initial.seat) × (l.seat ≡ clear_words g.P.Profile.SHEET l.at l.initial.seat 0)
 
 abbrev pub decreases-loop-at : goal.decreases-loop-at
-decreases-loop-at l = l.width - l.at
+decreases-loop-at g l = l.width - l.at

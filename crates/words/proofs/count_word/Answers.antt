@@ -3,4 +3,4 @@ use Rattle.words.proofs.Places.{read_count}
 use Rattle.words.proofs.count_word.Goals as goal
 
 pub returns : goal.returns
-returns c = search read_count
+returns g c = search read_count

@@ -3,4 +3,4 @@ use Rattle.words.proofs.Places.{read_field}
 use Rattle.words.proofs.field.Goals as goal
 
 pub returns : goal.returns
-returns c = search read_field
+returns g c = search read_field

@@ -3,4 +3,4 @@ use Rattle.words.proofs.Places.{to_the_end}
 use Rattle.words.proofs.from_first_node.Goals as goal
 
 pub returns : goal.returns
-returns c = search to_the_end
+returns g c = search to_the_end

@@ -3,4 +3,4 @@ use Rattle.words.proofs.Places.{read_next}
 use Rattle.words.proofs.next_within.Goals as goal
 
 pub returns : goal.returns
-returns c = search read_next
+returns g c = search read_next

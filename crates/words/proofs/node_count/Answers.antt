@@ -5,8 +5,8 @@ use Rattle.words.proofs.node_count.Goals as goal
 
 pub returns-then-length-before : goal.returns-then-length-before
 unfolding node_count_of
-returns-then-length-before c = search rules
+returns-then-length-before g c = search rules
 
 pub returns : goal.returns
 unfolding node_count_of
-returns c = search rules
+returns g c = search rules

@@ -5,7 +5,7 @@ use Rattle.words.proofs.node_word.Goals as goal
 
 pub returns-then-a-eq0 : goal.returns-then-a-eq0
 unfolding node_word
-returns-then-a-eq0 c = rw c.if-a-eq0.true
+returns-then-a-eq0 g c = rw c.if-a-eq0.true
 
 pub returns : goal.returns
-returns c = search read_node
+returns g c = search read_node

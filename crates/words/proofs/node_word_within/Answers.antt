@@ -3,7 +3,7 @@ use Rattle.words.proofs.Places.{read_node, node_in}
 use Rattle.words.proofs.node_word_within.Goals as goal
 
 pub bounds-nodes-node_place : goal.bounds-nodes-node_place
-bounds-nodes-node_place c = search node_in
+bounds-nodes-node_place g c = search node_in
 
 pub returns : goal.returns
-returns c = search read_node
+returns g c = search read_node

@@ -3,4 +3,4 @@ use Rattle.words.proofs.Places.{store_count}
 use Rattle.words.proofs.put_count.Goals as goal
 
 pub returns : goal.returns
-returns c = search store_count
+returns g c = search store_count

@@ -3,4 +3,4 @@ use Rattle.words.proofs.Places.{store_field}
 use Rattle.words.proofs.put_field.Goals as goal
 
 pub returns : goal.returns
-returns c = search store_field
+returns g c = search store_field

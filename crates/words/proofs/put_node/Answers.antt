@@ -5,7 +5,7 @@ use Rattle.words.proofs.put_node.Goals as goal
 
 pub returns-then-a-eq0 : goal.returns-then-a-eq0
 unfolding put_node
-returns-then-a-eq0 c = rw c.if-a-eq0.true
+returns-then-a-eq0 g c = rw c.if-a-eq0.true
 
 pub returns : goal.returns
-returns c = search store_node
+returns g c = search store_node

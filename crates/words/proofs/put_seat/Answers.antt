@@ -3,10 +3,10 @@ use Rattle.words.proofs.Places.{store_seat, place_there}
 use Rattle.words.proofs.put_seat.Goals as goal
 
 pub bounds-seats-seat_place : goal.bounds-seats-seat_place
-bounds-seats-seat_place c = search place_there
+bounds-seats-seat_place g c = search place_there
 
 pub returns-then-s-seat_count : goal.returns-then-s-seat_count
-returns-then-s-seat_count c = search store_seat
+returns-then-s-seat_count g c = search store_seat
 
 pub returns : goal.returns
-returns c = search store_seat
+returns g c = search store_seat

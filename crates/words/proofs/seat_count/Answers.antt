@@ -3,4 +3,4 @@ use Rattle.words.proofs.Places.{seat_count_is}
 use Rattle.words.proofs.seat_count.Goals as goal
 
 pub returns : goal.returns
-returns c = search seat_count_is
+returns g c = search seat_count_is

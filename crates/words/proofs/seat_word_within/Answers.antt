@@ -3,7 +3,7 @@ use Rattle.words.proofs.Places.{read_seat, seat_in}
 use Rattle.words.proofs.seat_word_within.Goals as goal
 
 pub bounds-seats-seat_place : goal.bounds-seats-seat_place
-bounds-seats-seat_place c = search seat_in
+bounds-seats-seat_place g c = search seat_in
 
 pub returns : goal.returns
-returns c = search read_seat
+returns g c = search read_seat
