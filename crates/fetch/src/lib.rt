@@ -4,14 +4,14 @@
 
 ghost use Rattle.std.specs.Prelude.{◌≡◌, true, [], ◌∷◌, drop};
 ghost use Rattle.rules.specs.Tables.{tables, prev, cur, put_link};
-ghost use Rattle.rules.specs.Comparison.{claim};
+ghost use Rattle.rules.specs.Means.{means_claim, node_if_any};
 ghost use Rattle.rules.specs.Shape.{sound};
 ghost use Rattle.rules.specs.Reach.{count_free};
 ghost use Rattle.rules.specs.Stores.{store, stores, ListEnds};
 ghost use Rattle.reach.specs.Walks.{Links};
 ghost use Rattle.rules.specs.Fetch.{taken_out, write_claim, reserve_for, take_node, fetched, fetch_again, fetch as fetch_rule};
 
-use rules::Profile;
+use rules::{Claim, Profile};
 
 // How many nodes are free, every seat counted: no seat has the number of seats.
 pub fn free_count<P: Profile>(nodes: &[u32], seats: &[u32]) -> u32
@@ -25,12 +25,12 @@ pub fn free_count<P: Profile>(nodes: &[u32], seats: &[u32]) -> u32
 
 // ---- what is stored
 
-fn write_claim<P: Profile>(nodes: &mut [u32], a: u32, start: u32, end: u32, kind: u32)
-    ensures { nodes.new ≡ (write_claim (tables P.SHEET nodes.old []) a (claim start end kind)).nodes }
+fn write_claim<P: Profile>(nodes: &mut [u32], a: u32, claim: Claim)
+    ensures { nodes.new ≡ (write_claim (tables P.SHEET nodes.old []) a (means_claim claim)).nodes }
 {
-    words::put_node::<P>(nodes, a, words::START, start);
-    words::put_node::<P>(nodes, a, words::END, end);
-    words::put_node::<P>(nodes, a, words::KIND, kind);
+    words::put_node::<P>(nodes, a, words::START, claim.start);
+    words::put_node::<P>(nodes, a, words::END, claim.end);
+    words::put_node::<P>(nodes, a, words::KIND, claim.kind);
     words::put_link::<P>(nodes, a, 0);
     words::put_node::<P>(nodes, a, words::MARK, 0);
 }
@@ -45,20 +45,12 @@ fn reserve_for<P: Profile>(seats: &mut [u32], s: u32, a: u32)
     words::put_seat::<P>(seats, s, words::OWN, a);
 }
 
-fn take_node<P: Profile>(
-    nodes: &mut [u32],
-    seats: &mut [u32],
-    s: u32,
-    a: u32,
-    start: u32,
-    end: u32,
-    kind: u32,
-)
+fn take_node<P: Profile>(nodes: &mut [u32], seats: &mut [u32], s: u32, a: u32, claim: Claim)
     requires no_prev { prev (tables P.SHEET [] seats.old) s ≡ 0 }
     requires no_cur { cur (tables P.SHEET [] seats.old) s ≡ 0 }
-    ensures { tables P.SHEET nodes.new seats.new ≡ take_node (tables P.SHEET nodes.old seats.old) s a (claim start end kind) }
+    ensures { tables P.SHEET nodes.new seats.new ≡ take_node (tables P.SHEET nodes.old seats.old) s a (means_claim claim) }
 {
-    write_claim::<P>(nodes, a, start, end, kind);
+    write_claim::<P>(nodes, a, claim);
     reserve_for::<P>(seats, s, a);
 }
 
@@ -108,46 +100,31 @@ fn take_out<P: Profile>(nodes: &mut [u32])
 
 // ---- fetch
 
-fn fetch_again<P: Profile>(
-    nodes: &mut [u32],
-    seats: &mut [u32],
-    s: u32,
-    start: u32,
-    end: u32,
-    kind: u32,
-) -> u32
+// Once the marked nodes are taken out: the node taken, or none, and then nothing is stored.
+fn fetch_again<P: Profile>(nodes: &mut [u32], seats: &mut [u32], s: u32, claim: Claim) -> Option<u32>
     requires tables_sound { sound (tables P.SHEET nodes.old seats.old) ≡ true }
     requires no_prev { prev (tables P.SHEET [] seats.old) s ≡ 0 }
     requires no_cur { cur (tables P.SHEET [] seats.old) s ≡ 0 }
-    ensures { fetched result (tables P.SHEET nodes.new seats.new) ≡ fetch_again (tables P.SHEET nodes.old seats.old) s (claim start end kind) }
+    ensures node { result ≡ node_if_any (fetch_again (tables P.SHEET nodes.old seats.old) s (means_claim claim)).node }
+    ensures after { tables P.SHEET nodes.new seats.new ≡ (fetch_again (tables P.SHEET nodes.old seats.old) s (means_claim claim)).after }
 {
-    let a = reach::lowest_free_after::<P>(nodes, seats, s);
-    if a == 0 {
-        return 0;
-    }
+    let a = reach::lowest_free_after::<P>(nodes, seats, s)?;
     take_out::<P>(nodes);
-    take_node::<P>(nodes, seats, s, a, start, end, kind);
-    a
+    take_node::<P>(nodes, seats, s, a, claim);
+    Some(a)
 }
 
-// The node taken for seat s, or 0 if none is free.
-pub fn fetch<P: Profile>(
-    nodes: &mut [u32],
-    seats: &mut [u32],
-    s: u32,
-    start: u32,
-    end: u32,
-    kind: u32,
-) -> u32
+// The node taken for seat s, if one is free.
+pub fn fetch<P: Profile>(nodes: &mut [u32], seats: &mut [u32], s: u32, claim: Claim) -> Option<u32>
     requires tables_sound { sound (tables P.SHEET nodes.old seats.old) ≡ true }
     requires no_prev { prev (tables P.SHEET [] seats.old) s ≡ 0 }
     requires no_cur { cur (tables P.SHEET [] seats.old) s ≡ 0 }
-    ensures { fetched result (tables P.SHEET nodes.new seats.new) ≡ fetch_rule (tables P.SHEET nodes.old seats.old) s (claim start end kind) }
+    ensures node { result ≡ node_if_any (fetch_rule (tables P.SHEET nodes.old seats.old) s (means_claim claim)).node }
+    ensures after { tables P.SHEET nodes.new seats.new ≡ (fetch_rule (tables P.SHEET nodes.old seats.old) s (means_claim claim)).after }
 {
-    let a = reach::lowest_free::<P>(nodes, seats, s);
-    if a == 0 {
-        return fetch_again::<P>(nodes, seats, s, start, end, kind);
-    }
-    take_node::<P>(nodes, seats, s, a, start, end, kind);
-    a
+    let Some(a) = reach::lowest_free::<P>(nodes, seats, s) else {
+        return fetch_again::<P>(nodes, seats, s, claim);
+    };
+    take_node::<P>(nodes, seats, s, a, claim);
+    Some(a)
 }

@@ -7,6 +7,7 @@ ghost use Rattle.rules.specs.Tables.{tables, node_count_of, seat_count_of};
 ghost use Rattle.rules.specs.Shape.{sound};
 ghost use Rattle.rules.specs.Reach.{lowest_free};
 ghost use Rattle.rules.specs.Fetch.{kept, taken_out};
+ghost use Rattle.rules.specs.Means.{node_if_any};
 ghost use Rattle.nodesets.specs.Set.{none};
 ghost use Rattle.reach.specs.Walks.{Links, reach_from, reach_seat, reach_others, add_all};
 ghost use Rattle.reach.specs.FreeSet.{IsFreeSet};
@@ -122,17 +123,17 @@ fn free_set_after<P: Profile>(nodes: &[u32], seats: &[u32], s: u32) -> [u64; 4]
     nodesets::outside(used, n)
 }
 
-pub fn lowest_free<P: Profile>(nodes: &[u32], seats: &[u32], s: u32) -> u32
+pub fn lowest_free<P: Profile>(nodes: &[u32], seats: &[u32], s: u32) -> Option<u32>
     requires { sound (tables P.SHEET nodes.now seats.now) ≡ true }
-    ensures { result ≡ lowest_free (tables P.SHEET nodes.now seats.now) s }
+    ensures { result ≡ node_if_any (lowest_free (tables P.SHEET nodes.now seats.now) s) }
 {
     let free = free_set::<P>(nodes, seats, s);
     nodesets::lowest(free)
 }
 
-pub fn lowest_free_after<P: Profile>(nodes: &[u32], seats: &[u32], s: u32) -> u32
+pub fn lowest_free_after<P: Profile>(nodes: &[u32], seats: &[u32], s: u32) -> Option<u32>
     requires { sound (tables P.SHEET nodes.now seats.now) ≡ true }
-    ensures { result ≡ lowest_free (taken_out (tables P.SHEET nodes.now seats.now)) s }
+    ensures { result ≡ node_if_any (lowest_free (taken_out (tables P.SHEET nodes.now seats.now)) s) }
 {
     let free = free_set_after::<P>(nodes, seats, s);
     nodesets::lowest(free)

@@ -1,6 +1,8 @@
 -- "Where an answer is an enum, a definition gives, for each of its cases, this paper's number and values. The promises use that
 -- definition."
-use Rattle.std.specs.Prelude.{ℕ, Option, Some, None, Result, Ok, Err}
+use Rattle.std.specs.Prelude.{ℕ, Option, Some, None, Result, Ok, Err, if◌then◌else◌}
+use Rattle.rules.specs.Notation.{◌is◌}
+use Rattle.rules.specs.Comparison as comparison
 use Rattle.rules.specs.Answers.{Answer, node, out, on, wait, held, back, refused}
 use Rattle.rules.specs.FreeCount.{Counted}
 use Rattle.rules.specs.Board.{Boarded}
@@ -9,6 +11,7 @@ use Rattle.rules.specs.Script as script
 use Rattle.rules.specs.Locks.{moved}
 use Rattle.rules.specs.declared.Refused.{Refused}
 use Rattle.rules.specs.declared.Refused.TheVariants.{Damaged, NoSuchSeat, NoFrames, UnknownKind, HasClaim, HasNoClaim, NotHolding, NoNodeFree, NoRoom, NotWellFormed, BeyondTitle, NoSuchRun, UnknownType, NotReserved}
+use Rattle.rules.specs.declared.Claim.{Claim}
 use Rattle.rules.specs.declared.Reply.{Reply}
 use Rattle.rules.specs.declared.Reply.TheVariants.{Node, Out, On, Wait, Held, Back}
 use Rattle.rules.specs.declared.Filled.{Filled}
@@ -75,3 +78,11 @@ means_script (Err bad) = script.bad_at bad.line
 abbrev pub means_moved : Result (Unit {0}) BadRecord → Moved
 means_moved (Ok _) = moved 0 0
 means_moved (Err bad) = moved (number_of bad.why) bad.place
+
+-- a claim as the rules have it
+abbrev pub means_claim : Claim → comparison.Claim
+means_claim c = comparison.claim c.start c.end c.kind
+
+-- "Node 0 is no node": where the rules say 0, there is none
+abbrev pub node_if_any : ℕ → Option ℕ
+node_if_any a = if a is 0 then None else Some a

@@ -28,6 +28,14 @@ impl Profile for Sheet {
     const SHEET: bool = true;
 }
 
+// What a worker claims: the frames from start up to but not including end, to read (kind 1) or to write (kind 2). Any numbers; reserve refuses others.
+#[derive(Clone, Copy)]
+pub struct Claim {
+    pub start: u32,
+    pub end: u32,
+    pub kind: u32,
+}
+
 // A row of the board: a holding seat, its claim's first frame, the frame after its last, and its kind.
 #[derive(Clone, Copy)]
 pub struct Row {

@@ -6,10 +6,12 @@
 ghost use Rattle.std.specs.Prelude.{◌≡◌, length, get_or, set, drop, false, [], ◌+◌, ◌-◌, ◌*◌, ◌<◌, ◌≤◌};
 ghost use Rattle.rules.specs.Tables as table;
 ghost use Rattle.rules.specs.Tables.{tables, title_at, put_top, count_at, before_nodes, node_width, seat_width, node_word, put_node, link_word, put_link, count_word, set_count, seat_word, put_seat, clear_words, node_count_of, seat_count_of, zeros};
+ghost use Rattle.rules.specs.Comparison.{claim_of};
+ghost use Rattle.rules.specs.Means.{means_claim};
 ghost use Rattle.rules.specs.Shape.{nodes_fit, seats_fit};
 ghost use Rattle.words.specs.Parts.{with_zeros};
 
-use rules::Profile;
+use rules::{Claim, Profile};
 
 // Where the words of a node stand in it.
 pub const START: u32 = 0;
@@ -141,6 +143,17 @@ pub fn node_word_within<P: Profile>(nodes: &[u32], a: u32, field: u32) -> u32
     ensures { result ≡ node_word P.SHEET nodes.now a field }
 {
     nodes[node_place::<P>(a, field)]
+}
+
+// the claim that a node has
+pub fn node_claim<P: Profile>(nodes: &[u32], a: u32) -> Claim
+    ensures { means_claim result ≡ claim_of (tables P.SHEET nodes.now []) a }
+{
+    Claim {
+        start: node_word::<P>(nodes, a, START),
+        end: node_word::<P>(nodes, a, END),
+        kind: node_word::<P>(nodes, a, KIND),
+    }
 }
 
 pub fn put_node<P: Profile>(nodes: &mut [u32], a: u32, field: u32, value: u32)
