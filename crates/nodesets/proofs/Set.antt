@@ -2,19 +2,21 @@
 use Prim.Native.Nat.{ℕ, zero, suc, ◌+◌, ◌-◌, ◌*◌, ◌/◌, ◌%◌, ◌≤◌, ◌<◌}
 use mathlib.Core.Path.{◌≡◌, refl, sym, ap, ◌∙◌}
 use mathlib.Core.Bool.{Bool, true, false, ◌&&◌, ◌||◌, not, or_comm}
-use mathlib.Core.List.{List}
+use mathlib.Core.List.{List, [], ◌∷◌}
 use mathlib.Core.Logic.{◌≢◌, ⊎_elim}
 use native.Mathlib.Omega.{arith}
 use native.Mathlib.Numerals.{add-one}
 use lib.ListN.{get_or, set, length, length-set}
 use lib.Seq.{get_or-set_same, get_or-set_other, set-get_or}
+use lib.Count.{ones, count_trailing_zeros}
+use Rattle.std.specs.Prelude.{Some, None, sum_by}
 use borrow.Author.Tests.{eq-eqb, ne_eqb, eqb-true, eqb-false, ltb-true, ltb-false}
 use Rattle.rules.specs.Notation.{◌is◌, ◌<?◌, count, lowest}
 use Rattle.rules.proofs.Ground.Logic.{either, same, not_of}
-use Rattle.rules.proofs.Ground.Counting.{count_none, count_split, count_alike, lowest_at, lowest_none}
+use Rattle.rules.proofs.Ground.Counting.{count_none, count_split, count_alike, count_small, lowest_at, lowest_none}
 use Rattle.nodesets.specs.Word.{in_word, add_word}
-use Rattle.nodesets.specs.Set.{has, none, add, members}
-use Rattle.nodesets.proofs.Word.{in_zero, in_add, add_in, add_again as word_again}
+use Rattle.nodesets.specs.Set.{has, none, add, members, node_if_any}
+use Rattle.nodesets.proofs.Word.{in_zero, in_add, add_in, add_again as word_again, ones_count, trailing_in, trailing_below}
 
 -- ---- a node by its word and its number there
 pub has_at : (ws : List ℕ) (i j : ℕ) → j < 64 → has ws (64 * i + j + 1) ≡ in_word (get_or ws i 0) j
@@ -145,8 +147,24 @@ count_more ws i total c p q =
     (sym (count_split (64 * i) 64 (λ m. has ws (m + 1))
     ∙ ap (λ (n : ℕ). count (64 * i) (λ m. has ws (m + 1)) + n) (count_alike 64 (λ j. has ws (64 * i + j + 1)) (in_word (get_or ws i 0)) (has_at ws i))))
 
-pub count_done : (ws : List ℕ) (i total : ℕ) → total ≡ members ws (64 * i) → i ≤ 4 → 4 ≤ i → total ≡ members ws 256
-count_done ws i total p h b = let e : i ≡ 4 = omega arith in rw e at p
+-- the ones of the four words are the nodes of the set
+pub members_ones : (ws : List ℕ) → length ws ≡ 4 → ((i : ℕ) → get_or ws i 0 < 18446744073709551616) → sum_by ones ws ≡ members ws 256
+members_ones (a ∷ b ∷ c ∷ d ∷ []) l fits = more 3 _ (more 2 _ (more 1 _ (more 0 0 (sym (members_none _)))))
+  where
+    ws : List ℕ
+    ws = a ∷ b ∷ c ∷ d ∷ []
+
+    more : (i total : ℕ) → total ≡ members ws (64 * i) → total + ones (get_or ws i 0) ≡ members ws (64 * (i + 1))
+    more i total e = count_more ws i total (ones (get_or ws i 0)) e (ones_count 64 (get_or ws i 0) (fits i))
+members_ones [] l fits = absurd (omega arith)
+members_ones (a ∷ []) l fits = absurd (omega arith)
+members_ones (a ∷ b ∷ []) l fits = absurd (omega arith)
+members_ones (a ∷ b ∷ c ∷ []) l fits = absurd (omega arith)
+members_ones (a ∷ b ∷ c ∷ d ∷ e ∷ ws) l fits = absurd (omega arith)
+
+pub members_few : (ws : List ℕ) → members ws 256 ≤ 256
+unfolding members
+members_few ws = count_small 256 (λ m. has ws (m + 1))
 
 -- ---- lowest: no node in the words below i
 unfoldable pub Clear : List ℕ → ℕ → Type 0
@@ -171,13 +189,28 @@ pub clear_more : (ws : List ℕ) (i w : ℕ) → Clear ws i → w ≡ get_or ws 
 unfolding Clear
 clear_more ws i w c p e m h = clear_word ws i 64 m c (λ k b. rw (sym p ∙ e) (in_zero k)) (omega arith) (omega arith)
 
-pub lowest_found : (ws : List ℕ) (i w j : ℕ) → Clear ws i → i < 4 → w ≡ get_or ws i 0 → j < 64 → in_word w j ≡ true → ((k : ℕ) → k < j → in_word w k ≡ false) → 64 * i + j + 1 ≡ lowest 256 (has ws)
-lowest_found ws i w j c h p b e f =
-    rw (add-one (64 * i + j))
-    (sym (lowest_at 256 (64 * i + j) (has ws) (omega arith)
-    (rw (add-one (64 * i + j), ← p) at (has_at ws i j b) ∙ e)
-    (λ m l. rw (add-one m) at (clear_word ws i j m c (λ k z. rw (← p) (f k z)) (omega arith) l))))
+node_named : (n m : ℕ) → suc m ≡ n → Some (suc m) ≡ node_if_any n
+unfolding node_if_any
+node_named n m e = rw (← e)
 
-pub lowest_clear : (ws : List ℕ) (i : ℕ) → Clear ws i → 4 ≤ i → 0 ≡ lowest 256 (has ws)
-unfolding Clear
-lowest_clear ws i c h = sym (lowest_none 256 (has ws) (λ m b. rw (add-one m) at (c m (omega arith))))
+module _ (ws : List ℕ) (i : ℕ) (c : Clear ws i) where
+  pub lowest_found : (w : ℕ) → w ≡ get_or ws i 0 → w ≢ 0 → w < 18446744073709551616 → i < 4
+      → Some (64 * i + count_trailing_zeros 64 w + 1) ≡ node_if_any (lowest 256 (has ws))
+  lowest_found w p z fits h = rw (add-one (64 * i + j)) (node_named (lowest 256 (has ws)) (64 * i + j) (sym is_lowest))
+    where
+      j : ℕ
+      j = count_trailing_zeros 64 w
+
+      there : (j < 64) × (in_word w j ≡ true)
+      there = trailing_in 64 w z fits
+
+      is_lowest : lowest 256 (has ws) ≡ suc (64 * i + j)
+      is_lowest =
+          let b = there.0 in
+          lowest_at 256 (64 * i + j) (has ws) (omega arith)
+          (rw (add-one (64 * i + j), ← p) at (has_at ws i j b) ∙ there.1)
+          (λ m l. rw (add-one m) at (clear_word ws i j m c (λ k s. rw (← p) (trailing_below 64 w k s)) (omega arith) l))
+
+  pub lowest_clear : 4 ≤ i → None ≡ node_if_any (lowest 256 (has ws))
+  unfolding Clear node_if_any
+  lowest_clear h = let e = lowest_none 256 (has ws) (λ m b. rw (add-one m) at (c m (omega arith))) in rw e

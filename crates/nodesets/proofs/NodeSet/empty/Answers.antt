@@ -1,7 +1,7 @@
--- `nodesets::empty` meets its promise.
+-- `nodesets::NodeSet::empty` meets its promise.
 use Rattle.nodesets.specs.Set.{none}
 use mathlib.Core.Path.{refl}
-use Rattle.nodesets.proofs.empty.Goals as goal
+use Rattle.nodesets.proofs.NodeSet.empty.Goals as goal
 
 pub returns : goal.returns
 unfolding none
