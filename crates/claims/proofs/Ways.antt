@@ -10,7 +10,8 @@ use lib.ListN.{length, get_or, set}
 use lib.Seq.{get_or-set_same, get_or-set_other}
 use borrow.Author.Tests.{eq-eqb, ne_eqb, le-leb, lt-leb, le-ltb, lt-ltb, not-true, not-false}
 use Rattle.rules.specs.Tables.{tables, title_at, put_top, title, zeros, fresh, seat_word, seat_count_of, phase_at, seat_width}
-use Rattle.rules.specs.Comparison.{claim}
+use Rattle.std.specs.Prelude.{Option, None, Some}
+use Rattle.rules.specs.Comparison.{Claim, claim}
 use Rattle.rules.specs.Shape.{lengths_fit, sound, may_claim}
 use Rattle.rules.specs.Reach.{count_free}
 use Rattle.rules.specs.Fetch.{fetched, fetch}
@@ -29,30 +30,8 @@ use Rattle.steps.specs.Parts.{count_of_kind}
 use Rattle.steps.proofs.OwnWords as own
 use Rattle.phases.specs.Parts.{unanswered}
 use Rattle.phases.proofs.Ways.{its_refusal, its_tables}
-use Rattle.fetch.proofs.Ways.{none_kept}
+use Rattle.fetch.proofs.Ways.{Took, none_kept, none_is, node_is}
 use Rattle.claims.specs.Parts.{reserve_fetching, reserve_claim, release_seat, enter_seat}
-
--- ---- zeros
-pub record ZeroBelow (l : List ℕ) (i : ℕ) : Type 0 where
-  pub zero_at : (k : ℕ) → k < i → get_or l k 0 ≡ 0
-
-pub zero_none : (l : List ℕ) → ZeroBelow l 0
-zero_none l = record { zero_at = λ k h. absurd (omega arith) }
-
-pub zero_more : (l : List ℕ) (i : ℕ) → ZeroBelow l i → i < length l → ZeroBelow (set l i 0) (i + 1)
-zero_more l i z h = record {
-  zero_at = λ k j. ⊎_elim
-      (λ e. rw e (get_or-set_same l i 0 0 h))
-      (λ e. get_or-set_other l i k 0 0 (λ q. omega arith) ∙ z.zero_at k e)
-      (eq-or-lt_of_le {n = k} {m = i} (omega arith));
-}
-
-all_zero : (l : List ℕ) → ((k : ℕ) → k < length l → get_or l k 0 ≡ 0) → l ≡ zeros (length l)
-all_zero [] f = refl
-all_zero (x ∷ l) f = ap (λ (y : ℕ). y ∷ l) (f 0 (omega arith)) ∙ ap (λ (m : List ℕ). 0 ∷ m) (all_zero l (λ k h. f (suc k) (omega arith)))
-
-pub zero_all : (l : List ℕ) (i n : ℕ) → ZeroBelow l i → length l ≤ i → length l ≡ n → l ≡ zeros n
-zero_all l i n z h e = rw (← e) (all_zero l (λ k j. z.zero_at k (omega arith)))
 
 -- ---- clear
 module _ (sheet : Bool) (n t : List ℕ) (z : ℕ) (b : Bool) (fits : b ≡ lengths_fit (tables sheet n t)) where
@@ -74,14 +53,18 @@ module _ (sheet : Bool) (n t : List ℕ) (z : ℕ) (b : Bool) (fits : b ≡ leng
         rw (f, ne_eqb z 0 d, o, p, q, l.nodes_length, l.seats_length)
 
 -- ---- fetch's answer
-module _ (sheet : Bool) (n t n' t' : List ℕ) (s x y k a : ℕ) (is_fetched : fetched a (tables sheet n' t') ≡ fetch (tables sheet n t) s (claim x y k)) where
-  pub reserve_none : a ≡ 0 → done (refused 8) (tables sheet n' t') ≡ reserve_fetching (tables sheet n t) s (claim x y k)
+module _ (sheet : Bool) (n t n' t' : List ℕ) (s : ℕ) (c : Claim) (r : Option ℕ) (took : Took r (tables sheet n' t') (fetch (tables sheet n t) s c)) where
+  pub reserve_none : r ≡ None → done (refused 8) (tables sheet n' t') ≡ reserve_fetching (tables sheet n t) s c
   unfolding reserved
-  reserve_none e = rw (none_kept sheet n t n' t' s a (claim x y k) is_fetched e, ← is_fetched, e)
+  reserve_none e =
+      let w = rw e at took in
+      rw (none_kept sheet n t n' t' s c w, ← none_is sheet n t n' t' s c w)
 
-  pub reserve_node : a ≢ 0 → done (node a) (tables sheet n' t') ≡ reserve_fetching (tables sheet n t) s (claim x y k)
+  pub reserve_node : (a : ℕ) → r ≡ Some a → done (node a) (tables sheet n' t') ≡ reserve_fetching (tables sheet n t) s c
   unfolding reserved
-  reserve_node d = rw (← is_fetched, ne_eqb a 0 d)
+  reserve_node a e =
+      let is = node_is sheet n t n' t' s c a (rw e at took) in
+      rw (← is.0, ne_eqb a 0 is.1)
 
 -- ---- reserve, past 2
 module _ (sheet : Bool) (n t : List ℕ) (s x y k : ℕ) where

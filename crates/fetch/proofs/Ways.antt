@@ -1,18 +1,21 @@
 -- A rule for each way through the code: what a function has learnt on that way gives what it promises.
 use Prim.Native.Nat.{ℕ, ◌+◌, ◌<◌}
-use mathlib.Core.Path.{◌≡◌, sym, ap, ◌∙◌}
+use mathlib.Core.Path.{◌≡◌, refl, sym, ap, ◌∙◌}
 use mathlib.Core.Bool.{Bool, true}
 use mathlib.Core.List.{List, []}
 use mathlib.Core.Logic.{◌≢◌}
 use native.Mathlib.Omega.{arith}
 use borrow.Author.Tests.{eq-eqb, ne_eqb}
+use Rattle.std.specs.Prelude.{Option, None, Some}
 use Rattle.rules.specs.Tables.{Tables, tables, seat_width, phase_at, own_at, prev_at, cur_at, link_word, seat_word, put_seat, node_count_of, node_count, seat_count, phase, prev, cur}
 use Rattle.rules.specs.Comparison.{Claim}
 use Rattle.rules.specs.Shape.{sound}
 use Rattle.rules.specs.Reach.{free, lowest_free, count_free}
 use Rattle.rules.specs.Stores.{ListEnds}
+use Rattle.rules.specs.Means.{node_if_any}
 use Rattle.rules.specs.Fetch.{taken_out, write_claim, reserve_for, take_node, Fetched, fetched, fetch_again, fetch}
 use Rattle.rules.proofs.Ground.Counting.{count_cut}
+use Rattle.rules.proofs.Laws.Meanings.{no_node, some_node, named}
 use Rattle.rules.proofs.Laws.Words.{seat_put_field, put_seat_self}
 use Rattle.rules.proofs.Laws.Shape.{is_sound, in_6}
 use Rattle.rules.proofs.Rules.Reasons.{fetch_none}
@@ -68,25 +71,52 @@ pub taken : (sheet : Bool) (nodes nodes' seats seats' : List ℕ) (s a : ℕ) (c
 unfolding take_node write_claim reserve_for
 taken sheet nodes nodes' seats seats' s a c p q = rw (p, q)
 
--- ---- fetch
-module _ (sheet : Bool) (nodes seats nodes' seats' : List ℕ) (s a : ℕ) (c : Claim) where
-  pub again_none : a ≡ lowest_free (taken_out (tables sheet nodes seats)) s → a ≡ 0 → fetched 0 (tables sheet nodes seats) ≡ fetch_again (tables sheet nodes seats) s c
+-- ---- fetch: what it answers and leaves, beside what the rule does
+abbrev pub Took : Option ℕ → Tables → Fetched → Type 0
+Took r t f = (r ≡ node_if_any f.node) × (t ≡ f.after)
+
+took_node : (a : ℕ) (t : Tables) (f : Fetched) → fetched a t ≡ f → a ≢ 0 → Took (Some a) t f
+took_node a t f e d = (named f.node a (sym (ap (λ (g : Fetched). g.node) e)) d, ap (λ (g : Fetched). g.after) e)
+
+took_none : (t : Tables) (f : Fetched) → fetched 0 t ≡ f → Took None t f
+unfolding node_if_any
+took_none t f e = rw (← e) (refl, refl)
+
+module _ (sheet : Bool) (nodes seats nodes' seats' : List ℕ) (s : ℕ) (c : Claim) where
+  pub again_none : None ≡ node_if_any (lowest_free (taken_out (tables sheet nodes seats)) s) → Took None (tables sheet nodes seats) (fetch_again (tables sheet nodes seats) s c)
   unfolding fetch_again
-  again_none p z = rw (eq-eqb (lowest_free (taken_out (tables sheet nodes seats)) s) 0 (sym p ∙ z))
+  again_none p = took_none (tables sheet nodes seats) _ (rw (eq-eqb (lowest_free (taken_out (tables sheet nodes seats)) s) 0 (no_node _ p)))
 
-  pub again_taken : (mid : List ℕ) → tables sheet nodes' seats' ≡ take_node (tables sheet mid seats) s a c → mid ≡ (taken_out (tables sheet nodes [])).nodes → a ≡ lowest_free (taken_out (tables sheet nodes seats)) s → a ≢ 0 → fetched a (tables sheet nodes' seats') ≡ fetch_again (tables sheet nodes seats) s c
+  pub again_taken : (mid : List ℕ) (a : ℕ) → tables sheet nodes' seats' ≡ take_node (tables sheet mid seats) s a c → mid ≡ (taken_out (tables sheet nodes [])).nodes
+      → Some a ≡ node_if_any (lowest_free (taken_out (tables sheet nodes seats)) s) → Took (Some a) (tables sheet nodes' seats') (fetch_again (tables sheet nodes seats) s c)
   unfolding fetch_again
-  again_taken mid w q p z =
-      rw (ne_eqb (lowest_free (taken_out (tables sheet nodes seats)) s) 0 (λ y. z (p ∙ y)), ← p, ← taken_out_alone sheet nodes seats) (ap (fetched a) (w ∙ ap (λ (l : List ℕ). take_node (tables sheet l seats) s a c) q))
+  again_taken mid a w q p =
+      let is : (lowest_free (taken_out (tables sheet nodes seats)) s ≡ a) × (a ≢ 0) = some_node _ a p in
+      took_node a (tables sheet nodes' seats') _
+      (rw (ne_eqb (lowest_free (taken_out (tables sheet nodes seats)) s) 0 (λ y. is.1 (sym is.0 ∙ y)), is.0, ← taken_out_alone sheet nodes seats)
+      (ap (fetched a) (w ∙ ap (λ (l : List ℕ). take_node (tables sheet l seats) s a c) q)))
+      is.1
 
-  pub fetch_taken : tables sheet nodes' seats' ≡ take_node (tables sheet nodes seats) s a c → a ≡ lowest_free (tables sheet nodes seats) s → a ≢ 0 → fetched a (tables sheet nodes' seats') ≡ fetch (tables sheet nodes seats) s c
+  pub fetch_taken : (a : ℕ) → tables sheet nodes' seats' ≡ take_node (tables sheet nodes seats) s a c → Some a ≡ node_if_any (lowest_free (tables sheet nodes seats) s)
+      → Took (Some a) (tables sheet nodes' seats') (fetch (tables sheet nodes seats) s c)
   unfolding fetch
-  fetch_taken w p z = rw (ne_eqb (lowest_free (tables sheet nodes seats) s) 0 (λ y. z (p ∙ y)), ← p, w)
+  fetch_taken a w p =
+      let is : (lowest_free (tables sheet nodes seats) s ≡ a) × (a ≢ 0) = some_node _ a p in
+      took_node a (tables sheet nodes' seats') _
+      (rw (ne_eqb (lowest_free (tables sheet nodes seats) s) 0 (λ y. is.1 (sym is.0 ∙ y)), is.0, w))
+      is.1
 
-  pub fetch_tried_again : (b : ℕ) → fetched a (tables sheet nodes' seats') ≡ fetch_again (tables sheet nodes seats) s c → b ≡ lowest_free (tables sheet nodes seats) s → b ≡ 0 → fetched a (tables sheet nodes' seats') ≡ fetch (tables sheet nodes seats) s c
+  pub fetch_tried_again : (r : Option ℕ) → None ≡ node_if_any (lowest_free (tables sheet nodes seats) s) → Took r (tables sheet nodes' seats') (fetch_again (tables sheet nodes seats) s c)
+      → Took r (tables sheet nodes' seats') (fetch (tables sheet nodes seats) s c)
   unfolding fetch
-  fetch_tried_again b w p z = rw (eq-eqb (lowest_free (tables sheet nodes seats) s) 0 (sym p ∙ z)) w
+  fetch_tried_again r p w = rw (eq-eqb (lowest_free (tables sheet nodes seats) s) 0 (no_node _ p)) w
 
   -- what a caller knows where none is free
-  pub none_kept : fetched a (tables sheet nodes' seats') ≡ fetch (tables sheet nodes seats) s c → a ≡ 0 → tables sheet nodes' seats' ≡ tables sheet nodes seats
-  none_kept p z = ap (λ (f : Fetched). f.after) p ∙ fetch_none (tables sheet nodes seats) s c (sym (ap (λ (f : Fetched). f.node) p) ∙ z)
+  pub none_kept : Took None (tables sheet nodes' seats') (fetch (tables sheet nodes seats) s c) → tables sheet nodes' seats' ≡ tables sheet nodes seats
+  none_kept w = w.1 ∙ fetch_none (tables sheet nodes seats) s c (no_node _ w.0)
+
+  pub none_is : Took None (tables sheet nodes' seats') (fetch (tables sheet nodes seats) s c) → fetched 0 (tables sheet nodes' seats') ≡ fetch (tables sheet nodes seats) s c
+  none_is w = rw (w.1, ← no_node _ w.0)
+
+  pub node_is : (a : ℕ) → Took (Some a) (tables sheet nodes' seats') (fetch (tables sheet nodes seats) s c) → (fetched a (tables sheet nodes' seats') ≡ fetch (tables sheet nodes seats) s c) × (a ≢ 0)
+  node_is a w = let is : ((fetch (tables sheet nodes seats) s c).node ≡ a) × (a ≢ 0) = some_node _ a w.0 in (rw (w.1, ← is.0), is.1)

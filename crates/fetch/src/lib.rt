@@ -19,8 +19,7 @@ pub fn free_count<P: Profile>(nodes: &[u32], seats: &[u32]) -> u32
     ensures { result ≡ count_free (tables P.SHEET nodes.now seats.now) }
 {
     let count = words::seat_count::<P>(seats) as u32;
-    let free = reach::free_set::<P>(nodes, seats, count);
-    nodesets::count(free)
+    reach::free_set::<P>(nodes, seats, count).count()
 }
 
 // ---- what is stored
@@ -105,8 +104,8 @@ fn fetch_again<P: Profile>(nodes: &mut [u32], seats: &mut [u32], s: u32, claim: 
     requires tables_sound { sound (tables P.SHEET nodes.old seats.old) ≡ true }
     requires no_prev { prev (tables P.SHEET [] seats.old) s ≡ 0 }
     requires no_cur { cur (tables P.SHEET [] seats.old) s ≡ 0 }
-    ensures node { result ≡ node_if_any (fetch_again (tables P.SHEET nodes.old seats.old) s (means_claim claim)).node }
-    ensures after { tables P.SHEET nodes.new seats.new ≡ (fetch_again (tables P.SHEET nodes.old seats.old) s (means_claim claim)).after }
+    ensures { let rule = fetch_again (tables P.SHEET nodes.old seats.old) s (means_claim claim)
+        in (result ≡ node_if_any rule.node) × (tables P.SHEET nodes.new seats.new ≡ rule.after) }
 {
     let a = reach::lowest_free_after::<P>(nodes, seats, s)?;
     take_out::<P>(nodes);
@@ -119,8 +118,8 @@ pub fn fetch<P: Profile>(nodes: &mut [u32], seats: &mut [u32], s: u32, claim: Cl
     requires tables_sound { sound (tables P.SHEET nodes.old seats.old) ≡ true }
     requires no_prev { prev (tables P.SHEET [] seats.old) s ≡ 0 }
     requires no_cur { cur (tables P.SHEET [] seats.old) s ≡ 0 }
-    ensures node { result ≡ node_if_any (fetch_rule (tables P.SHEET nodes.old seats.old) s (means_claim claim)).node }
-    ensures after { tables P.SHEET nodes.new seats.new ≡ (fetch_rule (tables P.SHEET nodes.old seats.old) s (means_claim claim)).after }
+    ensures { let rule = fetch_rule (tables P.SHEET nodes.old seats.old) s (means_claim claim)
+        in (result ≡ node_if_any rule.node) × (tables P.SHEET nodes.new seats.new ≡ rule.after) }
 {
     let Some(a) = reach::lowest_free::<P>(nodes, seats, s) else {
         return fetch_again::<P>(nodes, seats, s, claim);

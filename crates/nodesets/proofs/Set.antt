@@ -15,7 +15,8 @@ use Rattle.rules.specs.Notation.{◌is◌, ◌<?◌, count, lowest}
 use Rattle.rules.proofs.Ground.Logic.{either, same, not_of}
 use Rattle.rules.proofs.Ground.Counting.{count_none, count_split, count_alike, count_small, lowest_at, lowest_none}
 use Rattle.nodesets.specs.Word.{in_word, add_word}
-use Rattle.nodesets.specs.Set.{has, none, add, members, node_if_any}
+use Rattle.rules.specs.Means.{node_if_any}
+use Rattle.nodesets.specs.Set.{has, none, add, members}
 use Rattle.nodesets.proofs.Word.{in_zero, in_add, add_in, add_again as word_again, ones_count, trailing_in, trailing_below}
 
 -- ---- a node by its word and its number there

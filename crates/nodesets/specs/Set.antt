@@ -1,5 +1,5 @@
 -- A set of the nodes 1 to 256 as four words: node m + 1 is number m % 64 of word m / 64. Node 0 is in no set.
-use Rattle.std.specs.Prelude.{ℕ, zero, suc, ◌+◌, ◌/◌, ◌%◌, Bool, false, List, [], ◌∷◌, get_or, set, Option, None, Some}
+use Rattle.std.specs.Prelude.{ℕ, zero, suc, ◌+◌, ◌/◌, ◌%◌, Bool, false, List, [], ◌∷◌, get_or, set}
 use Rattle.rules.specs.Notation.{count}
 use Rattle.nodesets.specs.Word.{in_word, add_word}
 
@@ -19,8 +19,3 @@ add ws (suc m) = set ws (m / 64) (add_word (get_or ws (m / 64) 0) (m % 64))
 -- how many of the nodes 1 to n are in the set
 unfoldable pub members : List ℕ → ℕ → ℕ
 members ws n = count n (λ m. has ws (m + 1))
-
--- a node as the rules name it, where 0 names none
-unfoldable pub node_if_any : ℕ → Option ℕ
-node_if_any zero = None
-node_if_any (suc m) = Some (suc m)

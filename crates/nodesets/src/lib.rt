@@ -3,8 +3,9 @@
 
 ghost use Rattle.std.specs.Prelude.{◌≡◌, ◌&&◌, not, ◌≢◌, ℕ, ◌+◌, ◌≤◌, ◌<◌};
 ghost use Rattle.rules.specs.Notation.{◌<?◌, lowest as lowest_of};
+ghost use Rattle.rules.specs.Means.{node_if_any};
 ghost use Rattle.nodesets.specs.Word.{in_word, add_word};
-ghost use Rattle.nodesets.specs.Set.{has, none, add, members, node_if_any};
+ghost use Rattle.nodesets.specs.Set.{has, none, add, members};
 
 use std::marker::Model;
 

@@ -2,12 +2,13 @@
 use Prim.Native.Nat.{ℕ, ◌≤◌, ◌<◌, ◌+◌, ◌*◌}
 use mathlib.Core.Path.{◌≡◌, refl, sym, ap, ◌∙◌}
 use mathlib.Core.Bool.{Bool, true}
-use mathlib.Core.List.{List}
+use mathlib.Core.List.{List, []}
 use mathlib.Core.Logic.{◌≢◌}
 use native.Mathlib.Omega.{arith}
 use borrow.Author.Tests.{ne_eqb, le-leb, lt-leb}
 use Rattle.rules.specs.Tables.{Tables, tables, node_word, seat_word, seat_count_of, phase_at, own_at, start_at, end_at, kind_at, seat_width}
-use Rattle.rules.specs.Comparison.{claim, claim_of}
+use Rattle.std.specs.Prelude.{Option, None, Some}
+use Rattle.rules.specs.Comparison.{Claim, claim_of}
 use Rattle.rules.specs.Shape.{sound}
 use Rattle.rules.specs.Fetch.{fetched, fetch}
 use Rattle.rules.specs.Answers.{Answer, Done, done, answered}
@@ -21,7 +22,7 @@ use Rattle.rules.proofs.Rules.Reasons.{by_phase_1, by_phase_2, by_phase_3, by_ph
 use Rattle.rules.proofs.Laws.Counts.{count_few}
 use Rattle.steps.specs.Parts.{count_of_kind}
 use Rattle.steps.proofs.OwnWords as own
-use Rattle.fetch.proofs.Ways.{none_kept}
+use Rattle.fetch.proofs.Ways.{Took, none_kept, none_is, node_is}
 use Rattle.phases.specs.Parts.{unanswered, step_busy}
 
 -- what is answered from a seat's phase is no refusal
@@ -29,18 +30,22 @@ accepted : (u : Tables) (s : ℕ) → done 0 u ≡ unanswered (answered u s)
 accepted u s = rw (answer_accepts u s)
 
 -- ---- phase 6
-module _ (sheet : Bool) (n t n' t' : List ℕ) (s x y k a : ℕ) (is_fetched : fetched a (tables sheet n' t') ≡ fetch (tables sheet n t) s (claim x y k))
-    (o : ℕ) (is_kind' : k ≡ node_word sheet n o kind_at) (is_end : y ≡ node_word sheet n o end_at) (is_start : x ≡ node_word sheet n o start_at) (is_own : o ≡ seat_word sheet t s own_at) where
-  same_claim : claim x y k ≡ claim_of (tables sheet n t) (seat_word sheet t s own_at)
-  same_claim = rw (is_start, is_end, is_kind', is_own)
+module _ (sheet : Bool) (n t n' t' : List ℕ) (s o : ℕ) (c : Claim) (is_claim : c ≡ claim_of (tables sheet n []) o) (is_own : o ≡ seat_word sheet t s own_at) where
+  same_claim : c ≡ claim_of (tables sheet n t) (seat_word sheet t s own_at)
+  same_claim = rw (is_claim, is_own)
 
-  pub refetch_none : a ≡ 0 → done 8 (tables sheet n' t') ≡ unanswered (withdrawn (tables sheet n t) s)
-  unfolding withdrawn refetched
-  refetch_none e = rw (none_kept sheet n t n' t' s a (claim x y k) is_fetched e, ← same_claim, ← is_fetched, e)
+  module _ (r : Option ℕ) (took : Took r (tables sheet n' t') (fetch (tables sheet n t) s c)) where
+    pub refetch_none : r ≡ None → done 8 (tables sheet n' t') ≡ unanswered (withdrawn (tables sheet n t) s)
+    unfolding withdrawn refetched
+    refetch_none e =
+        let w = rw e at took in
+        rw (none_kept sheet n t n' t' s c w, ← same_claim, ← none_is sheet n t n' t' s c w)
 
-  pub refetch_node : a ≢ 0 → done 0 (tables sheet n' t') ≡ unanswered (withdrawn (tables sheet n t) s)
-  unfolding withdrawn refetched
-  refetch_node d = rw (← same_claim, ← is_fetched, ne_eqb a 0 d) (accepted (tables sheet n' t') s)
+    pub refetch_node : (a : ℕ) → r ≡ Some a → done 0 (tables sheet n' t') ≡ unanswered (withdrawn (tables sheet n t) s)
+    unfolding withdrawn refetched
+    refetch_node a e =
+        let is = node_is sheet n t n' t' s c a (rw e at took) in
+        rw (← same_claim, ← is.0, ne_eqb a 0 is.1) (accepted (tables sheet n' t') s)
 
 -- ---- by the phase
 from_8 : (p : ℕ) → 4 ≤ p → p ≢ 4 → p ≢ 5 → p ≢ 6 → p ≢ 7 → 8 ≤ p

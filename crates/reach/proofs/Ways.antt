@@ -1,6 +1,6 @@
 -- A rule for each way through the code: what a function has learnt on that way gives what it promises.
 use Prim.Native.Nat.{ℕ, zero, suc, ◌+◌, ◌-◌, ◌≤◌, ◌<◌}
-use mathlib.Core.Path.{◌≡◌, refl, sym, ◌∙◌}
+use mathlib.Core.Path.{◌≡◌, refl, sym, ap, ◌∙◌}
 use mathlib.Core.Bool.{Bool, true, false, ◌&&◌, not, or-true}
 use mathlib.Core.List.{List, []}
 use mathlib.Core.Logic.{◌≢◌}
@@ -11,9 +11,11 @@ use borrow.Author.Tests.{eq-eqb, ne_eqb, eqb-true}
 use mir.Syntax.{w32}
 use mir.Val.{Fits}
 use Rattle.rules.specs.Notation.{◌is◌, ◌<?◌, lowest}
+use Rattle.std.specs.Prelude.{Option}
 use Rattle.rules.specs.Tables.{Tables, tables, own_at, prev_at, cur_at, mark_at, node_word, link_word, seat_word, node_count_of, seat_count_of, node_count, seat_count, head, next}
 use Rattle.rules.specs.Shape.{sound}
 use Rattle.rules.specs.Reach.{free, lowest_free}
+use Rattle.rules.specs.Means.{node_if_any}
 use Rattle.rules.specs.Fetch.{kept_from, kept, taken_out}
 use Rattle.rules.proofs.Ground.Logic.{both}
 use Rattle.rules.proofs.Ground.Counting.{lowest_cut}
@@ -160,6 +162,6 @@ module _ (sheet : Bool) (nodes seats : List ℕ) (ok : sound (tables sheet nodes
         free_nodes = λ m h. f m h ∙ rw (p, q, b, kept_alone sheet nodes seats, after_free whole w s (m + 1), after_count whole w);
       }
 
-pub lowest_read : (ws : List ℕ) (t : Tables) (s r : ℕ) → r ≡ lowest 256 (has ws) → IsFreeSet ws t s → r ≡ lowest_free t s
+pub lowest_read : (ws : List ℕ) (t : Tables) (s : ℕ) (r : Option ℕ) → r ≡ node_if_any (lowest 256 (has ws)) → IsFreeSet ws t s → r ≡ node_if_any (lowest_free t s)
 unfolding lowest_free
-lowest_read ws t s r p f = p ∙ lowest_cut (node_count t) 256 (has ws) (free t s) f.few (λ m h. rw (add-one m) at (f.free_nodes m h))
+lowest_read ws t s r p f = p ∙ ap node_if_any (lowest_cut (node_count t) 256 (has ws) (free t s) f.few (λ m h. rw (add-one m) at (f.free_nodes m h)))

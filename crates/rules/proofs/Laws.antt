@@ -25,3 +25,4 @@ pub mod Locks
 pub mod LocksRefused
 pub mod ThereAndBack
 pub mod OneAnswer
+pub mod Meanings

@@ -1,7 +1,6 @@
 -- "Where an answer is an enum, a definition gives, for each of its cases, this paper's number and values. The promises use that
 -- definition."
-use Rattle.std.specs.Prelude.{ℕ, Option, Some, None, Result, Ok, Err, if◌then◌else◌}
-use Rattle.rules.specs.Notation.{◌is◌}
+use Rattle.std.specs.Prelude.{ℕ, zero, suc, Option, Some, None, Result, Ok, Err}
 use Rattle.rules.specs.Comparison as comparison
 use Rattle.rules.specs.Answers.{Answer, node, out, on, wait, held, back, refused}
 use Rattle.rules.specs.FreeCount.{Counted}
@@ -84,5 +83,6 @@ abbrev pub means_claim : Claim → comparison.Claim
 means_claim c = comparison.claim c.start c.end c.kind
 
 -- "Node 0 is no node": where the rules say 0, there is none
-abbrev pub node_if_any : ℕ → Option ℕ
-node_if_any a = if a is 0 then None else Some a
+unfoldable pub node_if_any : ℕ → Option ℕ
+node_if_any zero = None
+node_if_any (suc m) = Some (suc m)

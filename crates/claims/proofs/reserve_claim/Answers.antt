@@ -3,11 +3,11 @@
 use Rattle.claims.proofs.Ways.{reserve_empty, reserve_beyond, reserve_kind, reserve_busy, reserve_idle}
 use Rattle.claims.proofs.reserve_claim.Goals as goal
 
-pub returns-then-end-start : goal.returns-then-end-start
-returns-then-end-start g c = search (reserve_empty, reserve_beyond, reserve_kind, reserve_busy)
+pub returns-then-claim : goal.returns-then-claim
+returns-then-claim g c = search (reserve_empty, reserve_beyond, reserve_kind, reserve_busy)
 
-pub returns-then-title-end : goal.returns-then-title-end
-returns-then-title-end g c = search (reserve_empty, reserve_beyond, reserve_kind, reserve_busy)
+pub returns-then-title-claim : goal.returns-then-title-claim
+returns-then-title-claim g c = search (reserve_empty, reserve_beyond, reserve_kind, reserve_busy)
 
 pub returns-then-not-known : goal.returns-then-not-known
 returns-then-not-known g c = search (reserve_empty, reserve_beyond, reserve_kind, reserve_busy)

@@ -1,8 +1,10 @@
+-- `fetch::fetch` meets its promise.
+use Rattle.std.proofs.Common.{sym, ◌∙◌}
 use Rattle.fetch.proofs.Ways.{fetch_taken, fetch_tried_again}
 use Rattle.fetch.proofs.fetch.Goals as goal
 
-pub returns-then-a-eq0 : goal.returns-then-a-eq0
-returns-then-a-eq0 g c = search fetch_tried_again
+pub returns-in_default : goal.returns-in_default
+returns-in_default g c = fetch_tried_again _ _ _ _ _ _ _ _ (sym c.in_default.is ∙ c.lowest_free.ensures) c.fetch_again.ensures
 
 pub returns : goal.returns
-returns g c = search fetch_taken
+returns g c = fetch_taken _ _ _ _ _ _ _ _ c.take_node.ensures c.in-Some.ensures
