@@ -5,6 +5,7 @@ ghost use Rattle.std.specs.Prelude.{◌≡◌, true, [], ◌≤◌};
 ghost use Rattle.rules.specs.Tables.{tables};
 ghost use Rattle.rules.specs.Shape.{nodes_fit, sound};
 ghost use Rattle.rules.specs.Answers.{done};
+ghost use Rattle.rules.specs.Means.{means_run};
 ghost use Rattle.rules.specs.Run as rule;
 ghost use Rattle.run.specs.Parts as part;
 
@@ -24,17 +25,14 @@ fn is_kept_sound<P: Profile>(nodes: &[u32], before: u32, after: u32) -> bool
 
 // The answer of a run whose tables are found damaged after so many steps: its next entry is refused, if there is one.
 fn stop_at_damage(steps: u32, entries: usize, budget: u32) -> Ran
-    ensures { result ≡ part.stop_at_damage steps entries budget }
+    ensures { means_run result ≡ part.stop_at_damage steps entries budget }
 {
     if (steps == budget) | (entries <= steps as usize) {
-        return Ran {
-            steps: steps,
-            refusal: 0,
-        };
+        return Ran { steps, refusal: None };
     }
     Ran {
-        steps: steps,
-        refusal: 1,
+        steps,
+        refusal: Some(Refused::Damaged),
     }
 }
 
@@ -47,36 +45,29 @@ fn run_steps<P: Profile>(
     budget: u32,
 ) -> Ran
     requires { sound (tables P.SHEET nodes.old seats.old) ≡ true }
-    ensures { done result (tables P.SHEET nodes.new seats.new) ≡ rule.run_steps budget (tables P.SHEET nodes.old seats.old) schedule.now }
+    ensures { done (means_run result) (tables P.SHEET nodes.new seats.new) ≡ rule.run_steps budget (tables P.SHEET nodes.old seats.old) schedule.now }
 {
     let mut steps: u32 = 0;
     loop {
         if steps == budget {
-            break Ran {
-                steps: steps,
-                refusal: 0,
-            };
+            break Ran { steps, refusal: None };
         }
         if schedule.len() <= steps as usize {
-            break Ran {
-                steps: steps,
-                refusal: 0,
-            };
+            break Ran { steps, refusal: None };
         }
         let s = schedule[steps as usize];
         let count = words::seat_count::<P>(seats) as u32;
         if count <= s {
             break Ran {
-                steps: steps,
-                refusal: 2,
+                steps,
+                refusal: Some(Refused::NoSuchSeat),
             };
         }
         let before = words::seat_word_within::<P>(seats, s, words::PHASE);
-        let refusal = phases::step_known::<P>(nodes, seats, s);
-        if refusal != 0 {
+        if let Err(why) = phases::step_known::<P>(nodes, seats, s) {
             break Ran {
-                steps: steps,
-                refusal: refusal,
+                steps,
+                refusal: Some(why),
             };
         }
         let after = words::seat_word_within::<P>(seats, s, words::PHASE);
@@ -88,13 +79,13 @@ fn run_steps<P: Profile>(
 }
 
 pub fn run<P: Profile>(nodes: &mut [u32], seats: &mut [u32], schedule: &[u32], budget: u32) -> Ran
-    ensures { done result (tables P.SHEET nodes.new seats.new) ≡ rule.run (tables P.SHEET nodes.old seats.old) schedule.now budget }
+    ensures { done (means_run result) (tables P.SHEET nodes.new seats.new) ≡ rule.run (tables P.SHEET nodes.old seats.old) schedule.now budget }
 {
     if shape::is_sound::<P>(nodes, seats) {
         return run_steps::<P>(nodes, seats, schedule, budget);
     }
     Ran {
         steps: 0,
-        refusal: 1,
+        refusal: Some(Refused::Damaged),
     }
 }

@@ -2,6 +2,7 @@
 use mathlib.Core.Bool.{not}
 use mathlib.Core.Path.{refl, ap}
 use native.Mathlib.Omega.{arith}
+use Rattle.rules.proofs.Laws.Meanings.{some_number}
 use Rattle.rules.proofs.Laws.Shape.{seats_few}
 use borrow.Author.Rules.{rules}
 use Rattle.run.proofs.Counting.{seat_there, still_there, left_all, left_again, left_refused, left_past, left_budget, left_end, left_stopped, still_fit, still_sound, now_damaged}
@@ -25,13 +26,13 @@ is_kept_sound-requires g c = search still_fit
 pub loop-steps-preserved : goal.loop-steps-preserved
 loop-steps-preserved g c =
     let loop = c.loop-steps.invariant in
-    let stepped = c.step_known-refusal.ensures in (
+    let stepped = c.in_default.ensures in (
       search rules,
       search rules,
       omega (arith, loop.2, c.if-steps-budget.false),
       omega (arith, loop.3, c.if-schedule-steps.false),
       still_sound _ _ _ _ _ _ _ _ _ _ stepped c.seat_word_within-before.ensures c.seat_word_within-after.ensures c.is_kept_sound.ensures (ap not c.if-not-is_kept_sound.false) loop.4,
-      left_again _ _ _ _ _ _ _ _ _ _ _ loop.5 stepped refl (omega (arith, loop.2, c.if-steps-budget.false)) (omega (arith, loop.3, c.if-schedule-steps.false)) c.if-refusal-ne0.false,
+      left_again _ _ _ _ _ _ _ _ _ _ _ loop.5 stepped refl (omega (arith, loop.2, c.if-steps-budget.false)) (omega (arith, loop.3, c.if-schedule-steps.false)) refl,
     )
 
 pub returns-then-steps-budget : goal.returns-then-steps-budget
@@ -45,17 +46,17 @@ returns-then-count-s g c =
     let loop = c.loop-steps.invariant in
     left_past _ _ _ _ _ _ _ _ _ loop.5 loop.4 c.seat_count-count.ensures c.if-count-s.true refl (omega (arith, loop.2, c.if-steps-budget.false)) (omega (arith, loop.3, c.if-schedule-steps.false))
 
-pub returns-then-refusal-ne0 : goal.returns-then-refusal-ne0
-returns-then-refusal-ne0 g c =
+pub returns-in-Err : goal.returns-in-Err
+returns-in-Err g c =
     let loop = c.loop-steps.invariant in
-    left_refused _ _ _ _ _ _ _ _ _ _ _ loop.5 c.step_known-refusal.ensures refl (omega (arith, loop.2, c.if-steps-budget.false)) (omega (arith, loop.3, c.if-schedule-steps.false)) c.if-refusal-ne0.true
+    left_refused _ _ _ _ _ _ _ _ _ _ _ loop.5 c.in-Err.ensures refl (omega (arith, loop.2, c.if-steps-budget.false)) (omega (arith, loop.3, c.if-schedule-steps.false)) (some_number _)
 
 pub returns-then-not-is_kept_sound : goal.returns-then-not-is_kept_sound
 returns-then-not-is_kept_sound g c =
     let loop = c.loop-steps.invariant in
-    let stepped = c.step_known-refusal.ensures in
+    let stepped = c.in_default.ensures in
     left_stopped _ _ _ _ _ _ _ _
-    (left_again _ _ _ _ _ _ _ _ _ _ _ loop.5 stepped refl (omega (arith, loop.2, c.if-steps-budget.false)) (omega (arith, loop.3, c.if-schedule-steps.false)) c.if-refusal-ne0.false)
+    (left_again _ _ _ _ _ _ _ _ _ _ _ loop.5 stepped refl (omega (arith, loop.2, c.if-steps-budget.false)) (omega (arith, loop.3, c.if-schedule-steps.false)) refl)
     c.stop_at_damage.ensures
     (now_damaged _ _ _ _ _ _ _ _ _ _ stepped c.seat_word_within-before.ensures c.seat_word_within-after.ensures c.is_kept_sound.ensures (ap not c.if-not-is_kept_sound.true))
     (omega (arith, loop.2, c.if-steps-budget.false)) (omega (arith, loop.3, c.if-schedule-steps.false))
