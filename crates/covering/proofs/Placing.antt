@@ -10,11 +10,22 @@ use native.Mathlib.Decide.{ℕ_discrete, dec_lt}
 use lib.ListN.{get_or, set, length, length-set}
 use lib.Seq.{get_or-set_same}
 use Rattle.rules.specs.Board.{covers, some_covers}
+use Rattle.rules.specs.declared.Row.{Row}
 use Rattle.rules.proofs.Ground.Logic.{same, clash, or_case, or_left, or_right}
 use Rattle.covering.specs.Runs.{run_of, first_of, end_of, row_of_run, rows_in, Ordered, CoversOneMore}
 use Rattle.covering.specs.Moving.{up_from, down_from, Lower, Higher, Ends, Put}
 
--- ---- some run of those in the places covers a frame
+-- ---- the rows of the runs in the places
+pub rows_length : (runs : List ℕ) (low n : ℕ) → length (rows_in runs low n) ≡ n
+unfolding rows_in
+rows_length runs low zero = refl
+rows_length runs low (suc n) = ap suc (rows_length runs low n)
+
+-- where fewer than 64 rows are seen, there are fewer than 64 runs
+pub room : (runs : List ℕ) (low count : ℕ) (rows : List Row) → rows_in runs low count ≡ rows → length rows < 64 → count < 64
+room runs low count rows e h = rw (← e, rows_length) at h
+
+-- some run of those in the places covers a frame
 pub rows_cover : (runs : List ℕ) (low n f : ℕ) → some_covers (rows_in runs low n) f ≡ true
     → (j : ℕ) × (j < n) × (covers (row_of_run (get_or runs (low + j) 0)) f ≡ true)
 unfolding rows_in some_covers
@@ -31,6 +42,12 @@ cover_rows runs low (suc n) f j h e = elim (ℕ_discrete j n) [
   | yes z ↦ or_left (covers (row_of_run (get_or runs (low + n) 0)) f) (some_covers (rows_in runs low n) f) (ap (λ (i : ℕ). covers (row_of_run (get_or runs (low + i) 0)) f) (sym z) ∙ e)
   | no z ↦ or_right (covers (row_of_run (get_or runs (low + n) 0)) f) (some_covers (rows_in runs low n) f) (cover_rows runs low n f j (omega arith) e)
 ]
+
+-- ---- what is promised of one run more
+pub record OneMore (before : List ℕ) (low count first end : ℕ) (after : List ℕ) (start held : ℕ) : Type 0 where
+  pub ordered : Ordered after start (held + 1)
+  pub counted : length (rows_in after start (held + 1)) ≡ length (rows_in before low count) + 1
+  pub covers : CoversOneMore (rows_in before low count) first end (rows_in after start (held + 1))
 
 -- ---- a run in its place: the `rank`-th of them
 record Placed (before : List ℕ) (low count run : ℕ) (after : List ℕ) (start : ℕ) : Type 0 where
@@ -78,7 +95,7 @@ module _ (before : List ℕ) (low count run : ℕ) (after : List ℕ) (start : �
       go (one_behind m y a c e) (itself b f) = absurd (omega arith)
       go (one_behind m y a c e) (one_behind n z b d f) = rw (e, f) (rising m n (omega arith) d)
 
-  placed_covers : CoversOneMore before low count (first_of run) (end_of run) after start
+  placed_covers : CoversOneMore (rows_in before low count) (first_of run) (end_of run) (rows_in after start (count + 1))
   placed_covers f =
       same (some_covers (rows_in after start (count + 1)) f) (covers (row_of_run run) f || some_covers (rows_in before low count) f)
       (λ e. let w = rows_cover after start (count + 1) f e in from w.0 w.2 (whence w.0 w.1))
@@ -106,15 +123,19 @@ module _ (before : List ℕ) (low count run : ℕ) (after : List ℕ) (start : �
       ]
 
   placed : (first end : ℕ) → end < 4294967296 → run ≡ run_of first end → Ordered before low count → count < 64 → length after ≡ length before
-      → start ≤ 64 → 64 ≤ start + (count + 1) → Ordered after start (count + 1) × CoversOneMore before low count first end after start
+      → start ≤ 64 → 64 ≤ start + (count + 1) → OneMore before low count first end after start count
   placed first end fits is o h l s u =
       let above : first ≡ first_of run = omega arith in
       let below : end ≡ end_of run = omega arith in
-      (record { places = l ∙ o.places; from = s; upto = u; few = omega arith; rising = placed_rising o.rising }, rw (above, below) placed_covers)
+      record {
+        ordered = record { places = l ∙ o.places; from = s; upto = u; few = omega arith; rising = placed_rising o.rising };
+        counted = simp rows_length;
+        covers = rw (above, below) placed_covers;
+      }
 
 -- ---- the first run
 module _ (runs : List ℕ) (low count first end run : ℕ) (fits : end < 4294967296) (is : run ≡ run_of first end) (o : Ordered runs low count) (h : count < 64) where
-  pub put_first : count ≡ 0 → Ordered (set runs low run) low (count + 1) × CoversOneMore runs low count first end (set runs low run) low
+  pub put_first : count ≡ 0 → OneMore runs low count first end (set runs low run) low count
   put_first z = placed runs low count run (set runs low run) low alone first end fits is o h (length-set runs low run) o.from (let u = o.upto in omega arith)
     where
       alone : Placed runs low count run (set runs low run) low
@@ -149,7 +170,7 @@ module _ (runs : List ℕ) (low count middle : ℕ) (is_middle : middle ≡ get_
   }
 
   module _ (after : List ℕ) (some : count ≢ 0) (first end : ℕ) (fits : end < 4294967296) (is : run ≡ run_of first end) where
-    pub put_lower : run < middle → Put (up_from low) (Lower run) runs run after → Ordered after (low - 1) (count + 1) × CoversOneMore runs low count first end after (low - 1)
+    pub put_lower : run < middle → Put (up_from low) (Lower run) runs run after → OneMore runs low count first end after (low - 1) count
     put_lower b p =
         placed runs low count run after (low - 1) in_place first end fits is o h p.way.same_length (let f = o.from in omega arith) (let u = o.upto in omega arith)
       where
@@ -193,7 +214,7 @@ module _ (runs : List ℕ) (low count middle : ℕ) (is_middle : middle ≡ get_
   }
 
   module _ (after : List ℕ) (first end : ℕ) (fits : end < 4294967296) (is : run ≡ run_of first end) where
-    pub put_higher : middle ≤ run → Put (down_from (low + count)) (Higher run) runs run after → Ordered after low (count + 1) × CoversOneMore runs low count first end after low
+    pub put_higher : middle ≤ run → Put (down_from (low + count)) (Higher run) runs run after → OneMore runs low count first end after low count
     put_higher b p = placed runs low count run after low in_place first end fits is o h p.way.same_length o.from (let u = o.upto in omega arith)
       where
         few : p.moved < count

@@ -35,6 +35,6 @@ pub record Ordered (runs : List ℕ) (low count : ℕ) : Type 0 where
   pub rising : (i j : ℕ) → i ≤ j → j < count → get_or runs (low + i) 0 ≤ get_or runs (low + j) 0
 
 -- what they cover after one more was put among those before
-abbrev pub CoversOneMore : List ℕ → ℕ → ℕ → ℕ → ℕ → List ℕ → ℕ → Type 0
-CoversOneMore before low count first end after start =
-    (frame : ℕ) → some_covers (rows_in after start (count + 1)) frame ≡ (covers (frames first end) frame || some_covers (rows_in before low count) frame)
+abbrev pub CoversOneMore : List Row → ℕ → ℕ → List Row → Type 0
+CoversOneMore before first end after =
+    (frame : ℕ) → some_covers after frame ≡ (covers (frames first end) frame || some_covers before frame)

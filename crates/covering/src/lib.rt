@@ -3,72 +3,113 @@
 // in rising or in falling order move none.
 #![tactic(auto)]
 
-ghost use Rattle.std.specs.Prelude.{◌≡◌, ◌+◌, ◌-◌, ◌≤◌, ◌<◌, max, length};
+ghost use Rattle.std.specs.Prelude.{◌≡◌, ◌+◌, ◌≤◌, ◌<◌, [], length};
 ghost use Rattle.rules.specs.Board.{covered_by};
-ghost use Rattle.covering.specs.Runs.{first_of, end_of, rows_in, Ordered, CoversOneMore};
+ghost use Rattle.covering.specs.Runs.{first_of, end_of, CoversOneMore};
 ghost use Rattle.covering.specs.Moving.{up_from, down_from, Lower, Higher, Ends, Put};
 
-// ---- a run is put in its place
+use std::marker::Model;
+
+// So many runs, count of them, from the place low on. A clause sees the rows of the board that they would be.
+#[derive(Drop)]
+pub struct Runs {
+    places: [u64; 128],
+    low: usize,
+    count: usize,
+}
+
+impl Model for Runs {
+    ghost use Rattle.std.specs.Prelude.{List};
+    ghost use Rattle.rules.specs.declared.Row.{Row};
+    ghost use Rattle.covering.specs.Runs.{rows_in, Ordered};
+
+    ghost Value = { List Row };
+
+    ghost view = { λ runs. rows_in runs.places runs.low runs.count };
+
+    ghost invariant = { λ runs. Ordered runs.places runs.low runs.count };
+}
+
+impl Runs {
+    pub fn none() -> Runs
+        ensures { result ≡ [] }
+    {
+        Runs {
+            places: [0; 128],
+            low: 64,
+            count: 0,
+        }
+    }
+
+    // Puts a run in its place among those that are there. At most half of them move.
+    pub fn put(&mut self, first: u32, end: u32)
+        requires has_room { length self.old < 64 }
+        ensures one_more { length self.new ≡ length self.old + 1 }
+        ensures covers_it { CoversOneMore self.old first end self.new }
+    {
+        let run = u64::from(first) * 4294967296 + u64::from(end);
+        let is_first = self.count == 0;
+        if is_first {
+            self.places[self.low] = run;
+        } else if run < self.places[self.low + self.count / 2] {
+            put_below(&mut self.places, self.low, run);
+            self.low -= 1;
+        } else {
+            put_above(&mut self.places, self.low + self.count, run);
+        }
+        self.count += 1;
+    }
+
+    // The frames that the runs cover. Each run adds those of its frames that lie past what the runs before it reached.
+    pub fn covered(&self) -> u64
+        ensures { result ≡ covered_by self.now }
+    {
+        let mut covered: u64 = 0;
+        let mut reached: u32 = 0;
+        for run in &self.places[self.low..self.low + self.count] {
+            let end = end_of(*run);
+            let from = reached.max(first_of(*run));
+            covered += u64::from(end.saturating_sub(from));
+            reached = reached.max(end);
+        }
+        covered
+    }
+}
+
+// ---- room is made in the places
 
 // Each run from low on that is lower moves down by one place. A run that is not lower must stand there, so that they end.
-fn put_below(runs: &mut [u64; 128], low: usize, run: u64)
-    requires is_whole { length runs.old ≡ 128 }
+fn put_below(places: &mut [u64; 128], low: usize, run: u64)
+    requires is_whole { length places.old ≡ 128 }
     requires has_place_below { 1 ≤ low }
-    requires ends { Ends (up_from low) (Lower run) runs.old }
-    ensures { Put (up_from low) (Lower run) runs.old run runs.new }
+    requires ends { Ends (up_from low) (Lower run) places.old }
+    ensures { Put (up_from low) (Lower run) places.old run places.new }
 {
     let mut at = low;
-    loop {
-        let next = runs[at];
-        if run <= next {
-            runs[at - 1] = run;
-            return;
-        }
-        runs[at - 1] = next;
+    // no range is known beforehand: one pass looks and moves, and stops where the run belongs
+    while places[at] < run {
+        places[at - 1] = places[at];
         at += 1;
     }
+    places[at - 1] = run;
 }
 
 // The same from the other side: each run before high that is higher moves up.
-fn put_above(runs: &mut [u64; 128], high: usize, run: u64)
-    requires is_whole { length runs.old ≡ 128 }
+fn put_above(places: &mut [u64; 128], high: usize, run: u64)
+    requires is_whole { length places.old ≡ 128 }
     requires has_place { high < 128 }
-    requires ends { Ends (down_from high) (Higher run) runs.old }
-    ensures { Put (down_from high) (Higher run) runs.old run runs.new }
+    requires ends { Ends (down_from high) (Higher run) places.old }
+    ensures { Put (down_from high) (Higher run) places.old run places.new }
 {
     let mut at = high;
-    loop {
-        let next = runs[at - 1];
-        if next <= run {
-            runs[at] = run;
-            return;
-        }
-        runs[at] = next;
+    while run < places[at - 1] {
+        places[at] = places[at - 1];
         at -= 1;
     }
+    places[at] = run;
 }
 
-// Puts a run in its place among those in order. The answer says where they begin then.
-pub fn put(runs: &mut [u64; 128], low: usize, count: usize, first: u32, end: u32) -> usize
-    requires ordered { Ordered runs.old low count }
-    requires has_room { count < 64 }
-    ensures { Ordered runs.new result (count + 1) × CoversOneMore runs.old low count first end runs.new result }
-{
-    let run = first as u64 * 4294967296 + end as u64;
-    if count == 0 {
-        runs[low] = run;
-        return low;
-    }
-    let middle = runs[low + count / 2];
-    if run < middle {
-        put_below(runs, low, run);
-        return low - 1;
-    }
-    put_above(runs, low + count, run);
-    low
-}
-
-// ---- the frames that they cover
+// ---- a run in one word, its first frame above its end, so that one comparison orders two runs
 
 fn first_of(run: u64) -> u32
     ensures { result ≡ first_of run }
@@ -80,41 +121,4 @@ fn end_of(run: u64) -> u32
     ensures { result ≡ end_of run }
 {
     (run % 4294967296) as u32
-}
-
-fn later(a: u32, b: u32) -> u32
-    ensures { result ≡ max a b }
-{
-    if a < b {
-        return b;
-    }
-    a
-}
-
-// how many frames there are from one up to another
-fn between(from: u32, upto: u32) -> u64
-    requires { from ≤ upto }
-    ensures { result ≡ upto - from }
-{
-    (upto - from) as u64
-}
-
-// The frames that runs in order cover. Each run adds those of its frames that lie past what the runs before it reached.
-pub fn covered(runs: &[u64; 128], low: usize, count: usize) -> u64
-    requires { Ordered runs.now low count }
-    ensures { result ≡ covered_by (rows_in runs.now low count) }
-{
-    let mut covered: u64 = 0;
-    let mut reached: u32 = 0;
-    let mut i: usize = 0;
-    while i < count {
-        let run = runs[low + i];
-        let end = end_of(run);
-        let from = later(reached, first_of(run));
-        let upto = later(from, end);
-        covered += between(from, upto);
-        reached = later(reached, end);
-        i += 1;
-    }
-    covered
 }

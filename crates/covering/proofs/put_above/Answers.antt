@@ -3,11 +3,11 @@ use borrow.Author.Rules.{rules}
 use Rattle.covering.proofs.Moving.{raising_none, raising_more, raising_done}
 use Rattle.covering.proofs.put_above.Goals as goal
 
-pub loop-runs-init : goal.loop-runs-init
-loop-runs-init c = search (raising_none, rules)
+pub loop-places-init : goal.loop-places-init
+loop-places-init c = search (raising_none, rules)
 
-pub returns-then-next-run : goal.returns-then-next-run
-returns-then-next-run c = search raising_done
+pub loop-places-preserved : goal.loop-places-preserved
+loop-places-preserved c = search raising_more
 
-pub loop-runs-preserved : goal.loop-runs-preserved
-loop-runs-preserved c = search raising_more
+pub returns : goal.returns
+returns c = search raising_done

@@ -2,8 +2,8 @@
 use Rattle.covering.proofs.Moving.{Raising}
 use Rattle.covering.proofs.put_above.Given as goal
 
-abbrev pub invariant-loop-runs : goal.invariant-loop-runs
-invariant-loop-runs l = Raising l.initial.runs l.high l.run l.runs l.at
+abbrev pub invariant-loop-places : goal.invariant-loop-places
+invariant-loop-places l = Raising l.initial.places l.high l.run l.places l.at
 
-abbrev pub decreases-loop-runs : goal.decreases-loop-runs
-decreases-loop-runs l = l.at
+abbrev pub decreases-loop-places : goal.decreases-loop-places
+decreases-loop-places l = l.at

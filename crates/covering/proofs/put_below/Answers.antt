@@ -3,11 +3,11 @@ use borrow.Author.Rules.{rules}
 use Rattle.covering.proofs.Moving.{lowering_none, lowering_more, lowering_done}
 use Rattle.covering.proofs.put_below.Goals as goal
 
-pub loop-runs-init : goal.loop-runs-init
-loop-runs-init c = search (lowering_none, rules)
+pub loop-places-init : goal.loop-places-init
+loop-places-init c = search (lowering_none, rules)
 
-pub returns-then-run-next : goal.returns-then-run-next
-returns-then-run-next c = search lowering_done
+pub loop-places-preserved : goal.loop-places-preserved
+loop-places-preserved c = search lowering_more
 
-pub loop-runs-preserved : goal.loop-runs-preserved
-loop-runs-preserved c = search lowering_more
+pub returns : goal.returns
+returns c = search lowering_done

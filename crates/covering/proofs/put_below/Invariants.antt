@@ -3,8 +3,8 @@ use Rattle.covering.proofs.Moving.{Lowering}
 use Prim.Native.Nat.{◌-◌}
 use Rattle.covering.proofs.put_below.Given as goal
 
-abbrev pub invariant-loop-runs : goal.invariant-loop-runs
-invariant-loop-runs l = Lowering l.initial.runs l.low l.run l.runs l.at
+abbrev pub invariant-loop-places : goal.invariant-loop-places
+invariant-loop-places l = Lowering l.initial.places l.low l.run l.places l.at
 
-abbrev pub decreases-loop-runs : goal.decreases-loop-runs
-decreases-loop-runs l = 128 - l.at
+abbrev pub decreases-loop-places : goal.decreases-loop-places
+decreases-loop-places l = 128 - l.at
