@@ -1,5 +1,6 @@
 -- Lists of records as the code goes through them: by places, the first bad one, and each stored behind the one before it. Of records of any kind.
 use Prim.Native.Nat.{ℕ, zero, suc, ◌+◌, ◌-◌, ◌*◌, ◌/◌, ◌<◌, ◌≤◌}
+use Rattle.std.specs.Prelude.{Result, Ok, Err}
 use mathlib.Core.Path.{◌≡◌, refl, sym, ap, ◌∙◌}
 use mathlib.Core.List.{List, [], ◌∷◌, ◌++◌, append_assoc}
 use mathlib.Core.Logic.{◌≢◌}
@@ -7,9 +8,12 @@ use native.Mathlib.Omega.{arith}
 use lib.ListN.{length, drop, set, length-append}
 use borrow.Author.Tests.{lt-ltb, le-ltb}
 use Rattle.rules.proofs.Ground.Deciding.{if_same}
+use Rattle.rules.proofs.Laws.OneAnswer.{one_record}
 use Rattle.rules.specs.Locks.{Taken, taken, bad, All, all, first_bad, and_then, each, record_width, in_threes, threes, listed, moved, written}
-use Rattle.rules.specs.declared.Moved.{Moved}
-use Rattle.posix.specs.Records.{record_at, put3, verdict, records_from, put_from, refusal_of}
+use Rattle.rules.specs.Means.{number_of, means_done, means_moved}
+use Rattle.rules.specs.declared.BadRecord.{BadRecord}
+use Rattle.rules.specs.declared.Refused.{Refused}
+use Rattle.posix.specs.Records.{record_at, put3, verdict, IsFirstBad, records_from, put_from, refusal_of}
 
 -- ---- the records of a list are those at its places
 shifted : {A : Type 0} (f g : ℕ → A) → ((i : ℕ) → f (i + 1) ≡ g i) → (i n : ℕ) → records_from f (i + 1) n ≡ records_from g i n
@@ -35,78 +39,55 @@ records_at make none (a ∷ b ∷ c ∷ more) =
     (ap (λ (x : List _). make a b c ∷ x)
     (records_at make none more ∙ sym (shifted (record_at make none (a ∷ b ∷ c ∷ more)) (record_at make none more) (record_behind make none a b c more) 0 (length more / record_width))))
 
--- ---- the first bad one, record after record from a place on
-abbrev pub judge_one : {B : Type 0} → Taken B → ℕ → Moved → Moved
-judge_one (taken b) i rest = rest
-judge_one (bad number) i rest = moved number i
+-- ---- the first bad one
+-- a refusal has a number: an answer that is refused is none that is not
+pub numbered : (why : Refused) → number_of why ≡ 0 → ⊥
+numbered why e =
+    let refused : BadRecord = record { why = why; place = 0 } in
+    let same = one_record {A = ℕ} (listed (moved 0 0) []) (Ok tt) (Err refused) [] [] refl (ap (λ n. listed {A = ℕ} (moved n 0) []) e) in
+    let q = same.0 in
+    cc
 
-unfoldable pub judge : {A B : Type 0} → (A → Taken B) → ℕ → List A → Moved
-judge move i [] = moved 0 0
-judge move i (a ∷ rest) = judge_one (move a) i (judge move (i + 1) rest)
+is_bad : {B : Type 0} (x : Taken B) (why : Refused) → number_of why ≡ refusal_of x → x ≡ bad (number_of why)
+is_bad (taken b) why q = absurd (numbered why q)
+is_bad (bad number) why q = ap bad (sym q)
 
-verdict_from : {B : Type 0} → ℕ → All B → Moved
-verdict_from i (all records) = moved 0 0
-verdict_from i (first_bad number place) = moved number (i + place)
+-- a list is accepted if each of its records is
+both_accepted : {B : Type 0} (x : Taken B) (rest : All B) → x ≢ bad 0 → (verdict (and_then x rest)).refusal ≡ 0 → (refusal_of x ≡ 0) × ((verdict rest).refusal ≡ 0)
+both_accepted (taken b) (all records) d e = (refl, refl)
+both_accepted (taken b) (first_bad number place) d e = (refl, e)
+both_accepted (bad number) rest d e = absurd (d (ap bad e))
 
-one_judged : {B : Type 0} (x : Taken B) (rest : All B) (i : ℕ) → judge_one x i (verdict_from (i + 1) rest) ≡ verdict_from i (and_then x rest)
-unfolding verdict_from
-one_judged (taken b) (all records) i = refl
-one_judged (taken b) (first_bad number place) i = ap (moved number) (omega arith)
-one_judged (bad number) rest i = ap (moved number) (omega arith)
+all_accepted : {A B : Type 0} (move : A → Taken B) (at : ℕ → A) → ((a : A) → move a ≢ bad 0) → (i n : ℕ) → (verdict (each move (records_from at i n))).refusal ≡ 0
+    → (j : ℕ) → i ≤ j → j < i + n → refusal_of (move (at j)) ≡ 0
+unfolding each records_from
+all_accepted move at never_0 i zero e j h k = absurd (omega arith)
+all_accepted move at never_0 i (suc n) e j h k =
+    let w = both_accepted (move (at i)) (each move (records_from at (i + 1) n)) (never_0 (at i)) e in
+    if_same j i (λ q. rw q w.0) (λ q. all_accepted move at never_0 (i + 1) n w.1 j (omega arith) (omega arith))
 
-judged_from : {A B : Type 0} (move : A → Taken B) (i : ℕ) (records : List A) → judge move i records ≡ verdict_from i (each move records)
-unfolding judge each verdict_from
-judged_from move i [] = refl
-judged_from move i (a ∷ rest) = ap (judge_one (move a) i) (judged_from move (i + 1) rest) ∙ one_judged (move a) (each move rest) i
+-- so many records from a place on, where f tells what a record that is not refused is taken for
+module _ {A B : Type 0} (move : A → Taken B) (at : ℕ → A) (f : ℕ → B) (is : (j : ℕ) → refusal_of (move (at j)) ≡ 0 → move (at j) ≡ taken (f j)) where
+  abbrev Pass : ℕ → ℕ → Type 0
+  Pass i n = (j : ℕ) → i ≤ j → j < i + n → refusal_of (move (at j)) ≡ 0
 
-from_0 : {B : Type 0} (x : All B) → verdict_from 0 x ≡ verdict x
-unfolding verdict_from
-from_0 (all records) = refl
-from_0 (first_bad number place) = ap (moved number) (omega arith)
+  taken_all : (i n : ℕ) → Pass i n → each move (records_from at i n) ≡ all (records_from f i n)
+  unfolding each records_from
+  taken_all i zero h = refl
+  taken_all i (suc n) h = rw (is i (h i (omega arith) (omega arith)), taken_all (i + 1) n (λ j p q. h j (omega arith) (omega arith)))
 
-pub judged : {A B : Type 0} (move : A → Taken B) (records : List A) → judge move 0 records ≡ verdict (each move records)
-judged move records = judged_from move 0 records ∙ from_0 (each move records)
-
--- a record that is not refused is taken
-passed : {B : Type 0} (x : Taken B) (i : ℕ) (rest : Moved) → x ≢ bad 0 → refusal_of x ≡ 0 → judge_one x i rest ≡ rest
-passed (taken b) i rest d e = refl
-passed (bad number) i rest d e = absurd (d (ap bad e))
-
-stopped : {B : Type 0} (x : Taken B) (i : ℕ) (rest : Moved) → (refusal_of x ≡ 0 → ⊥) → judge_one x i rest ≡ moved (refusal_of x) i
-stopped (taken b) i rest d = absurd (d refl)
-stopped (bad number) i rest d = refl
-
-module _ {A B : Type 0} (move : A → Taken B) (at : ℕ → A) (given : Moved) where
-  -- so many records, of which i were looked at
-  abbrev pub LookedAt : ℕ → ℕ → Type 0
-  LookedAt n i = judge move i (records_from at i (n - i)) ≡ given
-
-  next : (n i : ℕ) → i < n → judge move i (records_from at i (n - i)) ≡ judge_one (move (at i)) i (judge move (i + 1) (records_from at (i + 1) (n - (i + 1))))
-  unfolding judge records_from
-  next n i h = let e : n - i ≡ suc (n - (i + 1)) = omega arith in rw e
-
-  pub looked_on : (n i r : ℕ) → LookedAt n i → i < n → r ≡ refusal_of (move (at i)) → r ≡ 0 → move (at i) ≢ bad 0 → LookedAt n (i + 1)
-  looked_on n i r inv h q e d = sym (next n i h ∙ passed (move (at i)) i _ d (sym q ∙ e)) ∙ inv
-
-  pub looked_bad : (n i r : ℕ) (x : Moved) → x ≡ moved r i → LookedAt n i → i < n → r ≡ refusal_of (move (at i)) → (r ≡ 0 → ⊥) → x ≡ given
-  looked_bad n i r x p inv h q d = p ∙ rw q (sym (next n i h ∙ stopped (move (at i)) i _ (λ e. d (q ∙ e))) ∙ inv)
-
-  pub looked_at_all : (n i : ℕ) (x : Moved) → x ≡ moved 0 0 → LookedAt n i → n ≤ i → x ≡ given
-  unfolding judge records_from
-  looked_at_all n i x p inv h = let e : n - i ≡ 0 = omega arith in p ∙ (rw e at inv)
-
--- ---- if the verdict is no refusal, each record is taken
-module _ {A B : Type 0} (move : A → Taken B) (at : ℕ → A) (never_0 : (a : A) → move a ≢ bad 0) where
-  taken_or_bad : {C : Type 0} (x : Taken B) (i : ℕ) (rest : Moved) → x ≢ bad 0 → (judge_one x i rest).refusal ≡ 0 → (refusal_of x ≡ 0 → rest.refusal ≡ 0 → C) → C
-  taken_or_bad (taken b) i rest d e k = k refl e
-  taken_or_bad (bad number) i rest d e k = absurd (d (ap bad e))
-
-  pub all_taken : (i n : ℕ) → (judge move i (records_from at i n)).refusal ≡ 0 → (j : ℕ) → i ≤ j → j < i + n → refusal_of (move (at j)) ≡ 0
-  unfolding judge records_from
-  all_taken i zero e j h k = absurd (omega arith)
-  all_taken i (suc n) e j h k =
-      taken_or_bad (move (at i)) i _ (never_0 (at i)) e
-      (λ here rest. if_same j i (λ q. rw q here) (λ q. all_taken (i + 1) n rest j (omega arith) (omega arith)))
+  stops_at : (i n place : ℕ) (number : ℕ) → place < n → Pass i place → move (at (i + place)) ≡ bad number → each move (records_from at i n) ≡ first_bad number place
+  unfolding each records_from
+  stops_at i zero place number h before q = absurd (omega arith)
+  stops_at i (suc n) zero number h before q = let e : i + 0 ≡ i = omega arith in rw (rw e at q)
+  stops_at i (suc n) (suc place) number h before q =
+      let e : i + suc place ≡ i + 1 + place = omega arith in
+      let more : place + 1 ≡ suc place = omega arith in
+      rw (
+        is i (before i (omega arith) (omega arith)),
+        stops_at (i + 1) n place number (omega arith) (λ j p k. before j (omega arith) (omega arith)) (rw e at q),
+        more,
+      )
 
 -- ---- records stored one behind the other
 records_length : {A : Type 0} (f : ℕ → A) (i n : ℕ) → length (records_from f i n) ≡ n
@@ -165,52 +146,50 @@ module _ {A B : Type 0} (put : List A → ℕ → B → List A) (f : ℕ → B) 
   unfolding put_from records_from
   stored_all n i l inv h = let e : n - i ≡ 0 = omega arith in rw e at inv
 
--- ---- a call
-taken_all : {A B : Type 0} (move : A → Taken B) (at : ℕ → A) (f : ℕ → B) (i n : ℕ) → ((j : ℕ) → i ≤ j → j < i + n → move (at j) ≡ taken (f j))
-    → each move (records_from at i n) ≡ all (records_from f i n)
-unfolding each records_from
-taken_all move at f i zero h = refl
-taken_all move at f i (suc n) h = rw (h i (omega arith) (omega arith), taken_all move at f (i + 1) n (λ j p q. h j (omega arith) (omega arith)))
-
-module _ {B C : Type 0} (numbers : List B → List C) (x : All B) (found : Moved) (lent : List C) where
-  pub call_refused : found ≡ verdict x → (found.refusal ≡ 0 → ⊥) → listed found lent ≡ written numbers x lent
-  call_refused q d = go x q
-    where
-      go : (x : All B) → found ≡ verdict x → listed found lent ≡ written numbers x lent
-      go (all records) e = absurd (d (ap (λ (m : Moved). m.refusal) e))
-      go (first_bad number place) e = ap (λ (m : Moved). listed m lent) e
-
-module _ {A B C : Type 0} (make : A → A → A → B) (none : A) (move : B → Taken C) (never_0 : (b : B) → move b ≢ bad 0) (l : List A) (found : Moved)
-    (is_verdict : found ≡ verdict (each move (in_threes make l))) where
+-- ---- a list of records as it is lent
+module _ {A B C : Type 0} (make : A → A → A → B) (none : A) (move : B → Taken C) (l : List A) where
   abbrev count : ℕ
   count = length l / record_width
 
   abbrev at : ℕ → B
   at = record_at make none l
 
-  judged_all : judge move 0 (records_from at 0 count) ≡ verdict (each move (in_threes make l))
-  judged_all = judged move (records_from at 0 count) ∙ ap (λ (records : List B). verdict (each move records)) (sym (records_at make none l))
+  pub each_passed : ((b : B) → move b ≢ bad 0) → moved 0 0 ≡ verdict (each move (in_threes make l)) → (j : ℕ) → j < count → refusal_of (move (at j)) ≡ 0
+  each_passed never_0 q j h =
+      let e : (verdict (each move (records_from at 0 count))).refusal ≡ 0 = ap (λ (x : List B). (verdict (each move x)).refusal) (sym (records_at make none l)) ∙ ap (λ m. m.refusal) (sym q) in
+      all_accepted move at never_0 0 count e j (omega arith) (omega arith)
 
-  pub looked_at_none : LookedAt move at (verdict (each move (in_threes make l))) count 0
-  looked_at_none = let e : count - 0 ≡ count = omega arith in rw e judged_all
+  module _ (f : ℕ → C) (is : (j : ℕ) → refusal_of (move (at j)) ≡ 0 → move (at j) ≡ taken (f j)) where
+    pub found_is : (says : ℕ → Result (Unit {0}) Refused → Type 0) → ((j : ℕ) (r : Result (Unit {0}) Refused) → j < count → says j r → means_done r ≡ refusal_of (move (at j)))
+        → (found : Result (Unit {0}) BadRecord) → IsFirstBad says count found → means_moved found ≡ verdict (each move (in_threes make l))
+    unfolding IsFirstBad
+    found_is says told (Ok tt) pass =
+        rw (records_at make none l, taken_all move at f is 0 count (λ j p h. sym (told j (Ok tt) (omega arith) (pass j (omega arith)))))
+    found_is says told (Err found) (h, here, before) =
+        let e : 0 + found.place ≡ found.place = omega arith in
+        let stop : move (at (0 + found.place)) ≡ bad (number_of found.why) = rw e (is_bad (move (at found.place)) found.why (told found.place (Err found.why) h here)) in
+        rw (
+          records_at make none l,
+          stops_at move at f is 0 count found.place (number_of found.why) h (λ j p k. sym (told j (Ok tt) (omega arith) (before j (omega arith)))) stop,
+        )
 
-  pub each_passed : found.refusal ≡ 0 → (j : ℕ) → j < count → refusal_of (move (at j)) ≡ 0
-  each_passed e j h =
-      let z : (judge move 0 (records_from at 0 count)).refusal ≡ 0 = ap (λ (m : Moved). m.refusal) (judged_all ∙ sym is_verdict) ∙ e in
-      all_taken move at never_0 0 count z j (omega arith) (omega arith)
+    module _ {D : Type 0} (first second third : C → D) (never_0 : (b : B) → move b ≢ bad 0) (accepted : moved 0 0 ≡ verdict (each move (in_threes make l))) (lent : List D) where
+      each_taken : each move (in_threes make l) ≡ all (records_from f 0 count)
+      each_taken = rw (records_at make none l) (taken_all move at f is 0 count (λ j p h. each_passed never_0 accepted j (omega arith)))
 
-  module _ (f : ℕ → C) (is : (j : ℕ) → refusal_of (move (at j)) ≡ 0 → move (at j) ≡ taken (f j)) (e : found.refusal ≡ 0) where
-    pub each_taken : each move (in_threes make l) ≡ all (records_from f 0 count)
-    each_taken = rw (records_at make none l) (taken_all move at f 0 count (λ j p h. is j (each_passed e j (omega arith))))
-
-    module _ {D : Type 0} (first second third : C → D) (lent : List D) where
-      pub call_short : (x : Moved) → x ≡ moved 9 0 → length lent / record_width < count → listed x lent ≡ written (threes first second third) (each move (in_threes make l)) lent
-      call_short x p h = rw (p, each_taken, records_length f 0 count, lt-ltb (length lent / record_width) count h)
+      pub call_short : length lent / record_width < count → listed (moved 9 0) lent ≡ written (threes first second third) (each move (in_threes make l)) lent
+      call_short h = rw (each_taken, records_length f 0 count, lt-ltb (length lent / record_width) count h)
 
       pub call_accepted : (after : List D) → count ≤ length lent / record_width → after ≡ put_from (put first second third) 0 (records_from f 0 count) lent
-          → listed found after ≡ written (threes first second third) (each move (in_threes make l)) lent
+          → listed (moved 0 0) after ≡ written (threes first second third) (each move (in_threes make l)) lent
       call_accepted after h q =
           let n = records_length f 0 count in
           let k : record_width * count ≤ length lent = omega arith in
-          rw (is_verdict, each_taken, le-ltb (length lent / record_width) (length (records_from f 0 count)) (omega arith))
+          rw (each_taken, le-ltb (length lent / record_width) (length (records_from f 0 count)) (omega arith))
           (ap (listed (moved 0 0)) (q ∙ stored first second third (records_from f 0 count) lent (omega arith)))
+
+-- a list that is refused is not written to
+pub call_refused : {B C : Type 0} (numbers : List B → List C) (x : All B) (found : BadRecord) (lent : List C) → means_moved (Err found) ≡ verdict x
+    → listed (means_moved (Err found)) lent ≡ written numbers x lent
+call_refused numbers (all records) found lent q = absurd (numbered found.why (ap (λ m. m.refusal) q))
+call_refused numbers (first_bad number place) found lent q = ap (λ m. listed m lent) q

@@ -1,49 +1,23 @@
 -- One record, by each way through the code: why it is refused or not, and the numbers of one that is not.
 use Rattle.std.specs.Prelude.{if◌then◌else◌}
-use Prim.Native.Nat.{ℕ, zero, suc, ◌+◌, ◌-◌, ◌*◌, ◌<◌, ◌≤◌}
+use Prim.Native.Nat.{ℕ, zero, suc, ◌+◌, ◌-◌, ◌<◌, ◌≤◌}
 use mathlib.Core.Path.{◌≡◌, refl, sym, ap, ◌∙◌}
-use mathlib.Core.List.{List}
 use mathlib.Core.Bool.{Bool, true, false, not, ◌||◌, true≢false}
 use mathlib.Core.Logic.{⊎_elim}
 use native.Mathlib.Omega.{arith}
 use lib.IntN.{ℤ, pos, negsuc, nat_abs, ◌+ℤ◌, +ℤ_idr, pos-ne-negsuc}
-use lib.ListN.{get_or}
 use lib.Signed.{lt_z}
-use mir.Syntax.{w32, w64}
-use mir.Val.{SFits, Fits, of_z, to_z}
-use mir.Facts.{to_z-of_z, to_z_pos}
-use borrow.Author.Tests.{lt-ltb, le-ltb, le-leb, lt-leb, eq-eqb, ne_eqb, ltb-true}
+use mir.Syntax.{w64}
+use mir.Val.{SFits, of_z, to_z}
+use mir.Facts.{to_z-of_z}
+use borrow.Author.Tests.{ltb-true}
 use Rattle.rules.specs.Notation.{◌≤?◌, ◌<?◌}
 use Rattle.rules.specs.Comparison.{Claim, claim}
-use Rattle.rules.specs.Shape.{is_kind}
-use Rattle.rules.specs.Locks.{Lock, lock, by_sign, first_frame, length_of, is_type, Taken, taken, bad, import_lock, export_claim, record_width}
+use Rattle.rules.specs.Locks.{lock, by_sign, first_frame, is_type, Taken, taken, bad, import_lock}
 use Rattle.rules.proofs.Laws.Shape.{is_kind_law}
 use Rattle.rules.proofs.Laws.Locks.{end_is, import_run, starts_below, reaches_below, run_back, run_to_the_end, run_on, Imports, imports, import_never_0}
-use Rattle.posix.specs.Records.{below, above, IsWord, run_refusal, refusal_of, lock_at, put3, put_lock}
-use Rattle.posix.specs.declared.Claimed.{Claimed}
-use Rattle.posix.proofs.Signs.{again, negative, not_negative, above_small, word_fits}
-
--- ---- the refusal of a run
-module _ (title first end : ℕ) (known : Bool) where
-  pub run_empty : end ≤ first → 12 ≡ run_refusal title first end known
-  unfolding run_refusal
-  run_empty h = rw (le-leb end first h)
-
-  pub run_past : first < end → 4294967295 < end → 12 ≡ run_refusal title first end known
-  unfolding run_refusal
-  run_past h i = rw (lt-leb end first h, lt-ltb 4294967295 end i)
-
-  pub run_unknown : first < end → end ≤ 4294967295 → not known ≡ true → 13 ≡ run_refusal title first end known
-  unfolding run_refusal
-  run_unknown h i k = rw (lt-leb end first h, le-ltb 4294967295 end i, k)
-
-  pub run_beyond : first < end → end ≤ 4294967295 → not known ≡ false → title < end → 11 ≡ run_refusal title first end known
-  unfolding run_refusal
-  run_beyond h i k b = rw (lt-leb end first h, le-ltb 4294967295 end i, k, lt-ltb title end b)
-
-  pub run_taken : first < end → end ≤ 4294967295 → not known ≡ false → end ≤ title → 0 ≡ run_refusal title first end known
-  unfolding run_refusal
-  run_taken h i k b = rw (lt-leb end first h, le-ltb 4294967295 end i, k, le-ltb title end b)
+use Rattle.posix.specs.Records.{IsWord, run_refusal, refusal_of}
+use Rattle.posix.proofs.Signs.{again, word_fits}
 
 run_refused : (title first end : ℕ) (type : ℤ) → run_refusal title first end (is_type type) ≡ refusal_of (import_run title first end type)
 unfolding run_refusal
@@ -58,90 +32,67 @@ run_refused title first end type = go (end ≤? first) (4294967295 <? end) (is_t
     go false false true false = refl
 
 -- ---- the refusal of a lock, by the signs of its start and its length
-module _ (title : ℕ) (type start span : ℤ) where
-  pub lock_starts_below : lt_z (again start) (pos 0) ≡ true → SFits w64 start → 12 ≡ refusal_of (import_lock title (lock type start span))
-  lock_starts_below e f = go start e f
-    where
-      go : (z : ℤ) → lt_z (again z) (pos 0) ≡ true → SFits w64 z → 12 ≡ refusal_of (import_lock title (lock type z span))
-      go (pos n) e f = not_negative n e f
-      go (negsuc n) e f = rw (starts_below title type span n)
+module _ (title : ℕ) (type : ℤ) where
+  starts : (start span : ℤ) → lt_z start (pos 0) ≡ true → 12 ≡ refusal_of (import_lock title (lock type start span))
+  starts (pos n) span e = absurd (let h = ltb-true n 0 e in omega arith)
+  starts (negsuc n) span e = rw (starts_below title type span n)
 
-  module _ (from : ℕ) (a : from ≡ above (again start)) (f : SFits w64 start) (s : lt_z (again start) (pos 0) ≡ false) where
-    pub lock_reaches_below : (down : ℕ) → down ≡ below (again span) → SFits w64 span → lt_z (again span) (pos 0) ≡ true → from < down
-        → 12 ≡ refusal_of (import_lock title (lock type start span))
-    unfolding below above
-    lock_reaches_below down d g e h = go start span f g s e (a ∙ ap above (to_z-of_z f)) (d ∙ ap below (to_z-of_z g))
-      where
-        go : (z l : ℤ) → SFits w64 z → SFits w64 l → lt_z (again z) (pos 0) ≡ false → lt_z (again l) (pos 0) ≡ true → from ≡ above z → down ≡ below l
-            → 12 ≡ refusal_of (import_lock title (lock type z l))
-        go (pos n) (pos m) f g s e a d = not_negative m e g
-        go (pos n) (negsuc m) f g s e a d = rw (reaches_below title type n m (omega arith))
-        go (negsuc n) l f g s e a d = negative n s f
+  reaches : (start span : ℤ) → lt_z start (pos 0) ≡ false → lt_z span (pos 0) ≡ true → nat_abs start < nat_abs span → 12 ≡ refusal_of (import_lock title (lock type start span))
+  reaches (pos n) (pos m) s e h = absurd (let i = ltb-true m 0 e in omega arith)
+  reaches (pos n) (negsuc m) s e h = rw (reaches_below title type n m h)
+  reaches (negsuc n) span s e h = absurd (true≢false s)
 
-    pub lock_back : (r down : ℕ) (known : Bool) → r ≡ run_refusal title (from - down) from known → down ≡ below (again span) → known ≡ is_type (again type) → SFits w64 span → SFits w64 type
-        → lt_z (again span) (pos 0) ≡ true → down ≤ from → r ≡ refusal_of (import_lock title (lock type start span))
-    unfolding below above
-    lock_back r down known q d k g t e h = go start span f g s e (a ∙ ap above (to_z-of_z f)) (d ∙ ap below (to_z-of_z g)) (k ∙ ap is_type (to_z-of_z t))
-      where
-        go : (z l : ℤ) → SFits w64 z → SFits w64 l → lt_z (again z) (pos 0) ≡ false → lt_z (again l) (pos 0) ≡ true → from ≡ above z → down ≡ below l → known ≡ is_type type
-            → r ≡ refusal_of (import_lock title (lock type z l))
-        go (pos n) (pos m) f g s e a d k = not_negative m e g
-        go (pos n) (negsuc m) f g s e a d k =
-            let o : n - (m + 1) ≡ n - suc m = omega arith in
-            rw (run_back title type n m (omega arith), ← run_refused title (n - suc m) n type) (rw (d, a, k, o) at q)
-        go (negsuc n) l f g s e a d k = negative n s f
+  module _ (r : ℕ) where
+    back : (start span : ℤ) → r ≡ run_refusal title (nat_abs start - nat_abs span) (nat_abs start) (is_type type) → lt_z start (pos 0) ≡ false → lt_z span (pos 0) ≡ true
+        → nat_abs span ≤ nat_abs start → r ≡ refusal_of (import_lock title (lock type start span))
+    back (pos n) (pos m) q s e h = absurd (let i = ltb-true m 0 e in omega arith)
+    back (pos n) (negsuc m) q s e h = rw (run_back title type n m h, ← run_refused title (n - suc m) n type) q
+    back (negsuc n) span q s e h = absurd (true≢false s)
 
-    module _ (r up : ℕ) (known : Bool) (u : up ≡ above (again span)) (k : known ≡ is_type (again type)) (g : SFits w64 span) (t : SFits w64 type) (e : lt_z (again span) (pos 0) ≡ false) where
-      pub lock_to_the_end : r ≡ run_refusal title from title known → up ≡ 0 → r ≡ refusal_of (import_lock title (lock type start span))
-      unfolding above
-      lock_to_the_end q z = go start span f g s e (a ∙ ap above (to_z-of_z f)) (u ∙ ap above (to_z-of_z g)) (k ∙ ap is_type (to_z-of_z t))
-        where
-          go : (z l : ℤ) → SFits w64 z → SFits w64 l → lt_z (again z) (pos 0) ≡ false → lt_z (again l) (pos 0) ≡ false → from ≡ above z → up ≡ above l → known ≡ is_type type
-              → r ≡ refusal_of (import_lock title (lock type z l))
-          go (pos n) (pos zero) f g s e a u k = rw (run_to_the_end title type n, ← run_refused title n title type) (rw (a, k) at q)
-          go (pos n) (pos (suc m)) f g s e a u k = absurd (omega arith)
-          go (pos n) (negsuc m) f g s e a u k = negative m e g
-          go (negsuc n) l f g s e a u k = negative n s f
+    to_the_end : (start span : ℤ) → r ≡ run_refusal title (nat_abs start) title (is_type type) → lt_z start (pos 0) ≡ false → nat_abs span ≡ 0
+        → r ≡ refusal_of (import_lock title (lock type start span))
+    to_the_end (pos n) (pos zero) q s z = rw (run_to_the_end title type n, ← run_refused title n title type) q
+    to_the_end (pos n) (pos (suc m)) q s z = absurd (omega arith)
+    to_the_end (pos n) (negsuc m) q s z = absurd (omega arith)
+    to_the_end (negsuc n) span q s z = absurd (true≢false s)
 
-      pub lock_on : r ≡ run_refusal title from (from + up) known → (up ≡ 0 → ⊥) → r ≡ refusal_of (import_lock title (lock type start span))
-      unfolding above
-      lock_on q z = go start span f g s e (a ∙ ap above (to_z-of_z f)) (u ∙ ap above (to_z-of_z g)) (k ∙ ap is_type (to_z-of_z t))
-        where
-          go : (z l : ℤ) → SFits w64 z → SFits w64 l → lt_z (again z) (pos 0) ≡ false → lt_z (again l) (pos 0) ≡ false → from ≡ above z → up ≡ above l → known ≡ is_type type
-              → r ≡ refusal_of (import_lock title (lock type z l))
-          go (pos n) (pos zero) f g s e a u k = absurd (z u)
-          go (pos n) (pos (suc m)) f g s e a u k = rw (run_on title type n m, ← run_refused title n (n + suc m) type) (rw (a, u, k) at q)
-          go (pos n) (negsuc m) f g s e a u k = negative m e g
-          go (negsuc n) l f g s e a u k = negative n s f
+    on : (start span : ℤ) → r ≡ run_refusal title (nat_abs start) (nat_abs start + nat_abs span) (is_type type) → lt_z start (pos 0) ≡ false → lt_z span (pos 0) ≡ false
+        → (nat_abs span ≡ 0 → ⊥) → r ≡ refusal_of (import_lock title (lock type start span))
+    on (pos n) (pos zero) q s e z = absurd (z refl)
+    on (pos n) (pos (suc m)) q s e z = rw (run_on title type n m, ← run_refused title n (n + suc m) type) q
+    on (pos n) (negsuc m) q s e z = absurd (true≢false e)
+    on (negsuc n) span q s e z = absurd (true≢false s)
 
--- the sum of a start and a length that are not below 0
-pub sum_fits : (start span : ℤ) (from up : ℕ) → up ≡ above (again span) → from ≡ above (again start) → SFits w64 start → SFits w64 span → Fits w64 (from + up)
-sum_fits start span from up u a f g =
-    let h = above_small start from (a ∙ ap above (to_z-of_z f)) f in
-    let i = above_small span up (u ∙ ap above (to_z-of_z g)) g in
-    record { fits = omega arith }
+-- its numbers as the code reads them, with how far they lie from 0
+module _ (title : ℕ) (type start span : ℤ) (f : SFits w64 start) where
+  pub lock_starts_below : lt_z (again start) (pos 0) ≡ true → 12 ≡ refusal_of (import_lock title (lock type start span))
+  lock_starts_below e = starts title type start span (rw (to_z-of_z f) at e)
 
--- ---- a claim
-module _ (title start end kind : ℕ) where
-  pub claim_empty : end ≤ start → 3 ≡ refusal_of (export_claim title (claim start end kind))
-  unfolding export_claim
-  claim_empty h = rw (le-leb end start h)
+  module _ (from size : ℕ) (a : from ≡ nat_abs (again start)) (b : size ≡ nat_abs (again span)) (s : lt_z (again start) (pos 0) ≡ false) (g : SFits w64 span) where
+    from_is : from ≡ nat_abs start
+    from_is = a ∙ ap nat_abs (to_z-of_z f)
 
-  pub claim_beyond : start < end → title < end → 11 ≡ refusal_of (export_claim title (claim start end kind))
-  unfolding export_claim
-  claim_beyond h b = rw (lt-leb end start h, lt-ltb title end b)
+    size_is : size ≡ nat_abs span
+    size_is = b ∙ ap nat_abs (to_z-of_z g)
 
-  pub claim_reads : start < end → end ≤ title → kind ≡ 1 → 0 ≡ refusal_of (export_claim title (claim start end kind))
-  unfolding export_claim is_kind
-  claim_reads h b k = rw (lt-leb end start h, le-ltb title end b, k)
+    not_below : lt_z start (pos 0) ≡ false
+    not_below = rw (to_z-of_z f) at s
 
-  pub claim_writes : start < end → end ≤ title → kind ≡ 2 → 0 ≡ refusal_of (export_claim title (claim start end kind))
-  unfolding export_claim is_kind
-  claim_writes h b k = rw (lt-leb end start h, le-ltb title end b, k)
+    pub lock_reaches_below : lt_z (again span) (pos 0) ≡ true → from < size → 12 ≡ refusal_of (import_lock title (lock type start span))
+    lock_reaches_below e h = reaches title type start span not_below (rw (to_z-of_z g) at e) (rw (from_is, size_is) at h)
 
-  pub claim_unknown : start < end → end ≤ title → (kind ≡ 1 → ⊥) → (kind ≡ 2 → ⊥) → 4 ≡ refusal_of (export_claim title (claim start end kind))
-  unfolding export_claim is_kind
-  claim_unknown h b k l = rw (lt-leb end start h, le-ltb title end b, ne_eqb kind 1 k, ne_eqb kind 2 l)
+    module _ (r : ℕ) (known : Bool) (k : known ≡ is_type (again type)) (t : SFits w64 type) where
+      known_is : known ≡ is_type type
+      known_is = k ∙ ap is_type (to_z-of_z t)
+
+      pub lock_back : r ≡ run_refusal title (from - size) from known → lt_z (again span) (pos 0) ≡ true → size ≤ from → r ≡ refusal_of (import_lock title (lock type start span))
+      lock_back q e h = back title type r start span (rw (from_is, size_is, known_is) at q) not_below (rw (to_z-of_z g) at e) (rw (from_is, size_is) at h)
+
+      pub lock_to_the_end : r ≡ run_refusal title from title known → size ≡ 0 → r ≡ refusal_of (import_lock title (lock type start span))
+      lock_to_the_end q z = to_the_end title type r start span (rw (from_is, known_is) at q) not_below (sym size_is ∙ z)
+
+      pub lock_on : r ≡ run_refusal title from (from + size) known → lt_z (again span) (pos 0) ≡ false → (size ≡ 0 → ⊥) → r ≡ refusal_of (import_lock title (lock type start span))
+      lock_on q e z = on title type r start span (rw (from_is, size_is, known_is) at q) not_below (rw (to_z-of_z g) at e) (λ y. z (size_is ∙ y))
 
 -- ---- the numbers of a lock that is not refused: its start, and the sum of its start and its length, are of 32 bits
 claim_of : Taken Claim → Claim
@@ -254,36 +205,3 @@ module _ (title : ℕ) (type start span : ℤ) (q : refusal_of (import_lock titl
     claimed_on p r e z =
         let s : lt_z span (pos 0) ≡ false = rw (to_z-of_z g) at e in
         made a b k (word a c.start start f p (its_sums.on s)) (summed b c.end r (its_sums.to_an_end s (λ y. z (ap (of_z w64) y)))) the_kind ∙ sym takes
-
--- ---- the record at a place, read from the bits of its numbers, and stored
-module _ (title place : ℕ) (l : List ℤ) (a : SFits w64 (get_or l (record_width * place) (pos 0))) (b : SFits w64 (get_or l (record_width * place + 1) (pos 0)))
-    (c : SFits w64 (get_or l (record_width * place + 2) (pos 0))) where
-  abbrev read : Lock
-  read = lock (again (get_or l (record_width * place) (pos 0))) (again (get_or l (record_width * place + 1) (pos 0))) (again (get_or l (record_width * place + 2) (pos 0)))
-
-  as_read : read ≡ lock_at l place
-  as_read = rw (to_z-of_z a, to_z-of_z b, to_z-of_z c)
-
-  pub refusal_read : (r : ℕ) → r ≡ refusal_of (import_lock title read) → r ≡ refusal_of (import_lock title (lock_at l place))
-  refusal_read r q = q ∙ ap (λ k. refusal_of (import_lock title k)) as_read
-
-  pub passed_read : refusal_of (import_lock title (lock_at l place)) ≡ 0 → refusal_of (import_lock title read) ≡ 0
-  passed_read q = ap (λ k. refusal_of (import_lock title k)) as_read ∙ q
-
-  pub claim_read : (r : Claimed) → taken (claim r.start r.end r.kind) ≡ import_lock title read → taken (claim r.start r.end r.kind) ≡ import_lock title (lock_at l place)
-  claim_read r q = q ∙ ap (import_lock title) as_read
-
-pub lock_stored : (l : List ℤ) (place kind start : ℕ) (span : ℤ) → Fits w32 kind → Fits w32 start → SFits w64 span
-    → put3 l place (to_z w64 kind) (to_z w64 start) (again span) ≡ put_lock l place (lock (pos kind) (pos start) span)
-lock_stored l place kind start span k s f =
-    let a : kind < 9223372036854775808 = let h = k.fits in omega arith in
-    let b : start < 9223372036854775808 = let h = s.fits in omega arith in
-    rw (to_z_pos w64 a, to_z_pos w64 b, to_z-of_z f)
-
-pub to_the_end : (title start end : ℕ) → end ≡ title → pos 0 ≡ length_of title (claim start end 0)
-to_the_end title start end e = rw (eq-eqb end title e)
-
-pub not_to_the_end : (title start end : ℕ) → (end ≡ title → ⊥) → Fits w32 end → to_z w64 (end - start) ≡ length_of title (claim start end 0)
-not_to_the_end title start end d f =
-    let h : end - start < 9223372036854775808 = let h = f.fits in omega arith in
-    rw (ne_eqb end title d, to_z_pos w64 h)

@@ -7,7 +7,7 @@ use Rattle.posix.proofs.export.Reads as export_reads
 use Rattle.posix.proofs.export.Kinds as export_kinds
 
 pub one_import : law.Settles import_kinds.ps import_kinds.r import_reads.Post (λ κs s. s.1.1.0.now)
-one_import κs args a b s t = law.one_list _ a b _ _
+one_import κs args a b s t = law.one_record _ a b _ _
 
 pub one_export : law.Settles export_kinds.ps export_kinds.r export_reads.Post (λ κs s. s.1.1.0.now)
-one_export κs args a b s t = law.one_list _ a b _ _
+one_export κs args a b s t = law.one_record _ a b _ _

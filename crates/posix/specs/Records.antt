@@ -1,21 +1,23 @@
 -- What the code of this crate finds out of one record after the other.
-use Rattle.std.specs.Prelude.{ℕ, zero, suc, ◌+◌, ◌*◌, ◌≤◌, Bool, not, ◌≡◌, List, [], ◌∷◌, ℤ, pos, negsuc, get_or, set}
+use Rattle.std.specs.Prelude.{ℕ, zero, suc, ◌+◌, ◌*◌, ◌<◌, ◌≤◌, Bool, not, ◌≡◌, List, [], ◌∷◌, ℤ, pos, get_or, set, Result, Ok, Err}
 use Rattle.rules.specs.Notation.{◌≤?◌, ◌<?◌}
 use Rattle.rules.specs.Comparison.{Claim, claim}
 use Rattle.rules.specs.Answers.{◌when◌, unless}
 use Rattle.rules.specs.Locks.{Lock, lock, lock_of, Taken, taken, bad, import_lock, All, all, first_bad, record_width, moved}
 use Rattle.rules.specs.declared.Moved.{Moved}
+use Rattle.rules.specs.declared.Refused.{Refused}
+use Rattle.rules.specs.declared.BadRecord.{BadRecord}
+use Rattle.posix.specs.declared.Claimed.{Claimed}
+use Rattle.posix.specs.declared.Locked.{Locked}
 
--- ---- a signed number as two that are not: how far it lies below 0, and how far above
-unfoldable pub below : ℤ → ℕ
-below (pos n) = 0
-below (negsuc n) = n + 1
+-- ---- the code's records as the rules have them
+abbrev pub as_claim : Claimed → Claim
+as_claim c = claim c.start c.end c.kind
 
-unfoldable pub above : ℤ → ℕ
-above (pos n) = n
-above (negsuc n) = 0
+abbrev pub as_lock : Locked → Lock
+as_lock k = lock k.lock_type k.start k.span
 
--- it is a number of 32 bits
+-- ---- a number of 32 bits
 pub record IsWord (z : ℤ) : Type 0 where
   pub value : ℕ
   pub is : z ≡ pos value
@@ -60,6 +62,12 @@ put_lock l i k = put3 l i k.type k.start k.length
 abbrev pub verdict : {A : Type 0} → All A → Moved
 verdict (all records) = moved 0 0
 verdict (first_bad number place) = moved number place
+
+-- what is found by looking at so many records one by one, where `says` tells what a look may answer: each of them passes, or one is bad and each before
+-- it passes
+unfoldable pub IsFirstBad : (ℕ → Result (Unit {0}) Refused → Type 0) → ℕ → Result (Unit {0}) BadRecord → Type 0
+IsFirstBad says count (Ok _) = (i : ℕ) → i < count → says i (Ok tt)
+IsFirstBad says count (Err found) = (found.place < count) × says found.place (Err found.why) × ((i : ℕ) → i < found.place → says i (Ok tt))
 
 -- so many records from a place on, each by its place; and the list with them stored from that place on, one behind the other
 unfoldable pub records_from : {A : Type 0} → (ℕ → A) → ℕ → ℕ → List A

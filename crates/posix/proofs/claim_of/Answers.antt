@@ -11,17 +11,17 @@ overflow_add-first c = search sum_fits_again
 pub word-requires : goal.word-requires
 word-requires c = search (start_is_word, sum_again_is_word)
 
-pub word-requires-then-span-lt0 : goal.word-requires-then-span-lt0
-word-requires-then-span-lt0 c = search (start_is_word, sum_again_is_word)
+pub word-requires-then-one-lt0 : goal.word-requires-then-one-lt0
+word-requires-then-one-lt0 c = search (start_is_word, sum_again_is_word)
 
-pub returns-then-span-lt0 : goal.returns-then-span-lt0
-returns-then-span-lt0 c = search claimed_back
+pub returns-then-one-lt0 : goal.returns-then-one-lt0
+returns-then-one-lt0 c = search claimed_back
 
-pub word-requires-then-span-eq0 : goal.word-requires-then-span-eq0
-word-requires-then-span-eq0 c = search (start_is_word, sum_again_is_word)
+pub word-requires-then-one-eq0 : goal.word-requires-then-one-eq0
+word-requires-then-one-eq0 c = search (start_is_word, sum_again_is_word)
 
-pub returns-then-span-eq0 : goal.returns-then-span-eq0
-returns-then-span-eq0 c = search claimed_to_the_end
+pub returns-then-one-eq0 : goal.returns-then-one-eq0
+returns-then-one-eq0 c = search claimed_to_the_end
 
 pub overflow_add-end : goal.overflow_add-end
 overflow_add-end c = search sum_fits_again

@@ -1,19 +1,19 @@
 -- `posix::export` meets its promise.
-use Rattle.posix.proofs.Calls.{export_no_title, export_refused, export_short, export_accepted, claims_passed}
-use borrow.Author.Rules.{rules}
+use Rattle.std.proofs.lemmas.Result.{err_from_is_err_and}
+use Rattle.posix.proofs.Calls.{export_no_title, export_refused, export_short, export_accepted}
 use Rattle.posix.proofs.export.Goals as goal
 
 pub returns-then-title-eq0 : goal.returns-then-title-eq0
 returns-then-title-eq0 c = search export_no_title
 
-pub returns-then-bad_claim-ne0 : goal.returns-then-bad_claim-ne0
-returns-then-bad_claim-ne0 c = search export_refused
+pub returns-in_err-first_bad_claim : goal.returns-in_err-first_bad_claim
+returns-in_err-first_bad_claim c =
+    let p = err_from_is_err_and c.from_residual.result c.from_residual.ensures.1 in
+    let found = c.in_err-first_bad_claim.ensures in
+    rw (p.1, p.2) (search export_refused)
 
 pub returns-then-locks-claims : goal.returns-then-locks-claims
-returns-then-locks-claims c = search export_short
-
-pub put_locks-requires : goal.put_locks-requires
-put_locks-requires c = record { has_room = search rules; all_accepted = search claims_passed }
+returns-then-locks-claims c = let accepted = c.in_ok-first_bad_claim.ensures in search export_short
 
 pub returns : goal.returns
-returns c = search export_accepted
+returns c = let accepted = c.in_ok-first_bad_claim.ensures in search export_accepted
