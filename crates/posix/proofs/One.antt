@@ -8,7 +8,7 @@ use native.Mathlib.Omega.{arith}
 use lib.IntN.{ℤ, pos, negsuc, nat_abs, ◌+ℤ◌, +ℤ_idr, pos-ne-negsuc}
 use lib.Signed.{lt_z}
 use mir.Syntax.{w64}
-use mir.Val.{SFits, of_z, to_z}
+use mir.Val.{SFits, of_z}
 use mir.Facts.{to_z-of_z}
 use borrow.Author.Tests.{ltb-true}
 use Rattle.rules.specs.Notation.{◌≤?◌, ◌<?◌}
@@ -17,7 +17,7 @@ use Rattle.rules.specs.Locks.{lock, by_sign, first_frame, is_type, Taken, taken,
 use Rattle.rules.proofs.Laws.Shape.{is_kind_law}
 use Rattle.rules.proofs.Laws.Locks.{end_is, import_run, starts_below, reaches_below, run_back, run_to_the_end, run_on, Imports, imports, import_never_0}
 use Rattle.posix.specs.Records.{IsWord, run_refusal, refusal_of}
-use Rattle.posix.proofs.Signs.{again, word_fits}
+use Rattle.posix.proofs.Signs.{again, read_0, word_fits}
 
 run_refused : (title first end : ℕ) (type : ℤ) → run_refusal title first end (is_type type) ≡ refusal_of (import_run title first end type)
 unfolding run_refusal
@@ -57,7 +57,7 @@ module _ (title : ℕ) (type : ℤ) where
     to_the_end (negsuc n) span q s z = absurd (true≢false s)
 
     on : (start span : ℤ) → r ≡ run_refusal title (nat_abs start) (nat_abs start + nat_abs span) (is_type type) → lt_z start (pos 0) ≡ false → lt_z span (pos 0) ≡ false
-        → (nat_abs span ≡ 0 → ⊥) → r ≡ refusal_of (import_lock title (lock type start span))
+        → (span ≡ pos 0 → ⊥) → r ≡ refusal_of (import_lock title (lock type start span))
     on (pos n) (pos zero) q s e z = absurd (z refl)
     on (pos n) (pos (suc m)) q s e z = rw (run_on title type n m, ← run_refused title n (n + suc m) type) q
     on (pos n) (negsuc m) q s e z = absurd (true≢false e)
@@ -88,11 +88,11 @@ module _ (title : ℕ) (type start span : ℤ) (f : SFits w64 start) where
       pub lock_back : r ≡ run_refusal title (from - size) from known → lt_z (again span) (pos 0) ≡ true → size ≤ from → r ≡ refusal_of (import_lock title (lock type start span))
       lock_back q e h = back title type r start span (rw (from_is, size_is, known_is) at q) not_below (rw (to_z-of_z g) at e) (rw (from_is, size_is) at h)
 
-      pub lock_to_the_end : r ≡ run_refusal title from title known → size ≡ 0 → r ≡ refusal_of (import_lock title (lock type start span))
-      lock_to_the_end q z = to_the_end title type r start span (rw (from_is, known_is) at q) not_below (sym size_is ∙ z)
+      pub lock_to_the_end : (end : ℕ) → r ≡ run_refusal title from end known → end ≡ title → of_z w64 span ≡ 0 → r ≡ refusal_of (import_lock title (lock type start span))
+      lock_to_the_end end q h z = to_the_end title type r start span (rw (from_is, known_is, h) at q) not_below (ap nat_abs (read_0 span g z))
 
-      pub lock_on : r ≡ run_refusal title from (from + size) known → lt_z (again span) (pos 0) ≡ false → (size ≡ 0 → ⊥) → r ≡ refusal_of (import_lock title (lock type start span))
-      lock_on q e z = on title type r start span (rw (from_is, size_is, known_is) at q) not_below (rw (to_z-of_z g) at e) (λ y. z (size_is ∙ y))
+      pub lock_on : r ≡ run_refusal title from (from + size) known → lt_z (again span) (pos 0) ≡ false → (of_z w64 span ≡ 0 → ⊥) → r ≡ refusal_of (import_lock title (lock type start span))
+      lock_on q e z = on title type r start span (rw (from_is, size_is, known_is) at q) not_below (rw (to_z-of_z g) at e) (λ y. z (ap (of_z w64) y))
 
 -- ---- the numbers of a lock that is not refused: its start, and the sum of its start and its length, are of 32 bits
 claim_of : Taken Claim → Claim
@@ -197,9 +197,10 @@ module _ (title : ℕ) (type start span : ℤ) (q : refusal_of (import_lock titl
         let w = its_sums.back (rw (to_z-of_z g) at e) in
         made a b k (summed a c.start p w.0) (word b c.end start f r w.1) the_kind ∙ sym takes
 
-    pub claimed_to_the_end : pos a ≡ again start → lt_z (again span) (pos 0) ≡ false → of_z w64 span ≡ 0 → taken (claim a title k) ≡ import_lock title (lock type start span)
-    claimed_to_the_end p e z =
-        made a title k (word a c.start start f p (its_sums.on (rw (to_z-of_z g) at e))) (its_sums.to_the_end (sym (to_z-of_z g) ∙ ap (to_z w64) z)) the_kind ∙ sym takes
+    pub claimed_to_the_end : pos a ≡ again start → of_z w64 span ≡ 0 → taken (claim a title k) ≡ import_lock title (lock type start span)
+    claimed_to_the_end p z =
+        let e = read_0 span g z in
+        made a title k (word a c.start start f p (its_sums.on (rw e))) (its_sums.to_the_end e) the_kind ∙ sym takes
 
     pub claimed_on : pos a ≡ again start → pos b ≡ again (again start +ℤ again span) → lt_z (again span) (pos 0) ≡ false → (of_z w64 span ≡ 0 → ⊥) → taken (claim a b k) ≡ import_lock title (lock type start span)
     claimed_on p r e z =

@@ -1,5 +1,5 @@
 -- What the code's tests of a signed number tell. The code has such a number as its bits, and reads it back from them.
-use Prim.Native.Nat.{ℕ, suc, ◌+◌, ◌-◌, ◌<◌}
+use Prim.Native.Nat.{suc, ◌-◌}
 use mathlib.Core.Path.{◌≡◌, sym, ap, ◌∙◌}
 use native.Mathlib.Omega.{arith}
 use lib.IntN.{ℤ, pos, negsuc}
@@ -14,6 +14,9 @@ use Rattle.posix.specs.Records.{IsWord}
 
 abbrev pub again : ℤ → ℤ
 again z = to_z w64 (of_z w64 z)
+
+pub read_0 : (z : ℤ) → SFits w64 z → of_z w64 z ≡ 0 → z ≡ pos 0
+read_0 z f e = sym (to_z-of_z f) ∙ ap (to_z w64) e
 
 -- ---- a type
 pub is_1 : (z : ℤ) → of_z w64 z ≡ 1 → SFits w64 z → nat_eq (of_z w64 z) 1 ≡ is_type z

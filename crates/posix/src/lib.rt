@@ -42,13 +42,13 @@ fn run_refusal(title: u32, first: u64, end: u64, known: bool) -> Result<(), Refu
     if end <= first {
         return Err(Refused::NoSuchRun);
     }
-    if end > u32::MAX as u64 {
+    if end > u64::from(u32::MAX) {
         return Err(Refused::NoSuchRun);
     }
     if !known {
         return Err(Refused::UnknownType);
     }
-    if (title as u64) < end {
+    if u64::from(title) < end {
         return Err(Refused::BeyondTitle);
     }
     Ok(())
@@ -64,16 +64,12 @@ fn lock_refusal(title: u32, one: Locked) -> Result<(), Refused>
     // not by a change of sign, for the lowest number has no opposite
     let from = one.start.unsigned_abs();
     let size = one.span.unsigned_abs();
-    if one.span < 0 {
-        if from < size {
-            return Err(Refused::NoSuchRun);
-        }
-        return run_refusal(title, from - size, from, known);
+    match one.span {
+        ..0 if from < size => Err(Refused::NoSuchRun),
+        ..0 => run_refusal(title, from - size, from, known),
+        0 => run_refusal(title, from, u64::from(title), known),
+        1.. => run_refusal(title, from, from + size, known),
     }
-    if size == 0 {
-        return run_refusal(title, from, title as u64, known);
-    }
-    run_refusal(title, from, from + size, known)
 }
 
 // a number of 32 bits as such
@@ -89,27 +85,25 @@ fn claim_of(title: u32, one: Locked) -> Claimed
     requires { refusal_of (import_lock title (as_lock one)) ≡ 0 }
     ensures { taken (as_claim result) ≡ import_lock title (as_lock one) }
 {
+    let start = word(one.start);
+    let other = word(one.start + one.span);
     let kind = word(one.lock_type);
-    if one.span < 0 {
-        let first = one.start + one.span;
-        return Claimed {
-            start: word(first),
-            end: word(one.start),
+    match one.span {
+        ..0 => Claimed {
+            start: other,
+            end: start,
             kind,
-        };
-    }
-    if one.span == 0 {
-        return Claimed {
-            start: word(one.start),
+        },
+        0 => Claimed {
+            start,
             end: title,
             kind,
-        };
-    }
-    let end = one.start + one.span;
-    Claimed {
-        start: word(one.start),
-        end: word(end),
-        kind,
+        },
+        1.. => Claimed {
+            start,
+            end: other,
+            kind,
+        },
     }
 }
 
@@ -138,7 +132,7 @@ fn length_of(title: u32, one: Claimed) -> i64
     if one.end == title {
         return 0;
     }
-    (one.end - one.start) as i64
+    i64::from(one.end - one.start)
 }
 
 fn lock_of(title: u32, one: Claimed) -> Locked
@@ -146,8 +140,8 @@ fn lock_of(title: u32, one: Claimed) -> Locked
     ensures { as_lock result ≡ lock_of title (as_claim one) }
 {
     Locked {
-        lock_type: one.kind as i64,
-        start: one.start as i64,
+        lock_type: i64::from(one.kind),
+        start: i64::from(one.start),
         span: length_of(title, one),
     }
 }

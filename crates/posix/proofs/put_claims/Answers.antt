@@ -1,5 +1,5 @@
 -- `posix::put_claims` meets its promise.
-use Rattle.posix.proofs.Lists.{stored_none, stored_all}
+use Rattle.posix.proofs.Lists.{stored_all}
 use Rattle.posix.proofs.Calls.{lock_passed, claim_stored}
 use Rattle.posix.proofs.put_claims.Goals as goal
 

@@ -1,5 +1,5 @@
 -- `posix::put_locks` meets its promise.
-use Rattle.posix.proofs.Lists.{stored_none, stored_all}
+use Rattle.posix.proofs.Lists.{stored_all}
 use Rattle.posix.proofs.Calls.{claim_in_order, lock_stored}
 use Rattle.posix.proofs.put_locks.Goals as goal
 
