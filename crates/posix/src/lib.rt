@@ -218,10 +218,8 @@ fn lock_refusal_at(title: u32, locks: &[i64], place: usize) -> Result<(), Refuse
 fn first_bad_lock(title: u32, locks: &[i64]) -> Result<(), BadRecord>
     ensures { means_moved result ≡ verdict (each (import_lock title) (locks_in locks.now)) }
 {
-    first_bad(
-        locks.len() / 3,
-        |place| lock_refusal_at(title, locks, place),
-    )
+    let count = locks.len() / 3;
+    first_bad(count, |place| lock_refusal_at(title, locks, place))
 }
 
 fn put_claims(title: u32, locks: &[i64], claims: &mut [u32])
@@ -266,10 +264,8 @@ fn claim_refusal_at(title: u32, claims: &[u32], place: usize) -> Result<(), Refu
 fn first_bad_claim(title: u32, claims: &[u32]) -> Result<(), BadRecord>
     ensures { means_moved result ≡ verdict (each (export_claim title) (claims_in claims.now)) }
 {
-    first_bad(
-        claims.len() / 3,
-        |place| claim_refusal_at(title, claims, place),
-    )
+    let count = claims.len() / 3;
+    first_bad(count, |place| claim_refusal_at(title, claims, place))
 }
 
 fn put_locks(title: u32, claims: &[u32], locks: &mut [i64])
