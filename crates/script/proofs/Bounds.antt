@@ -1,18 +1,23 @@
--- N, S, K and the title of what is read are within their bounds, and there are 1,000 rows, whatever the bytes.
-use Rattle.std.specs.Prelude.{if◌then◌else◌}
+-- N, S, K and the title of a script that is read are within their bounds, and there are 1,000 rows, whatever the bytes.
+use Rattle.std.specs.Prelude.{Some, Ok, if◌then◌else◌}
 use Prim.Native.Nat.{ℕ, zero, suc, ◌+◌, ◌≤◌}
 use native.Mathlib.Omega.{arith}
 use mathlib.Core.List.{List}
 use mathlib.Core.Bool.{Bool, true, false}
-use mathlib.Core.Path.{◌≡◌, refl, ◌∙◌}
+use mathlib.Core.Path.{◌≡◌, refl, sym, subst, ◌∙◌}
 use lib.ListN.{set, length, length-set, length-replicate}
 use borrow.Author.Tests.{leb-true, eqb-false}
 use Rattle.rules.specs.Notation.{◌is◌, ◌≤?◌, ◌<?◌}
 use Rattle.rules.specs.declared.Line.{Line}
 use Rattle.rules.specs.declared.Contents.{Contents}
+use Rattle.rules.specs.declared.Script.{Script}
+use Rattle.rules.specs.Means.{means_script}
+use Rattle.rules.specs.Script as reading
 use Rattle.rules.specs.Script.{nowhere, no_line, no_lines, body_at, in_bounds, contents_of, bad_at, good_script, bodies_from, read_script}
 use Rattle.rules.proofs.Ground.Logic.{all6, branch}
 use Rattle.script.specs.Bounded.{Bounded}
+use Rattle.script.specs.There.{contents_there}
+use Rattle.script.proofs.Reading.{found_it}
 
 -- line 1 found right
 record Top (n s k title : ℕ) : Type 0 where
@@ -45,47 +50,45 @@ unfolding contents_of
 contents_bounded src h = in_bounds_law _ _ _ _ _ _ _ refl h
 
 -- the form in which `read` asks it
-pub contents_calls : (src : List ℕ) (top : Contents) (w : ℕ) → top ≡ contents_of src → w ≡ nowhere src → (top.next ≡ w → ⊥) → top.k ≤ 1000
-contents_calls src top w e o h = rw e (contents_bounded src (rw (e, o) at h)).calls
+pub contents_calls : (src : List ℕ) (top : Contents) → Some top ≡ contents_there src (contents_of src) → top.k ≤ 1000
+contents_calls src top e = let w = found_it src _ _ top e in rw w.0 (contents_bounded src w.1).calls
 
-no_lines_length : length no_lines ≡ 1000
-no_lines_length = length-replicate 1000 no_line
+-- ---- a script that is not refused is within its bounds
+abbrev Within : reading.Script → Type 0
+Within s = s.refusal ≡ 0 → Top s.n s.s s.k s.title × (length s.rows ≡ 1000)
 
-bad_bounded : (wrong : ℕ) → Bounded (bad_at wrong)
+bad_within : (wrong : ℕ) → Within (bad_at wrong)
 unfolding bad_at
-bad_bounded wrong = record {
-  nodes = omega arith;
-  seats = omega arith;
-  calls = omega arith;
-  rows = no_lines_length;
-  some_nodes = λ e. absurd (omega arith);
-  some_seats = λ e. absurd (omega arith);
-  some_frames = λ e. absurd (omega arith);
-}
+bad_within wrong e = absurd (omega arith)
 
-good_bounded : (top : Contents) (rows : List Line) → Right top → length rows ≡ 1000 → Bounded (good_script top rows)
+good_within : (top : Contents) (rows : List Line) → Right top → length rows ≡ 1000 → Within (good_script top rows)
 unfolding good_script
-good_bounded top rows h e = record {
-  nodes = h.nodes;
-  seats = h.seats;
-  calls = h.calls;
-  rows = e;
-  some_nodes = λ z. h.some_nodes;
-  some_seats = λ z. h.some_seats;
-  some_frames = λ z. h.some_frames;
-}
+good_within top rows h e z = (h, e)
 
-bodies_bounded : (src : List ℕ) (top : Contents) (left i at : ℕ) (rows : List Line) → Right top → length rows ≡ 1000 → Bounded (bodies_from src top left i at rows)
+bodies_within : (src : List ℕ) (top : Contents) (left i at : ℕ) (rows : List Line) → Right top → length rows ≡ 1000 → Within (bodies_from src top left i at rows)
 unfolding bodies_from
-bodies_bounded src top zero i at rows h e =
-    branch Bounded (at is length src) (λ f. good_bounded top rows h e) (λ f. bad_bounded (i + 2))
-bodies_bounded src top (suc left) i at rows h e =
-    branch Bounded ((body_at src at).next is nowhere src) (λ f. bad_bounded (i + 2))
-    (λ f. bodies_bounded src top left (i + 1) (body_at src at).next (set rows i (body_at src at).line) h (length-set rows i (body_at src at).line ∙ e))
+bodies_within src top zero i at rows h e =
+    branch Within (at is length src) (λ f. good_within top rows h e) (λ f. bad_within (i + 2))
+bodies_within src top (suc left) i at rows h e =
+    branch Within ((body_at src at).next is nowhere src) (λ f. bad_within (i + 2))
+    (λ f. bodies_within src top left (i + 1) (body_at src at).next (set rows i (body_at src at).line) h (length-set rows i (body_at src at).line ∙ e))
 
-pub read_bounded : (src : List ℕ) → Bounded (read_script src)
+read_within : (src : List ℕ) → Within (read_script src)
 unfolding read_script
-read_bounded src =
-    branch Bounded (16384 <? length src) (λ f. bad_bounded 0)
-    (λ f. branch Bounded ((contents_of src).next is nowhere src) (λ f. bad_bounded 1)
-    (λ f. bodies_bounded src (contents_of src) _ _ _ _ (contents_bounded src (eqb-false (contents_of src).next (nowhere src) f)) no_lines_length))
+read_within src =
+    branch Within (16384 <? length src) (λ f. bad_within 0)
+    (λ f. branch Within ((contents_of src).next is nowhere src) (λ f. bad_within 1)
+    (λ f. bodies_within src (contents_of src) _ _ _ _ (contents_bounded src (eqb-false (contents_of src).next (nowhere src) f)) (length-replicate 1000 no_line)))
+
+pub read_bounded : (src : List ℕ) (script : Script) → means_script (Ok script) ≡ read_script src → Bounded script
+read_bounded src script e =
+    let w = subst Within (sym e) (read_within src) refl in
+    record {
+      nodes = w.0.nodes;
+      seats = w.0.seats;
+      calls = w.0.calls;
+      rows = w.1;
+      some_nodes = w.0.some_nodes;
+      some_seats = w.0.some_seats;
+      some_frames = w.0.some_frames;
+    }

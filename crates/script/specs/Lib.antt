@@ -1,2 +1,2 @@
 pub mod Bounded
-pub mod Digit
+pub mod There

@@ -1,115 +1,96 @@
-// Reading a script: a call of the library, proved for every string of bytes.
-#![tactic(auto)]
+// Reading a script: a call of the library, proved for every string of bytes. What is not there is `None`: the rules say it by the place after it, which
+// is then nowhere.
+#![tactic(auto, using(crate::proofs::Reading::ways))]
 
-ghost use Rattle.std.specs.Prelude.{◌≡◌, ◌≤◌};
-ghost use Rattle.rules.specs.Script.{byte_at, digits_from, number_at, field_at, reserve_line, seat_line, body_at, in_bounds, contents_of, no_line, no_lines, bad_at, bodies_from, read_script};
-ghost use Rattle.rules.specs.Script.{line_end as Script·lineEnd, nowhere as Script·nowhere};
-ghost use Rattle.script.specs.Digit.{digit_or_ten};
+ghost use Rattle.std.specs.Prelude.{◌≡◌, ◌≤◌, slice_get};
+ghost use Rattle.rules.specs.Means.{means_script};
+ghost use Rattle.rules.specs.Script.{digits_from, number_at, field_at, reserve_line, seat_line, body_at, in_bounds, contents_of, no_lines, bodies_from, read_script};
+ghost use Rattle.rules.specs.Script.{line_end as Script·lineEnd};
+ghost use Rattle.script.specs.There.{digit_there, found_there, place_there, body_there, contents_there};
 
-use rules::{Body, Contents, Found, Line, Script};
+use rules::{Body, Contents, Found, Line, Script, Wrong};
 
-// where a thing ends that is not there
-fn nowhere(src: &[u8]) -> usize
-    ensures { result ≡ Script·nowhere src.now }
+// what a script does not fill
+const NO_LINE: Line = Line {
+    code: 0,
+    seat: 0,
+    start: 0,
+    end: 0,
+    kind: 0,
+};
+
+fn byte(src: &[u8], at: usize) -> Option<u8>
+    ensures { result ≡ slice_get src.now at }
 {
-    src.len() + 1
+    src.get(at).copied()
 }
 
-fn byte(src: &[u8], at: usize) -> u8
-    ensures { result ≡ byte_at src.now at }
+fn digit(src: &[u8], at: usize) -> Option<u32>
+    ensures { result ≡ digit_there src.now at }
 {
-    if at < src.len() { src[at] } else { 0 }
-}
-
-// the digit at a place, or 10 where no digit stands
-fn digit(src: &[u8], at: usize) -> u32
-    ensures { result ≡ digit_or_ten src.now at }
-{
-    let b = byte(src, at);
-    if b < b'0' {
-        return 10;
+    let b = byte(src, at)?;
+    if !b.is_ascii_digit() {
+        return None;
     }
-    if b'9' < b {
-        return 10;
-    }
-    (b - b'0') as u32
+    Some(u32::from(b - b'0'))
 }
 
 fn digits(src: &[u8], left: u32, at: usize, value: u32) -> Found
     ensures { result ≡ digits_from src.now left at value }
 {
+    let here = Found { value, next: at };
     if left == 0 {
-        return Found {
-            value: value,
-            next: at,
-        };
+        return here;
     }
-    let d = digit(src, at);
-    if 10 <= d {
-        return Found {
-            value: value,
-            next: at,
-        };
+    let Some(d) = digit(src, at) else {
+        return here;
+    };
+    match value.checked_mul(10).and_then(|v| v.checked_add(d)) {
+        Some(more) => digits(src, left - 1, at + 1, more),
+        None => here,
     }
-    let more = value as u64 * 10 + d as u64;
-    if 4294967295 < more {
-        return Found {
-            value: value,
-            next: at,
-        };
-    }
-    digits(src, left - 1, at + 1, more as u32)
 }
 
-fn number(src: &[u8], at: usize) -> Found
-    ensures { result ≡ number_at src.now at }
+fn number(src: &[u8], at: usize) -> Option<Found>
+    ensures { result ≡ found_there src.now (number_at src.now at) }
 {
-    let d = digit(src, at);
-    if d == 10 {
-        return Found {
-            value: 0,
-            next: nowhere(src),
-        };
-    }
+    let d = digit(src, at)?;
     if d == 0 {
-        return Found {
+        return Some(Found {
             value: 0,
             next: at + 1,
-        };
+        });
     }
-    digits(src, 9, at + 1, d)
+    Some(digits(src, 9, at + 1, d))
 }
 
-fn field(src: &[u8], at: usize) -> Found
-    ensures { result ≡ field_at src.now at }
+fn field(src: &[u8], at: usize) -> Option<Found>
+    ensures { result ≡ found_there src.now (field_at src.now at) }
 {
-    if byte(src, at) == b' ' {
-        return number(src, at + 1);
-    }
-    Found {
-        value: 0,
-        next: nowhere(src),
+    match byte(src, at)? {
+        b' ' => number(src, at + 1),
+        _ => None,
     }
 }
 
-fn line_end(src: &[u8], at: usize) -> usize
-    ensures { result ≡ Script·lineEnd src.now at }
+fn line_end(src: &[u8], at: usize) -> Option<usize>
+    ensures { result ≡ place_there src.now (Script·lineEnd src.now at) }
 {
-    if byte(src, at) == b'\n' {
-        return at + 1;
+    match byte(src, at)? {
+        b'\n' => Some(at + 1),
+        _ => None,
     }
-    nowhere(src)
 }
 
-fn reserve_line(src: &[u8], at: usize) -> Body
-    ensures { result ≡ reserve_line src.now at }
+fn reserve_line(src: &[u8], at: usize) -> Option<Body>
+    ensures { result ≡ body_there src.now (reserve_line src.now at) }
 {
-    let seat = field(src, at);
-    let start = field(src, seat.next);
-    let end = field(src, start.next);
-    let kind = field(src, end.next);
-    let next = line_end(src, kind.next);
-    Body {
+    let seat = field(src, at)?;
+    let start = field(src, seat.next)?;
+    let end = field(src, start.next)?;
+    let kind = field(src, end.next)?;
+    let next = line_end(src, kind.next)?;
+    Some(Body {
         line: Line {
             code: 1,
             seat: seat.value,
@@ -117,153 +98,94 @@ fn reserve_line(src: &[u8], at: usize) -> Body
             end: end.value,
             kind: kind.value,
         },
-        next: next,
-    }
+        next,
+    })
 }
 
-fn seat_line(src: &[u8], code: u32, at: usize) -> Body
-    ensures { result ≡ seat_line src.now code at }
+fn seat_line(src: &[u8], code: u32, at: usize) -> Option<Body>
+    ensures { result ≡ body_there src.now (seat_line src.now code at) }
 {
-    let seat = field(src, at);
-    let next = line_end(src, seat.next);
-    Body {
+    let seat = field(src, at)?;
+    let next = line_end(src, seat.next)?;
+    Some(Body {
         line: Line {
-            code: code,
+            code,
             seat: seat.value,
-            start: 0,
-            end: 0,
-            kind: 0,
+            ..NO_LINE
         },
-        next: next,
-    }
+        next,
+    })
 }
 
-fn no_line() -> Line
-    ensures { result ≡ no_line }
+fn body_line(src: &[u8], at: usize) -> Option<Body>
+    ensures { result ≡ body_there src.now (body_at src.now at) }
 {
-    Line {
-        code: 0,
-        seat: 0,
-        start: 0,
-        end: 0,
-        kind: 0,
+    match byte(src, at)? {
+        b'v' => reserve_line(src, at + 1),
+        b's' => seat_line(src, 2, at + 1),
+        b'r' => seat_line(src, 3, at + 1),
+        b'e' => seat_line(src, 4, at + 1),
+        _ => None,
     }
 }
 
-fn body_line(src: &[u8], at: usize) -> Body
-    ensures { result ≡ body_at src.now at }
-{
-    let letter = byte(src, at);
-    if letter == b'v' {
-        return reserve_line(src, at + 1);
-    }
-    if letter == b's' {
-        return seat_line(src, 2, at + 1);
-    }
-    if letter == b'r' {
-        return seat_line(src, 3, at + 1);
-    }
-    if letter == b'e' {
-        return seat_line(src, 4, at + 1);
-    }
-    Body {
-        line: no_line(),
-        next: nowhere(src),
-    }
-}
-
+#[tactic(auto, unfolding(rules::specs::Script::in_bounds))]
 fn in_bounds(n: u32, s: u32, k: u32, title: u32) -> bool
     ensures { result ≡ in_bounds n s k title }
 {
-    (1 <= n) & (n <= 256) & (1 <= s) & (s <= 64) & (k <= 1000) & (1 <= title)
+    (1..=256).contains(&n) && (1..=64).contains(&s) && k <= 1000 && 1 <= title
 }
 
-fn contents_line(src: &[u8]) -> Contents
-    ensures { result ≡ contents_of src.now }
+fn contents_line(src: &[u8]) -> Option<Contents>
+    ensures { result ≡ contents_there src.now (contents_of src.now) }
 {
-    let n = number(src, 0);
-    let s = field(src, n.next);
-    let k = field(src, s.next);
-    let title = field(src, k.next);
-    if in_bounds(n.value, s.value, k.value, title.value) {
-        let next = line_end(src, title.next);
-        return Contents {
-            n: n.value,
-            s: s.value,
-            k: k.value,
-            title: title.value,
-            next: next,
-        };
+    let n = number(src, 0)?;
+    let s = field(src, n.next)?;
+    let k = field(src, s.next)?;
+    let title = field(src, k.next)?;
+    if !in_bounds(n.value, s.value, k.value, title.value) {
+        return None;
     }
-    Contents {
+    let next = line_end(src, title.next)?;
+    Some(Contents {
         n: n.value,
         s: s.value,
         k: k.value,
         title: title.value,
-        next: nowhere(src),
-    }
-}
-
-fn bad_at(wrong: u32) -> Script
-    ensures { result ≡ bad_at wrong }
-{
-    let none = no_line();
-    Script {
-        refusal: 10,
-        wrong: wrong,
-        n: 0,
-        s: 0,
-        k: 0,
-        title: 0,
-        rows: [none; 1000],
-    }
+        next,
+    })
 }
 
 // What follows line 1. Only `read` calls it, once line 1 is found right.
-fn bodies(src: &[u8], top: Contents) -> Script
+fn bodies(src: &[u8], top: Contents) -> Result<Script, Wrong>
     requires { top.k ≤ 1000 }
-    ensures { result ≡ bodies_from src.now top top.k 0 top.next no_lines }
+    ensures { means_script result ≡ bodies_from src.now top top.k 0 top.next no_lines }
 {
-    let none = no_line();
-    let mut rows = [none; 1000];
-    let k = top.k;
-    let mut i: u32 = 0;
+    let mut rows = [NO_LINE; 1000];
     let mut at = top.next;
-    while i < k {
-        let b = body_line(src, at);
-        let next = b.next;
-        if next == nowhere(src) {
-            return bad_at(i + 2);
-        }
-        let l = b.line;
-        rows[i as usize] = l;
-        at = next;
-        i += 1;
+    for i in 0..top.k {
+        let body = body_line(src, at).ok_or(Wrong { line: i + 2 })?;
+        rows[i as usize] = body.line;
+        at = body.next;
     }
     if at != src.len() {
-        return bad_at(i + 2);
+        return Err(Wrong { line: top.k + 2 });
     }
-    Script {
-        refusal: 0,
-        wrong: 0,
+    Ok(Script {
         n: top.n,
         s: top.s,
         k: top.k,
         title: top.title,
-        rows: rows,
-    }
+        rows,
+    })
 }
 
-pub fn read(src: &[u8]) -> Script
-    ensures { result ≡ read_script src.now }
+pub fn read(src: &[u8]) -> Result<Script, Wrong>
+    ensures { means_script result ≡ read_script src.now }
 {
     if 16384 < src.len() {
-        return bad_at(0);
+        return Err(Wrong { line: 0 });
     }
-    let top = contents_line(src);
-    let next = top.next;
-    if next == nowhere(src) {
-        return bad_at(1);
-    }
+    let top = contents_line(src).ok_or(Wrong { line: 1 })?;
     bodies(src, top)
 }
