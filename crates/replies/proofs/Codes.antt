@@ -1,16 +1,18 @@
--- A reply's numbers stand for what it means.
+-- An answer's numbers stand for what it means.
 use mathlib.Core.Path.{◌≡◌, refl}
+use Rattle.std.specs.Prelude.{Result, Ok, Err}
 use Rattle.rules.specs.Means.{means}
+use Rattle.rules.specs.declared.Refused.{Refused}
 use Rattle.rules.specs.declared.Reply.{Reply}
-use Rattle.rules.specs.declared.Reply.TheVariants.{Node, Out, On, Wait, Held, Back, Refused}
+use Rattle.rules.specs.declared.Reply.TheVariants.{Node, Out, On, Wait, Held, Back}
 use Rattle.replies.specs.Codes.{said_of, answer_by}
 
-pub answer_by_means : (r : Reply) → answer_by (said_of r) ≡ means r
+pub answer_by_means : (r : Result Reply Refused) → answer_by (said_of r) ≡ means r
 unfolding answer_by
-answer_by_means (Node n) = refl
-answer_by_means Out = refl
-answer_by_means On = refl
-answer_by_means (Wait n first end) = refl
-answer_by_means Held = refl
-answer_by_means Back = refl
-answer_by_means (Refused number) = refl
+answer_by_means (Ok (Node n)) = refl
+answer_by_means (Ok Out) = refl
+answer_by_means (Ok On) = refl
+answer_by_means (Ok (Wait n first end)) = refl
+answer_by_means (Ok Held) = refl
+answer_by_means (Ok Back) = refl
+answer_by_means (Err why) = refl

@@ -1,33 +1,41 @@
--- A reply as numbers, and the answer that they stand for.
-use Rattle.std.specs.Prelude.{ℕ, if◌then◌else◌}
+-- An answer as numbers, and the answer that they stand for.
+use Rattle.std.specs.Prelude.{ℕ, Option, Some, None, Result, Ok, Err, if◌then◌else◌}
 use Rattle.rules.specs.Notation.{◌is◌}
 use Rattle.rules.specs.Answers.{Answer, node, out, on, wait, held, back, refused}
+use Rattle.rules.specs.Means.{number_of}
+use Rattle.rules.specs.declared.Refused.{Refused}
 use Rattle.rules.specs.declared.Reply.{Reply}
-use Rattle.rules.specs.declared.Reply.TheVariants.{Node, Out, On, Wait, Held, Back, Refused}
+use Rattle.rules.specs.declared.Reply.TheVariants.{Node, Out, On, Wait, Held, Back}
+use Rattle.rules.specs.declared.SharedRun.{SharedRun}
 use Rattle.replies.specs.declared.Said.{Said}
 
-abbrev pub said : ℕ → ℕ → ℕ → ℕ → Said
-said code number first end = record { code = code; number = number; first = first; end = end }
+abbrev pub said : ℕ → ℕ → Option SharedRun → Said
+said code number run = record { code = code; number = number; run = run }
 
 -- with no run
 abbrev pub said_plainly : ℕ → ℕ → Said
-said_plainly code number = said code number 0 0
+said_plainly code number = said code number None
 
-abbrev pub said_of : Reply → Said
-said_of (Refused number) = said_plainly 0 number
-said_of (Node n) = said_plainly 1 n
-said_of Out = said_plainly 2 0
-said_of On = said_plainly 3 0
-said_of (Wait n first end) = said 4 n first end
-said_of Held = said_plainly 5 0
-said_of Back = said_plainly 6 0
+abbrev pub said_of : Result Reply Refused → Said
+said_of (Err why) = said_plainly 0 (number_of why)
+said_of (Ok (Node n)) = said_plainly 1 n
+said_of (Ok Out) = said_plainly 2 0
+said_of (Ok On) = said_plainly 3 0
+said_of (Ok (Wait n first end)) = said 4 n (Some (record { first = first; end = end }))
+said_of (Ok Held) = said_plainly 5 0
+said_of (Ok Back) = said_plainly 6 0
+
+-- a wait at n, of a run; without one it would be no wait
+abbrev pub wait_of : ℕ → Option SharedRun → Answer
+wait_of n (Some run) = wait n run.first run.end
+wait_of n None = refused n
 
 unfoldable pub answer_by : Said → Answer
 answer_by s =
     if s.code is 1 then node s.number
     else if s.code is 2 then out
     else if s.code is 3 then on
-    else if s.code is 4 then wait s.number s.first s.end
+    else if s.code is 4 then wait_of s.number s.run
     else if s.code is 5 then held
     else if s.code is 6 then back
     else refused s.number

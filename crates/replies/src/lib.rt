@@ -1,18 +1,25 @@
-// A reply as numbers: for callers that print it or hand it on as such.
+// An answer as numbers: for callers that print it, or hand it on to those that know no enums.
 #![tactic(auto)]
 
 ghost use Rattle.std.specs.Prelude.{◌≡◌};
+ghost use Rattle.rules.specs.Means.{number_of};
 ghost use Rattle.replies.specs.Codes.{said_plainly, said_of};
 
-use rules::Reply;
+use rules::{Refused, Reply, SharedRun};
 
-// What kind of answer a reply is, its number, and of a wait the first shared frame and the end of the shared run. 0 where the answer has none.
+// The number of a refusal in the tables of 01 and 02.
+pub fn number(why: Refused) -> u32
+    ensures { result ≡ number_of why }
+{
+    why as u32
+}
+
+// What kind of answer it is, as the C calls number the kinds, its number (0 where it has none), and of a wait the shared run.
 #[derive(Clone, Copy)]
 pub struct Said {
     pub code: u32,
     pub number: u32,
-    pub first: u32,
-    pub end: u32,
+    pub run: Option<SharedRun>,
 }
 
 // an answer with no run
@@ -20,28 +27,28 @@ fn plain(code: u32, number: u32) -> Said
     ensures { result ≡ said_plainly code number }
 {
     Said {
-        code: code,
-        number: number,
-        first: 0,
-        end: 0,
+        code,
+        number,
+        run: None,
     }
 }
 
-pub fn say(reply: Reply) -> Said
-    ensures { result ≡ said_of reply }
-{
-    match reply {
-        Reply::Refused(number) => plain(0, number),
-        Reply::Node(n) => plain(1, n),
-        Reply::Out => plain(2, 0),
-        Reply::On => plain(3, 0),
-        Reply::Wait(n, first, end) => Said {
-            code: 4,
-            number: n,
-            first: first,
-            end: end,
-        },
-        Reply::Held => plain(5, 0),
-        Reply::Back => plain(6, 0),
+impl From<Result<Reply, Refused>> for Said {
+    ghost from_gives = { λ reply said. said ≡ said_of reply };
+
+    fn from(reply: Result<Reply, Refused>) -> Said {
+        match reply {
+            Err(why) => plain(0, number(why)),
+            Ok(Reply::Node(n)) => plain(1, n),
+            Ok(Reply::Out) => plain(2, 0),
+            Ok(Reply::On) => plain(3, 0),
+            Ok(Reply::Wait(n, first, end)) => Said {
+                code: 4,
+                number: n,
+                run: Some(SharedRun { first, end }),
+            },
+            Ok(Reply::Held) => plain(5, 0),
+            Ok(Reply::Back) => plain(6, 0),
+        }
     }
 }

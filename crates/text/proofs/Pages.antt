@@ -34,13 +34,13 @@ unfolding puts put
 put_out l at b h = rw (le-ltb at (length l) h)
 
 -- ---- a text, byte by byte: what is left gives the whole, q
-pub text_again : (q : Page) (l l' t : List ℕ) (at at' i : ℕ) → page l' at' ≡ puts (page l at) (get_or t i 0 ∷ []) → i < length t → puts (page l at) (drop i t) ≡ q → puts (page l' at') (drop (i + 1) t) ≡ q
+pub text_again : (q p p' : Page) (t : List ℕ) (i : ℕ) → p' ≡ puts p (get_or t i 0 ∷ []) → i < length t → puts p (drop i t) ≡ q → puts p' (drop (i + 1) t) ≡ q
 unfolding puts
-text_again q l l' t at at' i e h p = rw (e, add-one i) (rw (drop-cons t i 0 h) at p)
+text_again q p p' t i e h rest = rw (e, add-one i) (rw (drop-cons t i 0 h) at rest)
 
-pub text_done : (q : Page) (l t : List ℕ) (at i : ℕ) → length t ≤ i → puts (page l at) (drop i t) ≡ q → page l at ≡ q
+pub text_done : (q p : Page) (t : List ℕ) (i : ℕ) → length t ≤ i → puts p (drop i t) ≡ q → p ≡ q
 unfolding puts
-text_done q l t at i h p = rw (drop_of_length-le t h) at p
+text_done q p t i h rest = rw (drop_of_length-le t h) at rest
 
 -- ---- what stands in the buffer in the end
 
@@ -58,11 +58,8 @@ puts_next_bound (b ∷ t) p =
     let k = puts_next_bound t (put p b) in
     omega arith
 
-pub reached : (l l' t : List ℕ) (at r : ℕ) → page l' r ≡ puts (page l at) t → r ≤ at + length t
-reached l l' t at r e = let h = puts_next_bound t (page l at) in let n : r ≡ (puts (page l at) t).next = ap next e in omega arith
-  where
-    next : Page → ℕ
-    next p = p.next
+pub reached : (p r : Page) (t : List ℕ) → r ≡ puts p t → r.next ≤ p.next + length t
+reached p r t e = rw e (puts_next_bound t p)
 
 -- a text for which there is room
 puts_fit : (t l : List ℕ) (at : ℕ) → at + length t ≤ length l → puts (page l at) t ≡ page (sets l at t) (at + length t)

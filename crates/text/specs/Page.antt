@@ -1,6 +1,7 @@
 -- A page: a buffer and the place where the next byte goes. A byte that finds no room is left out, so writing is total.
 use Rattle.std.specs.Prelude.{ℕ, ◌+◌, List, [], ◌∷◌, length, set, if◌then◌else◌}
 use Rattle.rules.specs.Notation.{◌<?◌}
+use Rattle.text.specs.declared.Page.{Page as Lent}
 
 pub record Page : Type 0 where
   pub buffer : List ℕ
@@ -8,6 +9,10 @@ pub record Page : Type 0 where
 
 abbrev pub page : List ℕ → ℕ → Page
 page buffer next = record { buffer = buffer; next = next }
+
+-- what a lent page holds
+abbrev pub page_of : Lent → Page
+page_of p = page p.out.now p.at
 
 -- a byte more, if there is room
 unfoldable pub put : Page → ℕ → Page

@@ -1,116 +1,130 @@
-// Text into a lent buffer, and the lines that the program prints. A byte that finds no room is left out, so every function is total.
-#![tactic(auto)]
+// Text onto a lent page, and the lines that the program prints. A byte that finds no room is left out, so every method is total.
+#![tactic(auto, using(crate::proofs::Lines::ways))]
 
-ghost use Rattle.std.specs.Prelude.{◌≡◌, ◌+◌, ◌≤◌, [], ◌∷◌, ◌++◌, length};
+ghost use Rattle.std.specs.Prelude.{◌≡◌, ◌+◌, ◌<◌, ◌≤◌, [], ◌∷◌, ◌++◌, length};
 ghost use Rattle.rules.specs.Answers.{wait};
+ghost use Rattle.rules.specs.Means.{means};
 ghost use Rattle.rules.specs.Play.{ascii, decimal, answer_text, row_text};
-ghost use Rattle.text.specs.Page.{page, puts};
-ghost use Rattle.replies.specs.Codes.{answer_by};
-ghost use Rattle.text.specs.Lines.{answer_line, row};
+ghost use Rattle.text.specs.Page.{page_of, puts};
+ghost use Rattle.text.specs.Lines.{answer_line};
 
-use replies::Said;
+use rules::{Refused, Reply, Row};
 
-pub fn put_byte(out: &mut [u8], at: usize, b: u8) -> usize
-    ensures { page out.new result ≡ puts (page out.old at) (b ∷ []) }
-{
-    if at < out.len() {
-        out[at] = b;
-        return at + 1;
+// A page: a lent buffer, and the place where the next byte goes.
+#[derive(Drop)]
+pub struct Page<'a> {
+    pub out: &'a mut [u8],
+    pub at: usize,
+}
+
+impl Page<'_> {
+    pub fn put_byte(&mut self, b: u8)
+        ensures same_buffer { self.new.out.ghost_name ≡ self.old.out.ghost_name }
+        ensures is_printed { page_of self.new ≡ puts (page_of self.old) (b ∷ []) }
+    {
+        if self.at < self.out.len() {
+            self.out[self.at] = b;
+            self.at += 1;
+        }
     }
-    at
-}
 
-pub fn put_text(out: &mut [u8], at: usize, text: &[u8]) -> usize
-    ensures { page out.new result ≡ puts (page out.old at) text.now }
-{
-    let mut next = at;
-    let mut i: usize = 0;
-    while i < text.len() {
-        next = put_byte(out, next, text[i]);
-        i += 1;
+    pub fn put_text(&mut self, text: &[u8])
+        ensures same_buffer { self.new.out.ghost_name ≡ self.old.out.ghost_name }
+        ensures is_printed { page_of self.new ≡ puts (page_of self.old) text.now }
+    {
+        for b in text {
+            self.put_byte(*b);
+        }
     }
-    next
-}
 
-pub fn put_number(out: &mut [u8], at: usize, n: u64) -> usize
-    ensures { page out.new result ≡ puts (page out.old at) (decimal n) }
-{
-    let digit = 48 + (n % 10) as u8;
-    if n < 10 {
-        return put_byte(out, at, digit);
+    pub fn put_number(&mut self, n: u64)
+        ensures same_buffer { self.new.out.ghost_name ≡ self.old.out.ghost_name }
+        ensures is_printed { page_of self.new ≡ puts (page_of self.old) (decimal n) }
+    {
+        if 10 <= n {
+            self.put_number(n / 10);
+        }
+        self.put_byte(b'0' + (n % 10) as u8);
     }
-    let next = put_number(out, at, n / 10);
-    put_byte(out, next, digit)
-}
 
-// A word and a number.
-pub fn put_named(out: &mut [u8], at: usize, word: &[u8], n: u64) -> usize
-    ensures { page out.new result ≡ puts (page out.old at) (word.now ++ decimal n) }
-{
-    let next = put_text(out, at, word);
-    put_number(out, next, n)
-}
-
-// A space and a number.
-pub fn put_next(out: &mut [u8], at: usize, n: u32) -> usize
-    ensures { page out.new result ≡ puts (page out.old at) (ascii " " ++ decimal n) }
-{
-    let next = put_byte(out, at, b' ');
-    put_number(out, next, n as u64)
-}
-
-// A line of a word and a number: `bad L`, `covered n`.
-pub fn put_line(out: &mut [u8], at: usize, word: &[u8], n: u64) -> usize
-    ensures is_printed { page out.new result ≡ puts (page out.old at) (word.now ++ decimal n ++ ascii "\n") }
-    ensures at_most { result ≤ at + length word.now + 21 }
-{
-    let next = put_named(out, at, word, n);
-    put_byte(out, next, b'\n')
-}
-
-// `hold seat start end kind`
-pub fn put_row(out: &mut [u8], at: usize, seat: u32, first: u32, end: u32, kind: u32) -> usize
-    ensures is_printed { page out.new result ≡ puts (page out.old at) (row_text (row seat first end kind)) }
-    ensures at_most { result ≤ at + 49 }
-{
-    let a = put_named(out, at, b"hold ", seat as u64);
-    let b = put_next(out, a, first);
-    let c = put_next(out, b, end);
-    let d = put_next(out, c, kind);
-    put_byte(out, d, b'\n')
-}
-
-// `wait n first end`
-fn put_wait(out: &mut [u8], at: usize, n: u32, first: u32, end: u32) -> usize
-    ensures { page out.new result ≡ puts (page out.old at) (answer_text (wait n first end)) }
-{
-    let node = put_named(out, at, b"wait ", n as u64);
-    let run = put_next(out, node, first);
-    put_next(out, run, end)
-}
-
-// A reply as numbers, which the printers take in its place.
-fn put_answer(out: &mut [u8], at: usize, said: Said) -> usize
-    ensures { page out.new result ≡ puts (page out.old at) (answer_text (answer_by said)) }
-{
-    let code = said.code;
-    match code {
-        1 => put_named(out, at, b"node ", said.number as u64),
-        2 => put_text(out, at, b"out"),
-        3 => put_text(out, at, b"on"),
-        4 => put_wait(out, at, said.number, said.first, said.end),
-        5 => put_text(out, at, b"held"),
-        6 => put_text(out, at, b"back"),
-        _ => put_named(out, at, b"no ", said.number as u64),
+    // A word and a number. One of 32 bits has at most 10 digits.
+    pub fn put_named(&mut self, word: &[u8], n: u64)
+        ensures same_buffer { self.new.out.ghost_name ≡ self.old.out.ghost_name }
+        ensures is_printed { page_of self.new ≡ puts (page_of self.old) (word.now ++ decimal n) }
+        ensures at_most { n < 4294967296 → self.new.at ≤ self.old.at + length word.now + 10 }
+    {
+        self.put_text(word);
+        self.put_number(n);
     }
-}
 
-// A call's line: its number and its answer.
-pub fn put_turn(out: &mut [u8], at: usize, number: u32, said: Said) -> usize
-    ensures { page out.new result ≡ puts (page out.old at) (answer_line number (answer_by said)) }
-{
-    let a = put_number(out, at, number as u64);
-    let b = put_byte(out, a, b' ');
-    let c = put_answer(out, b, said);
-    put_byte(out, c, b'\n')
+    // A space and a number.
+    pub fn put_next(&mut self, n: u32)
+        ensures same_buffer { self.new.out.ghost_name ≡ self.old.out.ghost_name }
+        ensures is_printed { page_of self.new ≡ puts (page_of self.old) (ascii " " ++ decimal n) }
+        ensures at_most { self.new.at ≤ self.old.at + 11 }
+    {
+        self.put_named(b" ", n as u64);
+    }
+
+    // A line of a word and a number: `bad L`, `covered n`.
+    pub fn put_line(&mut self, word: &[u8], n: u64)
+        ensures same_buffer { self.new.out.ghost_name ≡ self.old.out.ghost_name }
+        ensures is_printed { page_of self.new ≡ puts (page_of self.old) (word.now ++ decimal n ++ ascii "\n") }
+        ensures at_most { self.new.at ≤ self.old.at + length word.now + 21 }
+    {
+        self.put_named(word, n);
+        self.put_byte(b'\n');
+    }
+
+    // `hold seat start end kind`
+    pub fn put_row(&mut self, row: Row)
+        ensures same_buffer { self.new.out.ghost_name ≡ self.old.out.ghost_name }
+        ensures is_printed { page_of self.new ≡ puts (page_of self.old) (row_text row) }
+        ensures at_most { self.new.at ≤ self.old.at + 49 }
+    {
+        self.put_named(b"hold ", row.seat as u64);
+        self.put_next(row.first);
+        self.put_next(row.end);
+        self.put_next(row.kind);
+        self.put_byte(b'\n');
+    }
+
+    // `wait n first end`
+    fn put_wait(&mut self, n: u32, first: u32, end: u32)
+        ensures same_buffer { self.new.out.ghost_name ≡ self.old.out.ghost_name }
+        ensures is_printed { page_of self.new ≡ puts (page_of self.old) (answer_text (wait n first end)) }
+        ensures at_most { self.new.at ≤ self.old.at + 37 }
+    {
+        self.put_named(b"wait ", n as u64);
+        self.put_next(first);
+        self.put_next(end);
+    }
+
+    fn put_answer(&mut self, answer: Result<Reply, Refused>)
+        ensures same_buffer { self.new.out.ghost_name ≡ self.old.out.ghost_name }
+        ensures is_printed { page_of self.new ≡ puts (page_of self.old) (answer_text (means answer)) }
+        ensures at_most { self.new.at ≤ self.old.at + 37 }
+    {
+        match answer {
+            Ok(Reply::Node(n)) => self.put_named(b"node ", n as u64),
+            Ok(Reply::Out) => self.put_text(b"out"),
+            Ok(Reply::On) => self.put_text(b"on"),
+            Ok(Reply::Wait(n, first, end)) => self.put_wait(n, first, end),
+            Ok(Reply::Held) => self.put_text(b"held"),
+            Ok(Reply::Back) => self.put_text(b"back"),
+            Err(why) => self.put_named(b"no ", replies::number(why) as u64),
+        }
+    }
+
+    // A call's line: its number and its answer. No script has 10,000 calls.
+    pub fn put_turn(&mut self, number: u32, answer: Result<Reply, Refused>)
+        ensures same_buffer { self.new.out.ghost_name ≡ self.old.out.ghost_name }
+        ensures is_printed { page_of self.new ≡ puts (page_of self.old) (answer_line number (means answer)) }
+        ensures at_most { number < 10000 → self.new.at ≤ self.old.at + 43 }
+    {
+        self.put_number(number as u64);
+        self.put_byte(b' ');
+        self.put_answer(answer);
+        self.put_byte(b'\n');
+    }
 }

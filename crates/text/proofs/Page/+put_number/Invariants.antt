@@ -1,5 +1,5 @@
 -- The measure is the number itself, which falls with each digit.
-use Rattle.text.proofs.+put_number.Given as goal
+use Rattle.text.proofs.Page.+put_number.Given as goal
 
 abbrev pub decreases-put_number : goal.decreases-put_number
 decreases-put_number l = l.n

@@ -1,9 +1,0 @@
--- `text::put_number` meets its contract.
-use Rattle.text.proofs.Decimals.{number_small, number_more}
-use Rattle.text.proofs.+put_number.Goals as goal
-
-pub returns-then-n-lt10 : goal.returns-then-n-lt10
-returns-then-n-lt10 t c = search number_small
-
-pub returns : goal.returns
-returns t c = search number_more
