@@ -3,15 +3,16 @@
 // of all code these functions alone look at it for where a word stands, and they choose a number by it and never a way.
 #![tactic(auto)]
 
-ghost use Rattle.std.specs.Prelude.{◌≡◌, length, get_or, set, drop, false, [], ◌+◌, ◌-◌, ◌*◌, ◌<◌, ◌≤◌};
+ghost use Rattle.std.specs.Prelude.{◌≡◌, length, get_or, set, drop, true, false, [], ◌+◌, ◌-◌, ◌*◌, ◌<◌, ◌≤◌};
 ghost use Rattle.rules.specs.Tables as table;
 ghost use Rattle.rules.specs.Tables.{tables, title_at, put_top, count_at, before_nodes, node_width, seat_width, node_word, put_node, link_word, put_link, count_word, set_count, seat_word, put_seat, clear_words, node_count_of, seat_count_of, zeros};
 ghost use Rattle.rules.specs.Comparison.{claim_of};
 ghost use Rattle.rules.specs.Means.{means_claim};
-ghost use Rattle.rules.specs.Shape.{nodes_fit, seats_fit};
+ghost use Rattle.rules.specs.Shape.{nodes_fit, seats_fit, sound};
 ghost use Rattle.words.specs.Parts.{with_zeros};
 
 use rules::{Claim, Profile};
+use std::marker::{Model, PhantomData};
 
 // Where the words of a node stand in it.
 pub const START: u32 = 0;
@@ -386,4 +387,78 @@ pub fn fresh_seats() -> [u32; 256]
     ensures { result ≡ zeros (seat_width false * 64) }
 {
     [0; 256]
+}
+
+// ---- sound tables, lent to read
+
+// Tables that have passed the test for damage. A clause sees the tables.
+#[derive(Drop)]
+pub struct Sound<'a, P: Profile> {
+    nodes: &'a [u32],
+    seats: &'a [u32],
+    profile: PhantomData<P>,
+}
+
+impl<'a, P: Profile> Model for Sound<'a, P> {
+    ghost use Rattle.std.specs.Prelude.{◌≡◌, true};
+    ghost use Rattle.rules.specs.Tables.{Tables, tables};
+    ghost use Rattle.rules.specs.Shape.{sound};
+
+    ghost Value = { Tables };
+
+    ghost view = { λ lent. tables P.SHEET lent.nodes.now lent.seats.now };
+
+    ghost invariant = { λ lent. sound (tables P.SHEET lent.nodes.now lent.seats.now) ≡ true };
+}
+
+impl<'a, P: Profile> Sound<'a, P> {
+    pub fn tables(nodes: &'a [u32], seats: &'a [u32]) -> Self
+        requires { sound (tables P.SHEET nodes.now seats.now) ≡ true }
+        ensures { result ≡ tables P.SHEET nodes.now seats.now }
+    {
+        Sound {
+            nodes,
+            seats,
+            profile: PhantomData,
+        }
+    }
+
+    pub fn node_count(&self) -> usize
+        ensures { result ≡ table.node_count self.now }
+    {
+        node_count::<P>(self.nodes)
+    }
+
+    pub fn seat_count(&self) -> u32
+        ensures all { result ≡ table.seat_count self.now }
+        ensures few { result ≤ 64 }
+    {
+        seat_count::<P>(self.seats) as u32
+    }
+
+    // a word of a seat that there is
+    pub fn seat_word(&self, s: u32, field: u32) -> u32
+        requires has_seat { s < table.seat_count self.now }
+        requires has_word { field < seat_width self.now.sheet }
+        ensures { result ≡ seat_word self.now.sheet self.now.seats s field }
+    {
+        seat_word_within::<P>(self.seats, s, field)
+    }
+
+    // a word of a node that there is
+    pub fn node_word(&self, a: u32, field: u32) -> u32
+        requires is_node { a ≡ 0 → ⊥ }
+        requires has_node { a ≤ table.node_count self.now }
+        requires has_word { field < node_width }
+        ensures { result ≡ node_word self.now.sheet self.now.nodes a field }
+    {
+        node_word_within::<P>(self.nodes, a, field)
+    }
+
+    // the next of a node, and of 0 the head
+    pub fn link(&self, a: u32) -> u32
+        ensures { result ≡ table.link self.now a }
+    {
+        link::<P>(self.nodes, a)
+    }
 }
