@@ -361,22 +361,25 @@ ends_next t (suc left) a g h = let e : suc left - 1 ≡ left = omega arith in rw
 pub within_some : (n a : ℕ) → (eqb a 0 || ltb n a) ≡ false → a ≢ 0
 within_some n a e = eqb-false a 0 (or_neither (eqb a 0) (ltb n a) e).0
 
-module _ (sheet : Bool) (l : List ℕ) (left a : ℕ) (whole : ends_within left (tables sheet l []) a ≡ list_ends (tables sheet l [])) where
-  pub ends_again : (n x : ℕ) → x ≡ link_word sheet l a → left ≢ 0 → (eqb a 0 || ltb n a) ≡ false → ends_within (left - 1) (tables sheet l []) x ≡ list_ends (tables sheet l [])
-  ends_again n x p g e = rw p (ends_next (tables sheet l []) left a g (within_some n a e) ∙ whole)
+-- after k nodes
+module _ (sheet : Bool) (l : List ℕ) (n k a : ℕ) (whole : ends_within (n - k) (tables sheet l []) a ≡ list_ends (tables sheet l [])) where
+  pub ends_again : (x : ℕ) → x ≡ link_word sheet l a → k < n → (eqb a 0 || ltb n a) ≡ false → ends_within (n - (k + 1)) (tables sheet l []) x ≡ list_ends (tables sheet l [])
+  ends_again x p h e =
+      let one_less : n - (k + 1) ≡ n - k - 1 = omega arith in
+      rw (one_less, p) (ends_next (tables sheet l []) (n - k) a (λ z. omega arith) (within_some n a e) ∙ whole)
 
-  pub ends_left : left ≡ 0 → eqb a 0 ≡ list_ends (tables sheet l [])
+  pub ends_left : n ≤ k → eqb a 0 ≡ list_ends (tables sheet l [])
   unfolding ends_within
-  ends_left e = rw e at whole
+  ends_left h = let none : n - k ≡ 0 = omega arith in rw none at whole
 
   -- 0, or past the last node, where the next reads 0
-  pub ends_out : (n : ℕ) → n ≡ node_count_of sheet l → nodes_fit (tables sheet l []) ≡ true → (eqb a 0 || ltb n a) ≡ true → left ≢ 0 → true ≡ list_ends (tables sheet l [])
-  ends_out n k fit e g = elim (or_case (eqb a 0) (ltb n a) e) [
-    | inl z ↦ sym (ends_zero (tables sheet l []) left a (eqb-true a 0 z)) ∙ whole
+  pub ends_out : n ≡ node_count_of sheet l → nodes_fit (tables sheet l []) ≡ true → (eqb a 0 || ltb n a) ≡ true → k < n → true ≡ list_ends (tables sheet l [])
+  ends_out is_count fit e h = elim (or_case (eqb a 0) (ltb n a) e) [
+    | inl z ↦ sym (ends_zero (tables sheet l []) (n - k) a (eqb-true a 0 z)) ∙ whole
     | inr z ↦
-        let past : node_count_of sheet l < a = rw k at (ltb-true n a z) in
-        sym (ends_zero (tables sheet l []) (left - 1) (link_word sheet l a) (link_past (tables sheet l []) a (nodes_fit_law (tables sheet l []) fit).0 past))
-        ∙ ends_next (tables sheet l []) left a g (omega arith)
+        let past : node_count_of sheet l < a = rw is_count at (ltb-true n a z) in
+        sym (ends_zero (tables sheet l []) (n - k - 1) (link_word sheet l a) (link_past (tables sheet l []) a (nodes_fit_law (tables sheet l []) fit).0 past))
+        ∙ ends_next (tables sheet l []) (n - k) a (λ z. omega arith) (omega arith)
         ∙ whole
   ]
 
@@ -390,8 +393,8 @@ pub nodes_of_fit : (sheet : Bool) (l t : List ℕ) → lengths_fit (tables sheet
 unfolding lengths_fit nodes_fit
 nodes_of_fit sheet l t e = and_left (nodes_fit (tables sheet l [])) (seats_fit (tables sheet l t)) e
 
-pub ends_all : (sheet : Bool) (l : List ℕ) (n a : ℕ) → n ≡ node_count_of sheet l → a ≡ link_word sheet l 0 → ends_within n (tables sheet l []) a ≡ list_ends (tables sheet l [])
-ends_all sheet l n a p q = rw (p, q)
+pub ends_all : (sheet : Bool) (l : List ℕ) (n a : ℕ) → n ≡ node_count_of sheet l → a ≡ link_word sheet l 0 → ends_within (n - 0) (tables sheet l []) a ≡ list_ends (tables sheet l [])
+ends_all sheet l n a p q = let e : n - 0 ≡ n = omega arith in rw (e, p, q)
 
 pub long_enough : (sheet : Bool) (l t : List ℕ) → lengths_fit (tables sheet l t) ≡ true → before_nodes sheet ≤ length l
 long_enough sheet l t e = let h = (lengths_fit_law (tables sheet l t) e).nodes_length in omega arith

@@ -1,9 +1,11 @@
 -- Parts of sound shape: what it leaves out by the profile, its two clauses on the nodes together, what it asks of a seat's own, prev and cur by the seat's phase, its two clauses on
 -- the seats together, and its last clause alone.
-use Rattle.std.specs.Prelude.{ℕ, Bool, true, false, not, ◌&&◌, if◌then◌else◌}
+use Rattle.std.specs.Prelude.{ℕ, Bool, true, false, not, ◌&&◌, Result, Ok, Err, if◌then◌else◌}
 use Rattle.rules.specs.Notation.{◌is◌, ◌≤?◌}
 use Rattle.rules.specs.Tables.{Tables, node_count, end, kind, head, phase, own}
-use Rattle.rules.specs.Shape.{names, node_sound, nodes_sound, seats_sound, holders_of_kind, ends_by, ends_within}
+use Rattle.rules.specs.Shape.{names, node_sound, nodes_sound, seats_sound, holders_of_kind, ends_by, ends_within, sound}
+use Rattle.rules.specs.declared.Refused.{Refused}
+use Rattle.rules.specs.declared.Refused.TheVariants.{Damaged}
 
 -- the least kind that a claim may have; 2 is the largest
 abbrev pub least_kind : Bool → ℕ
@@ -48,3 +50,7 @@ seats_and_counts_sound t readers writers = seats_sound t && (readers is holders_
 -- "from the head, 0 is met after at most N nodes"
 abbrev pub list_ends : Tables → Bool
 list_ends t = ends_within (node_count t) t (head t)
+
+-- sound tables, or refusal 1
+abbrev pub if_sound : Tables → Result Tables Refused
+if_sound t = if sound t then Ok t else Err Damaged

@@ -7,9 +7,10 @@ ghost use Rattle.rules.specs.Notation.{◌is◌};
 ghost use Rattle.rules.specs.Tables.{tables, node_count_of, seat_count_of, phase};
 ghost use Rattle.rules.specs.Shape.{nodes_fit, lengths_fit, may_claim, names, seat_sound, sound};
 ghost use Rattle.words.specs.Parts.{with_zeros};
-ghost use Rattle.shape.specs.Parts.{least_kind, node_sound_by, nodes_sound_by, busy_sound, waiting_sound, resting_sound, ordinary_sound, held_kind, seats_and_counts_sound, list_ends};
+ghost use Rattle.shape.specs.Parts.{least_kind, node_sound_by, nodes_sound_by, busy_sound, waiting_sound, resting_sound, ordinary_sound, held_kind, seats_and_counts_sound, list_ends, if_sound};
 
-use rules::Profile;
+use rules::{Profile, Refused};
+use words::Sound;
 
 pub fn lengths_fit<P: Profile>(nodes: &[u32], seats: &[u32]) -> bool
     ensures { result ≡ lengths_fit (tables P.SHEET nodes.now seats.now) }
@@ -80,11 +81,8 @@ fn nodes_sound<P: Profile>(part: &[u32], n: u32, title: u32) -> bool
     requires { n ≡ node_count_of P.SHEET (with_zeros P.SHEET part.now) }
     ensures { result ≡ nodes_sound_by (tables P.SHEET (with_zeros P.SHEET part.now) []) title }
 {
-    let mut i: u32 = 0;
-    while i < n {
-        if node_sound::<P>(part, n, title, i + 1) {
-            i += 1;
-        } else {
+    for i in 0..n {
+        if !node_sound::<P>(part, n, title, i + 1) {
             return false;
         }
     }
@@ -211,17 +209,14 @@ fn seats_and_counts_sound<P: Profile>(
 {
     let mut reading: u32 = 0;
     let mut writing: u32 = 0;
-    let mut s: u32 = 0;
-    while s < count {
+    for s in 0..count {
         if !seat_sound::<P>(part, seats, n, s) {
             return false;
         }
-        let kind = held_kind::<P>(part, seats, s);
-        s += 1;
-        if kind == 1 {
-            reading += 1;
-        } else if kind == 2 {
-            writing += 1;
+        match held_kind::<P>(part, seats, s) {
+            1 => reading += 1,
+            2 => writing += 1,
+            _ => (),
         }
     }
     (readers == reading) & (writers == writing)
@@ -235,14 +230,12 @@ pub fn list_ends<P: Profile>(nodes: &[u32]) -> bool
     ensures { result ≡ list_ends (tables P.SHEET nodes.now []) }
 {
     let n = words::node_count::<P>(nodes) as u32;
-    let mut left = n;
     let mut a = words::link::<P>(nodes, 0);
-    while left != 0 {
+    for _ in 0..n {
         if (a == 0) | (n < a) {
             return true;
         }
         a = words::next_within::<P>(nodes, a);
-        left -= 1;
     }
     a == 0
 }
@@ -281,4 +274,17 @@ pub fn is_sound<P: Profile>(nodes: &[u32], seats: &[u32]) -> bool
         return words_sound::<P>(nodes, seats);
     }
     false
+}
+
+// The tables as such, or the refusal that a call on damaged ones has first.
+pub fn sound_tables<'a, P: Profile>(
+    nodes: &'a [u32],
+    seats: &'a [u32],
+) -> Result<Sound<'a, P>, Refused>
+    ensures { result ≡ if_sound (tables P.SHEET nodes.now seats.now) }
+{
+    if is_sound::<P>(nodes, seats) {
+        return Ok(Sound::tables(nodes, seats));
+    }
+    Err(Refused::Damaged)
 }

@@ -317,11 +317,8 @@ pub fn put_field<P: Profile>(seat: &mut [u32], at: u32, value: u32)
 pub fn clear_seat<P: Profile>(seat: &mut [u32])
     ensures { seat.new ≡ clear_words P.SHEET (seat_width P.SHEET) seat.old 0 }
 {
-    let width = seat_width::<P>();
-    let mut at: u32 = 0;
-    while (at as usize) < width {
+    for at in 0..seat_width::<P>() as u32 {
         put_field::<P>(seat, at, 0);
-        at += 1;
     }
 }
 

@@ -6,8 +6,8 @@ use Rattle.shape.proofs.list_ends.Goals as goal
 pub overflow_cast-n : goal.overflow_cast-n
 overflow_cast-n g c = omega (arith, few_fit _ _ _ c.node_count-n.ensures c.requires)
 
-pub loop-left-init : goal.loop-left-init
-loop-left-init g c = search ends_all
+pub loop-init : goal.loop-init
+loop-init g c = search ends_all
 
 pub returns-then-a-n : goal.returns-then-a-n
 returns-then-a-n g c = search ends_out
@@ -15,8 +15,8 @@ returns-then-a-n g c = search ends_out
 pub next_within-a-requires : goal.next_within-a-requires
 next_within-a-requires g c = search (within_some, within_in)
 
-pub loop-left-preserved : goal.loop-left-preserved
-loop-left-preserved g c = search ends_again
+pub loop-preserved : goal.loop-preserved
+loop-preserved g c = search ends_again
 
 pub returns : goal.returns
 returns g c = search ends_left
