@@ -4,25 +4,23 @@ use Prim.Native.Nat.{ℕ, zero, suc, ◌+◌, ◌-◌, ◌≤◌}
 use native.Mathlib.Omega.{arith}
 use native.Mathlib.Numerals.{add-one}
 use mathlib.Core.Bool.{Bool, true, false}
-use mathlib.Core.List.{List, [], ◌∷◌, ◌++◌, append-nil}
-use mathlib.Core.Logic.{◌≢◌}
+use mathlib.Core.List.{[], ◌∷◌, ◌++◌, append-nil}
 use mathlib.Core.Path.{◌≡◌, refl, sym, ap, ◌∙◌}
 use lib.ListN.{length, length-append}
-use borrow.Author.Tests.{eq-eqb, ne_eqb}
 use Rattle.rules.specs.Notation.{◌is◌, count}
-use Rattle.rules.specs.Tables.{Tables, seat_word, seat_count, phase_at, phase}
+use Rattle.rules.specs.Tables.{Tables, seat_count, phase}
 use Rattle.rules.specs.Board.{row_of, rows_below, holders}
 use Rattle.holders.specs.Holding.{holding, held_by}
 
 -- ---- a seat's part of the board
-module _ (t : Tables) (s w : ℕ) (is_phase : w ≡ phase t s) where
-  pub held_none : w ≢ 5 → held_by t s ≡ []
+module _ (t : Tables) (s : ℕ) (b : Bool) (is_held : b ≡ (phase t s is 5)) where
+  pub held_none : b ≡ false → held_by t s ≡ []
   unfolding held_by
-  held_none h = rw (← is_phase, ne_eqb w 5 h)
+  held_none e = rw (sym is_held ∙ e)
 
-  pub held_one : w ≡ 5 → held_by t s ≡ row_of t s ∷ []
+  pub held_one : b ≡ true → held_by t s ≡ row_of t s ∷ []
   unfolding held_by
-  held_one h = rw (← is_phase, eq-eqb w 5 h)
+  held_one e = rw (sym is_held ∙ e)
 
 -- ---- one seat more
 rows_by : (t : Tables) (s : ℕ) (b : Bool) → (if b then rows_below s t ++ (row_of t s ∷ []) else rows_below s t) ≡ rows_below s t ++ (if b then row_of t s ∷ [] else [])
@@ -33,12 +31,12 @@ pub rows_again : (t : Tables) (s : ℕ) → rows_below (s + 1) t ≡ rows_below 
 unfolding rows_below held_by
 rows_again t s = rw (add-one s) (rows_by t s (phase t s is 5))
 
-module _ (t : Tables) (s w : ℕ) (is_phase : w ≡ phase t s) where
-  pub rows_more : w ≡ 5 → rows_below (s + 1) t ≡ rows_below s t ++ (row_of t s ∷ [])
-  rows_more h = rows_again t s ∙ rw (held_one t s w is_phase h)
+module _ (t : Tables) (s : ℕ) (b : Bool) (is_held : b ≡ (phase t s is 5)) where
+  pub rows_more : b ≡ true → rows_below (s + 1) t ≡ rows_below s t ++ (row_of t s ∷ [])
+  rows_more e = rows_again t s ∙ rw (held_one t s b is_held e)
 
-  pub rows_same : w ≢ 5 → rows_below (s + 1) t ≡ rows_below s t
-  rows_same h = rows_again t s ∙ rw (held_none t s w is_phase h) (append-nil (rows_below s t))
+  pub rows_same : b ≡ false → rows_below (s + 1) t ≡ rows_below s t
+  rows_same e = rows_again t s ∙ rw (held_none t s b is_held e) (append-nil (rows_below s t))
 
 -- after the last seat
 pub rows_all : (t : Tables) (s n : ℕ) → n ≡ seat_count t → s ≤ n → n ≤ s → rows_below s t ≡ holders t
@@ -77,17 +75,11 @@ rows_counted t (suc n) = go (phase t n is 5) (rows_counted t n)
     go false h = h ∙ omega arith
 
 -- ---- `count`, seat by seat
-pub holding_none : (sheet : Bool) (t : List ℕ) → 0 ≡ holding sheet t 0
-unfolding holding count
-holding_none sheet t = refl
+module _ (t : Tables) (s found : ℕ) (sofar : found ≡ holding t.sheet t.seats s) (b : Bool) (is_held : b ≡ (phase t s is 5)) where
+  pub holding_more : b ≡ true → found + 1 ≡ holding t.sheet t.seats (s + 1)
+  unfolding holding count
+  holding_more e = rw (add-one s, sym is_held ∙ e) (ap (λ (m : ℕ). m + 1) sofar)
 
-pub holding_more : (sheet : Bool) (t : List ℕ) (s p n : ℕ) → n ≡ holding sheet t s → p ≡ seat_word sheet t s phase_at → p ≡ 5 → n + 1 ≡ holding sheet t (s + 1)
-unfolding holding count
-holding_more sheet t s p n h q e = rw (add-one s, sym q ∙ e) (ap (λ (m : ℕ). m + 1) h)
-
-pub holding_same : (sheet : Bool) (t : List ℕ) (s p n : ℕ) → n ≡ holding sheet t s → p ≡ seat_word sheet t s phase_at → p ≢ 5 → n ≡ holding sheet t (s + 1)
-unfolding holding count
-holding_same sheet t s p n h q d = rw (add-one s, ne_eqb (seat_word sheet t s phase_at) 5 (λ e. d (q ∙ e))) (h ∙ omega arith)
-
-pub holding_done : (sheet : Bool) (t : List ℕ) (s k n : ℕ) → n ≡ holding sheet t s → k ≤ s → s ≤ k → n ≡ holding sheet t k
-holding_done sheet t s k n h a b = let e : s ≡ k = omega arith in rw (← e) h
+  pub holding_same : b ≡ false → found ≡ holding t.sheet t.seats (s + 1)
+  unfolding holding count
+  holding_same e = rw (add-one s, sym is_held ∙ e) (sofar ∙ omega arith)

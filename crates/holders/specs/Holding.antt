@@ -1,10 +1,9 @@
 -- The holders among the first seats. The board's own definitions, rows and covered frames, are those of the rules.
-use Rattle.std.specs.Prelude.{ℕ, ◌+◌, Bool, List, [], ◌∷◌, if◌then◌else◌}
+use Rattle.std.specs.Prelude.{ℕ, Bool, List, [], ◌∷◌, if◌then◌else◌}
 use Rattle.rules.specs.Notation.{◌is◌, count}
 use Rattle.rules.specs.Tables.{Tables, seat_word, phase_at, phase}
 use Rattle.rules.specs.Board.{row_of}
 use Rattle.rules.specs.declared.Row.{Row}
-use Rattle.covering.specs.Runs.{Ordered, CoversOneMore}
 
 -- how many of the first n seats hold
 unfoldable pub holding : Bool → List ℕ → ℕ → ℕ
@@ -15,8 +14,3 @@ unfoldable pub held_by : Tables → ℕ → List Row
 held_by t s =
     if phase t s is 5 then row_of t s ∷ []
     else []
-
--- a holder's run has joined the runs in order, which now begin at start
-abbrev pub Joined : Tables → ℕ → List ℕ → ℕ → ℕ → List ℕ → ℕ → Type 0
-Joined t s before low held after start =
-    Ordered after start (held + 1) × CoversOneMore before low held (row_of t s).first (row_of t s).end after start

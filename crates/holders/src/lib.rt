@@ -1,91 +1,65 @@
-// The holders of tables that are known to be sound: how many there are, the row of each, and the frames that they cover. The board and
-// the program's closing lines walk over them. A holder of sound tables owns a node of the table, so no read is tested.
+// The holders of sound tables: how many there are, the row of each, and the frames that they cover. The board and the program's closing lines walk over
+// them. A holder of sound tables owns a node of the table, so no read is tested.
 #![tactic(auto)]
 
-ghost use Rattle.std.specs.Prelude.{◌≡◌, true, ◌≤◌, ◌<◌};
-ghost use Rattle.rules.specs.Tables.{tables, seat_count_of};
-ghost use Rattle.rules.specs.Shape.{sound};
+ghost use Rattle.std.specs.Prelude.{◌≡◌, ◌<◌};
+ghost use Rattle.rules.specs.Notation.{◌is◌};
+ghost use Rattle.rules.specs.Tables.{seat_count, phase};
 ghost use Rattle.rules.specs.Board.{row_of, covered_by};
 ghost use Rattle.rules.specs.Board as rule;
 ghost use Rattle.rules.specs.Apart.{Holds};
-ghost use Rattle.covering.specs.Runs.{Ordered};
-ghost use Rattle.holders.specs.Holding.{holding, Joined};
+ghost use Rattle.holders.specs.Holding.{holding};
 
+use covering::Runs;
 use rules::{Profile, Row};
+use words::Sound;
 
-// how many of the first seats hold
-pub fn count<P: Profile>(seats: &[u32], below: u32) -> u32
-    requires { below ≤ seat_count_of P.SHEET seats.now }
-    ensures { result ≡ holding P.SHEET seats.now below }
+// whether a seat holds
+pub fn holds<P: Profile>(tables: &Sound<P>, s: u32) -> bool
+    requires { s < seat_count tables.now }
+    ensures { result ≡ (phase tables.now s is 5) }
+{
+    tables.seat_word(s, words::PHASE) == 5
+}
+
+// how many seats hold
+pub fn count<P: Profile>(tables: &Sound<P>) -> u32
+    ensures { result ≡ holding tables.now.sheet tables.now.seats (seat_count tables.now) }
 {
     let mut found: u32 = 0;
-    let mut s: u32 = 0;
-    while s < below {
-        if words::seat_word_within::<P>(seats, s, words::PHASE) == 5 {
+    for s in 0..tables.seat_count() {
+        if holds(tables, s) {
             found += 1;
-            s += 1;
-        } else {
-            s += 1;
         }
     }
     found
 }
 
 // the row of a holder
-pub fn row_of<P: Profile>(nodes: &[u32], seats: &[u32], s: u32) -> Row
-    requires tables_sound { sound (tables P.SHEET nodes.now seats.now) ≡ true }
-    requires holds { Holds (tables P.SHEET nodes.now seats.now) s }
-    ensures { result ≡ row_of (tables P.SHEET nodes.now seats.now) s }
+pub fn row_of<P: Profile>(tables: &Sound<P>, s: u32) -> Row
+    requires { Holds tables.now s }
+    ensures { result ≡ row_of tables.now s }
 {
-    let own = words::seat_word_within::<P>(seats, s, words::OWN);
-    let first = words::node_word_within::<P>(nodes, own, words::START);
-    let end = words::node_word_within::<P>(nodes, own, words::END);
-    let kind = words::node_word_within::<P>(nodes, own, words::KIND);
+    tables.are_sound();
+    let own = tables.seat_word(s, words::OWN);
     Row {
         seat: s,
-        first: first,
-        end: end,
-        kind: kind,
+        first: tables.node_word(own, words::START),
+        end: tables.node_word(own, words::END),
+        kind: tables.node_word(own, words::KIND),
     }
-}
-
-// A holder's run joins those in order. The answer says where they begin then.
-fn gather<P: Profile>(
-    nodes: &[u32],
-    seats: &[u32],
-    s: u32,
-    places: &mut [u64; 128],
-    low: usize,
-    held: usize,
-) -> usize
-    requires tables_sound { sound (tables P.SHEET nodes.now seats.now) ≡ true }
-    requires holds { Holds (tables P.SHEET nodes.now seats.now) s }
-    requires ordered { Ordered places.old low held }
-    requires has_room { held < 64 }
-    ensures { Joined (tables P.SHEET nodes.now seats.now) s places.old low held places.new result }
-{
-    let row = row_of::<P>(nodes, seats, s);
-    covering::put(places, low, held, row.first, row.end)
 }
 
 // The frames that the holders cover, each counted once: their runs are put in order as they are met.
-pub fn covered<P: Profile>(nodes: &[u32], seats: &[u32]) -> u64
-    requires { sound (tables P.SHEET nodes.now seats.now) ≡ true }
-    ensures { result ≡ covered_by (rule.holders (tables P.SHEET nodes.now seats.now)) }
+pub fn covered<P: Profile>(tables: &Sound<P>) -> u64
+    ensures { result ≡ covered_by (rule.holders tables.now) }
 {
-    let count = words::seat_count::<P>(seats) as u32;
-    let mut places: [u64; 128] = [0; 128];
-    let mut low: usize = 64;
-    let mut held: usize = 0;
-    let mut seat: u32 = 0;
-    while seat < count {
-        if words::seat_word_within::<P>(seats, seat, words::PHASE) == 5 {
-            low = gather::<P>(nodes, seats, seat, &mut places, low, held);
-            held += 1;
-            seat += 1;
-        } else {
-            seat += 1;
+    let mut runs = Runs::none();
+    for seat in 0..tables.seat_count() {
+        if holds(tables, seat) {
+            let row = row_of(tables, seat);
+            runs.put(row.first, row.end);
         }
     }
-    covering::covered(&places, low, held)
+    runs.covered()
 }

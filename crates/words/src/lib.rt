@@ -420,6 +420,13 @@ impl<'a, P: Profile> Sound<'a, P> {
         }
     }
 
+    // What the type says, for a proof that needs it before the first word is read. It does nothing.
+    pub fn are_sound(&self)
+        ensures { sound self.now ≡ true }
+    {
+        let _ = &self.nodes;
+    }
+
     pub fn node_count(&self) -> usize
         ensures { result ≡ table.node_count self.now }
     {

@@ -1,16 +1,14 @@
 -- `holders::count` meets its promise.
-use native.Mathlib.Omega.{arith}
-use Rattle.holders.proofs.Rows.{holding_none, holding_more, holding_same, holding_done}
+use Rattle.std.proofs.Common.{arith}
+use Rattle.holders.specs.Holding.{holding}
+use Rattle.rules.specs.Notation.{count}
+use mathlib.Core.Path.{refl}
+use Rattle.holders.proofs.Rows.{holding_more, holding_same}
 use Rattle.holders.proofs.count.Goals as goal
 
 pub loop-s-init : goal.loop-s-init
-loop-s-init g c = (omega arith, omega arith, holding_none _ _)
-
-pub loop-s-preserved-then-seat_word_within-eq5 : goal.loop-s-preserved-then-seat_word_within-eq5
-loop-s-preserved-then-seat_word_within-eq5 g c = (omega arith, omega arith, search holding_more)
+unfolding holding count
+loop-s-init g c = (omega arith, refl)
 
 pub loop-s-preserved : goal.loop-s-preserved
-loop-s-preserved g c = (omega arith, omega arith, search holding_same)
-
-pub returns : goal.returns
-returns g c = search holding_done
+loop-s-preserved g c = (omega arith, grind (arith, holding_more, holding_same))
