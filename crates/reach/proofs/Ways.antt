@@ -94,28 +94,31 @@ module _ (h s : ℕ) (t : Tables) (ws : List ℕ) where
   unfolding reach_others
   seats_done r c us p x y e f = let q : r ≡ c = omega arith in rw (← e, ← f, ← q) p
 
--- ---- the unmarked listed nodes: what is left to gather gives the whole
-module _ (t : Tables) (ws whole : List ℕ) where
-  pub kept_start : (n a : ℕ) → ws ≡ none → n ≡ node_count t → a ≡ head t → add_all ws (kept_from n t a) ≡ add_all none (kept t)
+-- ---- the unmarked listed nodes: after k of n hops, what is left to gather gives the whole
+module _ (t : Tables) (n : ℕ) (ws whole : List ℕ) where
+  pub kept_start : (a : ℕ) → ws ≡ none → n ≡ node_count t → a ≡ head t → add_all ws (kept_from (n - 0) t a) ≡ add_all none (kept t)
   unfolding kept
-  kept_start n a e p q = rw (e, p, q)
+  kept_start a e p q = let all : n - 0 ≡ n = omega arith in rw (all, e, p, q)
 
-  pub kept_ended : (h a : ℕ) → add_all ws (kept_from h t a) ≡ whole → a ≡ 0 → ws ≡ whole
-  unfolding add_all
-  kept_ended h a g e = rw (kept_end h t a e) at g
+  module _ (k a : ℕ) (gathered : add_all ws (kept_from (n - k) t a) ≡ whole) where
+    pub kept_ended : a ≡ 0 → ws ≡ whole
+    unfolding add_all
+    kept_ended e = rw (kept_end (n - k) t a e) at gathered
 
-  pub kept_spent : (h a : ℕ) → add_all ws (kept_from h t a) ≡ whole → h ≡ 0 → ws ≡ whole
-  unfolding add_all kept_from
-  kept_spent h a g e = rw e at g
+    pub kept_spent : n ≤ k → ws ≡ whole
+    unfolding add_all kept_from
+    kept_spent h = let none_left : n - k ≡ 0 = omega arith in rw none_left at gathered
 
-  pub kept_skip : (h a x m : ℕ) → add_all ws (kept_from h t a) ≡ whole → h ≢ 0 → a ≢ 0 → x ≡ next t a → m ≡ node_word t.sheet t.nodes a mark_at → m ≡ 1 → add_all ws (kept_from (h - 1) t x) ≡ whole
-  kept_skip zero a x m g n z p q e = absurd (n refl)
-  kept_skip (suc h) a x m g n z p q e = let y : suc h - 1 ≡ h = omega arith in rw (y, p) (rw (kept_out h t a z (sym q ∙ e)) at g)
+    module _ (some : k < n) (z : a ≢ 0) (x m : ℕ) (is_next : x ≡ next t a) (is_mark : m ≡ node_word t.sheet t.nodes a mark_at) where
+      left : n - k ≡ suc (n - (k + 1))
+      left = omega arith
 
-  pub kept_join : (h a x m : ℕ) (vs : List ℕ) → add_all ws (kept_from h t a) ≡ whole → vs ≡ add ws a → h ≢ 0 → a ≢ 0 → x ≡ next t a → m ≡ node_word t.sheet t.nodes a mark_at → m ≢ 1 → add_all vs (kept_from (h - 1) t x) ≡ whole
-  unfolding add_all
-  kept_join zero a x m vs g v n z p q e = absurd (n refl)
-  kept_join (suc h) a x m vs g v n z p q e = let y : suc h - 1 ≡ h = omega arith in rw (y, p, v) (rw (kept_in h t a z (λ i. e (q ∙ i))) at g)
+      pub kept_skip : m ≡ 1 → add_all ws (kept_from (n - (k + 1)) t x) ≡ whole
+      kept_skip e = rw is_next (rw (kept_out (n - (k + 1)) t a z (sym is_mark ∙ e)) at (rw left at gathered))
+
+      pub kept_join : (vs : List ℕ) → vs ≡ add ws a → m ≢ 1 → add_all vs (kept_from (n - (k + 1)) t x) ≡ whole
+      unfolding add_all
+      kept_join vs v e = rw (is_next, v) (rw (kept_in (n - (k + 1)) t a z (λ i. e (is_mark ∙ i))) at (rw left at gathered))
 
 -- ---- the free set of sound tables, and what is read off it
 module _ (sheet : Bool) (nodes seats : List ℕ) (ok : sound (tables sheet nodes seats) ≡ true) where
