@@ -12,14 +12,13 @@ ghost use Rattle.reach.specs.Walks.{Links};
 ghost use Rattle.rules.specs.Fetch.{taken_out, write_claim, reserve_for, take_node, fetched, fetch_again, fetch as fetch_rule};
 
 use rules::{Claim, Profile};
+use words::Sound;
 
 // How many nodes are free, every seat counted: no seat has the number of seats.
-pub fn free_count<P: Profile>(nodes: &[u32], seats: &[u32]) -> u32
-    requires { sound (tables P.SHEET nodes.now seats.now) ≡ true }
-    ensures { result ≡ count_free (tables P.SHEET nodes.now seats.now) }
+pub fn free_count<P: Profile>(tables: &Sound<P>) -> u32
+    ensures { result ≡ count_free tables.now }
 {
-    let count = words::seat_count::<P>(seats) as u32;
-    reach::free_set::<P>(nodes, seats, count).count()
+    reach::free_set(tables, tables.seat_count()).count()
 }
 
 // ---- what is stored
@@ -107,7 +106,7 @@ fn fetch_again<P: Profile>(nodes: &mut [u32], seats: &mut [u32], s: u32, claim: 
     ensures { let rule = fetch_again (tables P.SHEET nodes.old seats.old) s (means_claim claim)
         in (result ≡ node_if_any rule.node) × (tables P.SHEET nodes.new seats.new ≡ rule.after) }
 {
-    let a = reach::lowest_free_after::<P>(nodes, seats, s)?;
+    let a = reach::lowest_free_after(&Sound::<P>::tables(nodes, seats), s)?;
     take_out::<P>(nodes);
     take_node::<P>(nodes, seats, s, a, claim);
     Some(a)
@@ -121,7 +120,7 @@ pub fn fetch<P: Profile>(nodes: &mut [u32], seats: &mut [u32], s: u32, claim: Cl
     ensures { let rule = fetch_rule (tables P.SHEET nodes.old seats.old) s (means_claim claim)
         in (result ≡ node_if_any rule.node) × (tables P.SHEET nodes.new seats.new ≡ rule.after) }
 {
-    let Some(a) = reach::lowest_free::<P>(nodes, seats, s) else {
+    let Some(a) = reach::lowest_free(&Sound::<P>::tables(nodes, seats), s) else {
         return fetch_again::<P>(nodes, seats, s, claim);
     };
     take_node::<P>(nodes, seats, s, a, claim);
