@@ -7,12 +7,12 @@ use mathlib.Core.Bool.{Bool, true, false, ◌&&◌}
 use mathlib.Core.Path.{◌≡◌, refl, sym, ◌∙◌}
 use lib.Dec.{leb}
 use lib.ListN.{get_or, set, length, get_or-eq_default}
-use borrow.Author.Tests.{lt-ltb, le-ltb, le-leb, lt-leb, leb-true, eq-eqb, ne_eqb, eqb-true, eqb-false, ltb-true, ltb-false}
+use borrow.Author.Tests.{lt-ltb, le-ltb, le-leb, lt-leb, eq-eqb, ne_eqb, eqb-true, eqb-false, ltb-true, ltb-false}
 use Rattle.std.proofs.Common.{◌⊎◌, inl, inr}
 use Rattle.std.specs.Prelude.{Option, Some, None, Ok, Err, slice_get, if◌then◌else◌}
 use Rattle.std.specs.Option.{ok_or}
 use Rattle.std.proofs.lemmas.Option.{slice_get_within, slice_get-get_or, get_or_from_slice_get}
-use Rattle.rules.specs.Notation.{◌is◌, ◌<?◌}
+use Rattle.rules.specs.Notation.{◌is◌, ◌≤?◌, ◌<?◌}
 use Rattle.rules.specs.Script.{Script}
 use Rattle.rules.specs.declared.Line.{Line}
 use Rattle.rules.specs.declared.Wrong.{Wrong}
@@ -20,8 +20,8 @@ use Rattle.rules.specs.declared.Found.{Found}
 use Rattle.rules.specs.declared.Body.{Body}
 use Rattle.rules.specs.declared.Contents.{Contents}
 use Rattle.rules.specs.Script.{found, nowhere, byte_at, is_digit, digit_at, digits_from, number_at, field_at, line_end, reserve_line, seat_line, body_at, body, line, in_bounds, contents_of, no_lines, bad_at, good_script, bodies_from, read_script}
-use Rattle.rules.proofs.Ground.Logic.{branch, and_left, and_right}
-use Rattle.script.specs.There.{there, found_there, place_there, body_there, contents_there, digit_there}
+use Rattle.rules.proofs.Ground.Logic.{branch, and_left}
+use Rattle.script.specs.There.{there, found_there, place_there, body_there, contents_there, digit_there, longer_there}
 
 -- ---- what is there, and what is not
 module _ {A : Type 0} (src : List ℕ) (next : ℕ) (thing : A) where
@@ -139,19 +139,8 @@ module _ (src : List ℕ) (at d : ℕ) (some : Some d ≡ digit_there src at) wh
       go true e h = (e, cc)
       go false e h = absurd (cc)
 
-  pub digit_small : d < 10
-  unfolding is_digit digit_at
-  digit_small =
-      let h = leb-true (byte_at src at) 57 (and_right (leb 48 (byte_at src at)) (leb (byte_at src at) 57) stands.0) in
-      let e = stands.1 in
-      omega arith
-
 -- ---- the digits of a number, and where they end
 module _ (src : List ℕ) where
-  pub digits_none : (left at value : ℕ) → left ≡ 0 → found value at ≡ digits_from src left at value
-  unfolding digits_from
-  digits_none left at value e = rw e
-
   no_digit : (at : ℕ) → None ≡ digit_there src at → is_digit src at ≡ false
   unfolding digit_there
   no_digit at = go (is_digit src at) refl
@@ -160,23 +149,47 @@ module _ (src : List ℕ) where
       go true e h = absurd (cc)
       go false e h = e
 
-  pub digits_end : (left at value : ℕ) → None ≡ digit_there src at → found value at ≡ digits_from src left at value
-  unfolding digits_from
-  digits_end zero at value h = refl
-  digits_end (suc left) at value h = rw (no_digit at h)
+  module _ (f : Found) where
+    pub longer_none : None ≡ digit_there src f.next → None ≡ longer_there src f
+    unfolding longer_there
+    longer_none h = rw (no_digit f.next h)
 
-  pub digits_big : (left at value d : ℕ) → Some d ≡ digit_there src at → 4294967295 < value * 10 + d → found value at ≡ digits_from src left at value
-  unfolding digits_from
-  digits_big zero at value d h k = refl
-  digits_big (suc left) at value d h k = let s = stands src at d h in rw (s.0, ← s.1, lt-leb (value * 10 + d) 4294967295 k)
+    pub longer_big : (d : ℕ) → Some d ≡ digit_there src f.next → 4294967295 < f.value * 10 + d → None ≡ longer_there src f
+    unfolding longer_there
+    longer_big d h k = let s = stands src f.next d h in rw (s.0, ← s.1, lt-leb (f.value * 10 + d) 4294967295 k)
 
-  pub digits_more : (left at value d : ℕ) (r : Found) → r ≡ digits_from src (left - 1) (at + 1) (value * 10 + d) → (left ≡ 0 → ⊥) → Some d ≡ digit_there src at → value * 10 + d ≤ 4294967295 → r ≡ digits_from src left at value
-  unfolding digits_from
-  digits_more zero at value d r e n h k = absurd (n refl)
-  digits_more (suc left) at value d r e n h k =
-      let s = stands src at d h in
-      let f : suc left - 1 ≡ left = omega arith in
-      rw (s.0, ← s.1, le-leb (value * 10 + d) 4294967295 k) (rw f at e)
+    pub longer_here : (d : ℕ) → Some d ≡ digit_there src f.next → f.value * 10 + d ≤ 4294967295 → Some (found (f.value * 10 + d) (f.next + 1)) ≡ longer_there src f
+    unfolding longer_there
+    longer_here d h k = let s = stands src f.next d h in rw (s.0, ← s.1, le-leb (f.value * 10 + d) 4294967295 k)
+
+    digits_end : (left : ℕ) → None ≡ longer_there src f → f ≡ digits_from src left f.next f.value
+    unfolding digits_from longer_there
+    digits_end zero h = refl
+    digits_end (suc left) h = go (is_digit src f.next && f.value * 10 + digit_at src f.next ≤? 4294967295) h
+      where
+        go : (b : Bool) → None ≡ (if b then Some (found (f.value * 10 + digit_at src f.next) (f.next + 1)) else None) → f ≡ (if b then digits_from src left (f.next + 1) (f.value * 10 + digit_at src f.next) else f)
+        go true h = absurd (cc)
+        go false h = refl
+
+    digits_more : (left : ℕ) (more : Found) → Some more ≡ longer_there src f → digits_from src (suc left) f.next f.value ≡ digits_from src left more.next more.value
+    unfolding digits_from longer_there
+    digits_more left more h = go (is_digit src f.next && f.value * 10 + digit_at src f.next ≤? 4294967295) h
+      where
+        go : (b : Bool) → Some more ≡ (if b then Some (found (f.value * 10 + digit_at src f.next) (f.next + 1)) else None) → (if b then digits_from src left (f.next + 1) (f.value * 10 + digit_at src f.next) else f) ≡ digits_from src left more.next more.value
+        go true h = let e : more ≡ found (f.value * 10 + digit_at src f.next) (f.next + 1) = cc in rw e refl
+        go false h = absurd (cc)
+
+  -- what is still to be read, of `all` digits, gives the whole, q
+  module _ (q f : Found) (i all : ℕ) (rest : digits_from src (all - i) f.next f.value ≡ q) where
+    pub digits_stop : None ≡ longer_there src f → f ≡ q
+    digits_stop h = digits_end f (all - i) h ∙ rest
+
+    pub digits_go : (more : Found) → Some more ≡ longer_there src f → i < all → digits_from src (all - (i + 1)) more.next more.value ≡ q
+    digits_go more h k = let e : all - i ≡ suc (all - (i + 1)) = omega arith in sym (digits_more f _ more h) ∙ rw e at rest
+
+    pub digits_full : all ≤ i → f ≡ q
+    unfolding digits_from
+    digits_full k = let e : all - i ≡ 0 = omega arith in rw e at rest
 
   -- where a digit stands, the script goes on
   pub digit_inside : (at d : ℕ) → Some d ≡ digit_there src at → at < length src
@@ -395,9 +408,6 @@ module _ {A : Type 0} (o : Option A) (w : Wrong) where
       go (Some b) h = cc
 
 -- ---- the bodies: what is still to be read gives the whole, q
-pub bodies_start : (src : List ℕ) (top : Contents) (at : ℕ) (rows : List Line) (k : ℕ) → bodies_from src top (k - 0) 0 at rows ≡ bodies_from src top k 0 at rows
-bodies_start src top at rows k = let f : k - 0 ≡ k = omega arith in rw f
-
 module _ (q : Script) (src : List ℕ) (top : Contents) (i at : ℕ) (rows : List Line) (k : ℕ) (rest : bodies_from src top (k - i) i at rows ≡ q) where
   module _ (more : i < k) where
     one_more : k - i ≡ suc (k - (i + 1))
@@ -443,4 +453,4 @@ module _ (src : List ℕ) where
         rw (w.0, le-ltb 16384 (length src) short, ne_eqb (contents_of src).next (nowhere src) w.1)
 
 -- ---- the ways through the code that the check finds by itself
-pub ruleset ways = (digit_past, digit_none, digit_here, digits_none, digits_end, digits_big, digits_more, digit_inside, digit_small, number_past, number_zero, number_digits, field_past, field_here, field_none, byte_inside, end_past, end_here, end_none, reserve_no_seat, reserve_no_start, reserve_no_end, reserve_no_kind, reserve_no_last, seat_none, seat_no_last, seat_here, body_past, body_reserve, body_step, body_release, body_enter, body_none, contents_no_n, contents_no_s, contents_no_k, contents_no_title, contents_out, contents_no_last, read_long)
+pub ruleset ways = (digit_past, digit_none, digit_here, longer_none, longer_big, longer_here, digit_inside, number_past, number_zero, number_digits, field_past, field_here, field_none, byte_inside, end_past, end_here, end_none, reserve_no_seat, reserve_no_start, reserve_no_end, reserve_no_kind, reserve_no_last, seat_none, seat_no_last, seat_here, body_past, body_reserve, body_step, body_release, body_enter, body_none, contents_no_n, contents_no_s, contents_no_k, contents_no_title, contents_out, contents_no_last, read_long)

@@ -1,8 +1,8 @@
 -- What the code gives back of a thing at a place: the thing, or None where it is not there. The rules say that by the place after it, which is then
 -- nowhere.
-use Rattle.std.specs.Prelude.{ℕ, List, Option, Some, None, if◌then◌else◌}
-use Rattle.rules.specs.Notation.{◌is◌}
-use Rattle.rules.specs.Script.{nowhere, is_digit, digit_at}
+use Rattle.std.specs.Prelude.{ℕ, ◌+◌, ◌*◌, ◌&&◌, List, Option, Some, None, if◌then◌else◌}
+use Rattle.rules.specs.Notation.{◌is◌, ◌≤?◌}
+use Rattle.rules.specs.Script.{found, nowhere, is_digit, digit_at}
 use Rattle.rules.specs.declared.Found.{Found}
 use Rattle.rules.specs.declared.Body.{Body}
 use Rattle.rules.specs.declared.Contents.{Contents}
@@ -29,4 +29,10 @@ contents_there src top = there src top.next top
 unfoldable pub digit_there : List ℕ → ℕ → Option ℕ
 digit_there src at =
     if is_digit src at then Some (digit_at src at)
+    else None
+
+-- one digit more of a number, where `digits_from` takes one
+unfoldable pub longer_there : List ℕ → Found → Option Found
+longer_there src f =
+    if is_digit src f.next && f.value * 10 + digit_at src f.next ≤? 4294967295 then Some (found (f.value * 10 + digit_at src f.next) (f.next + 1))
     else None

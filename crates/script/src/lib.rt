@@ -6,7 +6,7 @@ ghost use Rattle.std.specs.Prelude.{◌≡◌, ◌≤◌, slice_get};
 ghost use Rattle.rules.specs.Means.{means_script};
 ghost use Rattle.rules.specs.Script.{digits_from, number_at, field_at, reserve_line, seat_line, body_at, in_bounds, contents_of, no_lines, bodies_from, read_script};
 ghost use Rattle.rules.specs.Script.{line_end as Script·lineEnd};
-ghost use Rattle.script.specs.There.{digit_there, found_there, place_there, body_there, contents_there};
+ghost use Rattle.script.specs.There.{digit_there, longer_there, found_there, place_there, body_there, contents_there};
 
 use rules::{Body, Contents, Found, Line, Script, Wrong};
 
@@ -35,20 +35,30 @@ fn digit(src: &[u8], at: usize) -> Option<u32>
     Some(u32::from(b - b'0'))
 }
 
-fn digits(src: &[u8], left: u32, at: usize, value: u32) -> Found
-    ensures { result ≡ digits_from src.now left at value }
+// what is found so far and one digit more, if one stands there and the number then still fits
+fn longer(src: &[u8], so_far: Found) -> Option<Found>
+    ensures { result ≡ longer_there src.now so_far }
 {
-    let here = Found { value, next: at };
-    if left == 0 {
-        return here;
+    let d = digit(src, so_far.next)?;
+    let value = so_far.value.checked_mul(10)?.checked_add(d)?;
+    Some(Found {
+        value,
+        next: so_far.next + 1,
+    })
+}
+
+// up to nine digits more
+fn digits(src: &[u8], first: Found) -> Found
+    ensures { result ≡ digits_from src.now 9 first.next first.value }
+{
+    let mut so_far = first;
+    for _ in 0..9u32 {
+        let Some(more) = longer(src, so_far) else {
+            return so_far;
+        };
+        so_far = more;
     }
-    let Some(d) = digit(src, at) else {
-        return here;
-    };
-    match value.checked_mul(10).and_then(|v| v.checked_add(d)) {
-        Some(more) => digits(src, left - 1, at + 1, more),
-        None => here,
-    }
+    so_far
 }
 
 fn number(src: &[u8], at: usize) -> Option<Found>
@@ -61,7 +71,13 @@ fn number(src: &[u8], at: usize) -> Option<Found>
             next: at + 1,
         });
     }
-    Some(digits(src, 9, at + 1, d))
+    Some(digits(
+        src,
+        Found {
+            value: d,
+            next: at + 1,
+        },
+    ))
 }
 
 fn field(src: &[u8], at: usize) -> Option<Found>
