@@ -9,8 +9,9 @@ use lib.ListN.{length, length-append}
 use borrow.Author.Tests.{lt-ltb, le-ltb, ltb-true, ltb-false}
 use Rattle.rules.specs.Notation.{◌<?◌}
 use Rattle.rules.specs.Play.{digits, decimal}
-use Rattle.text.specs.Page.{Page, puts}
-use Rattle.text.proofs.Pages.{joined}
+use Rattle.text.specs.Page.{Prints}
+use Rattle.text.specs.declared.Page.{Page as Lent}
+use Rattle.text.proofs.Pages.{then}
 
 -- more hops than the number change nothing
 step_same : (f g n : ℕ) (b : Bool) → n <? 10 ≡ b → digits f (n / 10) ≡ digits g (n / 10) → digits (suc f) n ≡ digits (suc g) n
@@ -35,12 +36,13 @@ unfolding decimal digits
 decimal_more zero h = absurd (omega arith)
 decimal_more (suc n) h = rw (le-ltb (suc n) 10 h, digits, enough n (suc n / 10) (suc n / 10) (omega arith) (omega arith))
 
--- ---- the two ways through the code
-pub number_small : (p q : Page) (n : ℕ) → n < 10 → q ≡ puts p ((48 + n % 10) ∷ []) → q ≡ puts p (decimal n)
-number_small p q n h e = rw (decimal_small n h) e
+-- ---- the two ways through the code: the last digit alone, or after those before it
+module _ {p q : Lent} {n : ℕ} where
+  pub small_printed : n < 10 → Prints p q ((48 + n % 10) ∷ []) → Prints p q (decimal n)
+  small_printed h a = rw (decimal_small n h) a
 
-pub number_more : (p q r : Page) (n : ℕ) → 10 ≤ n → r ≡ puts q ((48 + n % 10) ∷ []) → q ≡ puts p (decimal (n / 10)) → r ≡ puts p (decimal n)
-number_more p q r n h e f = rw (decimal_more n h) (joined p q r _ _ f e)
+  pub more_printed : {r : Lent} → 10 ≤ n → Prints p q (decimal (n / 10)) → Prints q r ((48 + n % 10) ∷ []) → Prints p r (decimal n)
+  more_printed h a b = rw (decimal_more n h) (then a b)
 
 -- ---- a number below 10 to the k has at most k digits
 digits_at_most : (k n : ℕ) (b : Bool) → n <? 10 ≡ b → n < 10 ^ suc k → ((m : ℕ) → m < 10 ^ k → length (decimal m) ≤ k) → length (decimal n) ≤ suc k

@@ -10,7 +10,8 @@ use lib.ListN.{length, get_or, set, take, drop, length-set, drop_of_length-le}
 use lib.Seq.{sets, sets-eq, drop-cons, take-append_seam, drop-append_seam}
 use borrow.Author.Tests.{lt-ltb, le-ltb, ltb-true, ltb-false}
 use Rattle.rules.specs.Notation.{◌<?◌}
-use Rattle.text.specs.Page.{Page, page, put, puts}
+use Rattle.text.specs.Page.{Page, page, put, puts, Prints}
+use Rattle.text.specs.declared.Page.{Page as Lent}
 
 pub puts_append : (p : Page) (s t : List ℕ) → puts p (s ++ t) ≡ puts (puts p s) t
 unfolding puts
@@ -23,6 +24,34 @@ joined p q r s t e f = rw (puts_append, ← e) f
 
 pub joined_two : (p q r : Page) (s t u : List ℕ) → q ≡ puts p s → r ≡ puts q (t ++ u) → r ≡ puts p (s ++ t ++ u)
 joined_two p q r s t u e f = rw (puts_append, puts_append, ← e, ← puts_append) f
+
+-- ---- the place moves by no more than the length of the text
+put_next_bound : (p : Page) (b : ℕ) (c : Bool) → p.next <? length p.buffer ≡ c → (put p b).next ≤ p.next + 1
+unfolding put
+put_next_bound p b true e = rw e (omega arith)
+put_next_bound p b false e = rw e (omega arith)
+
+puts_next_bound : (t : List ℕ) (p : Page) → (puts p t).next ≤ p.next + length t
+unfolding puts
+puts_next_bound [] p = omega arith
+puts_next_bound (b ∷ t) p =
+    let h = put_next_bound p b _ refl in
+    let k = puts_next_bound t (put p b) in
+    omega arith
+
+pub reached : (p r : Page) (t : List ℕ) → r ≡ puts p t → r.next ≤ p.next + length t
+reached p r t e = rw e (puts_next_bound t p)
+
+-- ---- the same of a lent page, which is the same buffer all along
+pub then : {p q r : Lent} {s t : List ℕ} → Prints p q s → Prints q r t → Prints p r (s ++ t)
+then {s = s} {t = t} a b = record { same_buffer = b.same_buffer ∙ a.same_buffer; is_printed = joined _ _ _ s t a.is_printed b.is_printed }
+
+pub then_two : {p q r : Lent} {s : List ℕ} (t u : List ℕ) → Prints p q s → Prints q r (t ++ u) → Prints p r (s ++ t ++ u)
+then_two {s = s} t u a b = record { same_buffer = b.same_buffer ∙ a.same_buffer; is_printed = joined_two _ _ _ s t u a.is_printed b.is_printed }
+
+-- and its place moves by no more than the length of the text
+pub reaches : (p q : Lent) (t : List ℕ) → Prints p q t → q.at ≤ p.at + length t
+reaches p q t a = reached _ _ t a.is_printed
 
 -- ---- a byte
 pub put_in : (l l' : List ℕ) (at b : ℕ) → at < length l → l' ≡ set l at b → page l' (at + 1) ≡ puts (page l at) (b ∷ [])
@@ -43,23 +72,6 @@ unfolding puts
 text_done q p t i h rest = rw (drop_of_length-le t h) at rest
 
 -- ---- what stands in the buffer in the end
-
--- the place moves by no more than the length of the text
-put_next_bound : (p : Page) (b : ℕ) (c : Bool) → p.next <? length p.buffer ≡ c → (put p b).next ≤ p.next + 1
-unfolding put
-put_next_bound p b true e = rw e (omega arith)
-put_next_bound p b false e = rw e (omega arith)
-
-puts_next_bound : (t : List ℕ) (p : Page) → (puts p t).next ≤ p.next + length t
-unfolding puts
-puts_next_bound [] p = omega arith
-puts_next_bound (b ∷ t) p =
-    let h = put_next_bound p b _ refl in
-    let k = puts_next_bound t (put p b) in
-    omega arith
-
-pub reached : (p r : Page) (t : List ℕ) → r ≡ puts p t → r.next ≤ p.next + length t
-reached p r t e = rw e (puts_next_bound t p)
 
 -- a text for which there is room
 puts_fit : (t l : List ℕ) (at : ℕ) → at + length t ≤ length l → puts (page l at) t ≡ page (sets l at t) (at + length t)

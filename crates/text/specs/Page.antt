@@ -1,5 +1,5 @@
 -- A page: a buffer and the place where the next byte goes. A byte that finds no room is left out, so writing is total.
-use Rattle.std.specs.Prelude.{ℕ, ◌+◌, List, [], ◌∷◌, length, set, if◌then◌else◌}
+use Rattle.std.specs.Prelude.{◌≡◌, ℕ, ◌+◌, List, [], ◌∷◌, length, set, if◌then◌else◌}
 use Rattle.rules.specs.Notation.{◌<?◌}
 use Rattle.text.specs.declared.Page.{Page as Lent}
 
@@ -24,3 +24,8 @@ put p b =
 unfoldable pub puts : Page → List ℕ → Page
 puts p [] = p
 puts p (b ∷ text) = puts (put p b) text
+
+-- a text was put on a lent page: it is the same buffer still, and the text stands there
+pub record Prints (before after : Lent) (text : List ℕ) : Type 0 where
+  pub same_buffer : after.out.ghost_name ≡ before.out.ghost_name
+  pub is_printed : page_of after ≡ puts (page_of before) text

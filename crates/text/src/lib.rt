@@ -1,11 +1,11 @@
 // Text onto a lent page, and the lines that the program prints. A byte that finds no room is left out, so every method is total.
-#![tactic(auto, using(crate::proofs::Lines::ways))]
+#![tactic(auto)]
 
 ghost use Rattle.std.specs.Prelude.{◌≡◌, ◌+◌, ◌<◌, ◌≤◌, [], ◌∷◌, ◌++◌, length};
 ghost use Rattle.rules.specs.Answers.{wait};
 ghost use Rattle.rules.specs.Means.{means};
 ghost use Rattle.rules.specs.Play.{ascii, decimal, answer_text, row_text};
-ghost use Rattle.text.specs.Page.{page_of, puts};
+ghost use Rattle.text.specs.Page.{Prints};
 ghost use Rattle.text.specs.Lines.{answer_line};
 
 use rules::{Refused, Reply, Row};
@@ -18,9 +18,9 @@ pub struct Page<'a> {
 }
 
 impl Page<'_> {
+    #[tactic(auto, using(crate::proofs::Pages::put_in, crate::proofs::Pages::put_out))]
     pub fn put_byte(&mut self, b: u8)
-        ensures same_buffer { self.new.out.ghost_name ≡ self.old.out.ghost_name }
-        ensures is_printed { page_of self.new ≡ puts (page_of self.old) (b ∷ []) }
+        ensures { Prints self.old self.new (b ∷ []) }
     {
         if self.at < self.out.len() {
             self.out[self.at] = b;
@@ -29,8 +29,7 @@ impl Page<'_> {
     }
 
     pub fn put_text(&mut self, text: &[u8])
-        ensures same_buffer { self.new.out.ghost_name ≡ self.old.out.ghost_name }
-        ensures is_printed { page_of self.new ≡ puts (page_of self.old) text.now }
+        ensures { Prints self.old self.new text.now }
     {
         for b in text {
             self.put_byte(*b);
@@ -38,8 +37,7 @@ impl Page<'_> {
     }
 
     pub fn put_number(&mut self, n: u64)
-        ensures same_buffer { self.new.out.ghost_name ≡ self.old.out.ghost_name }
-        ensures is_printed { page_of self.new ≡ puts (page_of self.old) (decimal n) }
+        ensures { Prints self.old self.new (decimal n) }
     {
         if 10 <= n {
             self.put_number(n / 10);
@@ -49,8 +47,7 @@ impl Page<'_> {
 
     // A word and a number. One of 32 bits has at most 10 digits.
     pub fn put_named(&mut self, word: &[u8], n: u64)
-        ensures same_buffer { self.new.out.ghost_name ≡ self.old.out.ghost_name }
-        ensures is_printed { page_of self.new ≡ puts (page_of self.old) (word.now ++ decimal n) }
+        ensures is_printed { Prints self.old self.new (word.now ++ decimal n) }
         ensures at_most { n < 4294967296 → self.new.at ≤ self.old.at + length word.now + 10 }
     {
         self.put_text(word);
@@ -59,8 +56,7 @@ impl Page<'_> {
 
     // A space and a number.
     pub fn put_next(&mut self, n: u32)
-        ensures same_buffer { self.new.out.ghost_name ≡ self.old.out.ghost_name }
-        ensures is_printed { page_of self.new ≡ puts (page_of self.old) (ascii " " ++ decimal n) }
+        ensures is_printed { Prints self.old self.new (ascii " " ++ decimal n) }
         ensures at_most { self.new.at ≤ self.old.at + 11 }
     {
         self.put_named(b" ", n as u64);
@@ -68,8 +64,7 @@ impl Page<'_> {
 
     // A line of a word and a number: `bad L`, `covered n`.
     pub fn put_line(&mut self, word: &[u8], n: u64)
-        ensures same_buffer { self.new.out.ghost_name ≡ self.old.out.ghost_name }
-        ensures is_printed { page_of self.new ≡ puts (page_of self.old) (word.now ++ decimal n ++ ascii "\n") }
+        ensures is_printed { Prints self.old self.new (word.now ++ decimal n ++ ascii "\n") }
         ensures at_most { self.new.at ≤ self.old.at + length word.now + 21 }
     {
         self.put_named(word, n);
@@ -78,8 +73,7 @@ impl Page<'_> {
 
     // `hold seat start end kind`
     pub fn put_row(&mut self, row: Row)
-        ensures same_buffer { self.new.out.ghost_name ≡ self.old.out.ghost_name }
-        ensures is_printed { page_of self.new ≡ puts (page_of self.old) (row_text row) }
+        ensures is_printed { Prints self.old self.new (row_text row) }
         ensures at_most { self.new.at ≤ self.old.at + 49 }
     {
         self.put_named(b"hold ", row.seat as u64);
@@ -91,8 +85,7 @@ impl Page<'_> {
 
     // `wait n first end`
     fn put_wait(&mut self, n: u32, first: u32, end: u32)
-        ensures same_buffer { self.new.out.ghost_name ≡ self.old.out.ghost_name }
-        ensures is_printed { page_of self.new ≡ puts (page_of self.old) (answer_text (wait n first end)) }
+        ensures is_printed { Prints self.old self.new (answer_text (wait n first end)) }
         ensures at_most { self.new.at ≤ self.old.at + 37 }
     {
         self.put_named(b"wait ", n as u64);
@@ -101,8 +94,7 @@ impl Page<'_> {
     }
 
     fn put_answer(&mut self, answer: Result<Reply, Refused>)
-        ensures same_buffer { self.new.out.ghost_name ≡ self.old.out.ghost_name }
-        ensures is_printed { page_of self.new ≡ puts (page_of self.old) (answer_text (means answer)) }
+        ensures is_printed { Prints self.old self.new (answer_text (means answer)) }
         ensures at_most { self.new.at ≤ self.old.at + 37 }
     {
         match answer {
@@ -118,8 +110,7 @@ impl Page<'_> {
 
     // A call's line: its number and its answer. No script has 10,000 calls.
     pub fn put_turn(&mut self, number: u32, answer: Result<Reply, Refused>)
-        ensures same_buffer { self.new.out.ghost_name ≡ self.old.out.ghost_name }
-        ensures is_printed { page_of self.new ≡ puts (page_of self.old) (answer_line number (means answer)) }
+        ensures is_printed { Prints self.old self.new (answer_line number (means answer)) }
         ensures at_most { number < 10000 → self.new.at ≤ self.old.at + 43 }
     {
         self.put_number(number as u64);

@@ -9,5 +9,5 @@ loop-b-preserved c = record {
   rest = text_again _ _ _ _ _ c.put_byte.ensures.is_printed c.loop-b-test.true c.loop-b.invariant.rest;
 }
 
-pub returns-clause-is_printed : goal.returns-clause-is_printed
-returns-clause-is_printed c = text_done _ _ _ _ c.loop-b-test.false c.loop-b.invariant.rest
+pub returns : goal.returns
+returns c = record { same_buffer = c.loop-b.invariant.same_buffer; is_printed = text_done _ _ _ _ c.loop-b-test.false c.loop-b.invariant.rest }
