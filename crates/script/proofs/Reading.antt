@@ -221,12 +221,12 @@ module _ (src : List ℕ) where
   unfolding number_at
   number_past at h = rw (no_digit at h) (not_there src _ _ refl)
 
-  pub number_zero : (at d : ℕ) → Some d ≡ digit_there src at → d ≡ 0 → Some (found 0 (at + 1)) ≡ found_there src (number_at src at)
+  pub number_zero : (at d : ℕ) → Some d ≡ digit_there src at → d ≡ 0 → Some (found d (at + 1)) ≡ found_there src (number_at src at)
   unfolding number_at
   number_zero at d h e =
       let s = stands src at d h in
       let i = digit_inside at d h in
-      rw (s.0, ← s.1, eq-eqb d 0 e) (is_there src _ _ (λ w. omega arith))
+      rw (s.0, ← s.1, eq-eqb d 0 e, e) (is_there src _ _ (λ w. omega arith))
 
   pub number_digits : (at d : ℕ) (r : Found) → Some d ≡ digit_there src at → (d ≡ 0 → ⊥) → r ≡ digits_from src 9 (at + 1) d → Some r ≡ found_there src (number_at src at)
   unfolding number_at

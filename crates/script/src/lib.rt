@@ -64,20 +64,15 @@ fn digits(src: &[u8], first: Found) -> Found
 fn number(src: &[u8], at: usize) -> Option<Found>
     ensures { result ≡ found_there src.now (number_at src.now at) }
 {
-    let d = digit(src, at)?;
-    if d == 0 {
-        return Some(Found {
-            value: 0,
-            next: at + 1,
-        });
+    let value = digit(src, at)?;
+    let first = Found {
+        value,
+        next: at + 1,
+    };
+    if value == 0 {
+        return Some(first);
     }
-    Some(digits(
-        src,
-        Found {
-            value: d,
-            next: at + 1,
-        },
-    ))
+    Some(digits(src, first))
 }
 
 fn field(src: &[u8], at: usize) -> Option<Found>
