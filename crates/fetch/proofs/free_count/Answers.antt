@@ -1,9 +1,6 @@
-use Rattle.reach.proofs.Ways.{seats_fit_law}
+-- `fetch::free_count` meets its promise.
 use Rattle.fetch.proofs.Ways.{count_read}
 use Rattle.fetch.proofs.free_count.Goals as goal
 
-pub overflow_cast-count : goal.overflow_cast-count
-overflow_cast-count g c = search seats_fit_law
-
 pub returns : goal.returns
-returns g c = search count_read
+returns g c = count_read _ _ _ _ c.count.ensures c.free_set.ensures c.seat_count.ensures.all
