@@ -185,9 +185,6 @@ pub fn release<P: Profile>(nodes: &mut [u32], seats: &mut [u32], s: u32) -> Resu
 pub fn free_count<P: Profile>(nodes: &[u32], seats: &[u32]) -> Result<u32, Refused>
     ensures { means_count result ≡ count.free_count (tables P.SHEET nodes.now seats.now) }
 {
-    if shape::is_sound::<P>(nodes, seats) {
-        let free = fetch::free_count::<P>(nodes, seats);
-        return Ok(free);
-    }
-    Err(Refused::Damaged)
+    let tables = shape::sound_tables::<P>(nodes, seats)?;
+    Ok(fetch::free_count(&tables))
 }

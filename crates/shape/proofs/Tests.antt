@@ -1,5 +1,5 @@
 -- Each test of the code, from the words that it read, is the test of the definition: one law for each way through the code.
-use Rattle.std.specs.Prelude.{if◌then◌else◌}
+use Rattle.std.specs.Prelude.{Ok, Err, if◌then◌else◌}
 use Rattle.std.proofs.Common.{◌≡◌, ℕ, zero, suc, ◌+◌, ◌-◌, ◌%◌, ◌<◌, ◌≤◌, Bool, true, false, not, ◌&&◌, ◌||◌, eqb, ltb, leb, ◌≢◌, List, [], length, drop, sym, refl, ◌∙◌, inl, inr, add-one, arith, ltb-false, ltb-true, eq-eqb, ne_eqb, eqb-true, le-leb}
 use borrow.Author.Tests.{not-true, not-false, eqb-false, lt-leb}
 use Rattle.rules.specs.Notation.{◌≤?◌, all}
@@ -12,7 +12,9 @@ use Rattle.rules.proofs.Laws.NodesAlone.{ends_alone, nodes_alone, ends_by_alone}
 use Rattle.words.specs.Parts.{with_zeros}
 use Rattle.words.proofs.Places.{same_count}
 use Rattle.shape.proofs.Part.{same_names, same_nodes, same_ends, same_seats, same_holders}
-use Rattle.shape.specs.Parts.{least_kind, node_sound_by, nodes_sound_by, busy_sound, waiting_sound, resting_sound, ordinary_sound, seats_and_counts_sound, list_ends}
+use Rattle.shape.specs.Parts.{least_kind, node_sound_by, nodes_sound_by, busy_sound, waiting_sound, resting_sound, ordinary_sound, seats_and_counts_sound, list_ends, if_sound}
+use Rattle.rules.specs.declared.Refused.{Refused}
+use Rattle.rules.specs.declared.Refused.TheVariants.{Damaged}
 use Rattle.rules.proofs.Ground.Deciding.{if_same}
 
 pub lengths_is : (sheet : Bool) (l t : List ℕ) (u v : Bool) → u ≡ nodes_fit (tables sheet l []) → v ≡ seats_fit (tables sheet [] t) → (u && v) ≡ lengths_fit (tables sheet l t)
@@ -460,3 +462,18 @@ few_seats sheet l t n e f = rw e (lengths_fit_law (tables sheet l t) f).few_seat
 -- what a caller knows after the test
 pub now_sound : (sheet : Bool) (l t : List ℕ) (b : Bool) → b ≡ sound (tables sheet l t) → b ≡ true → sound (tables sheet l t) ≡ true
 now_sound sheet l t b p e = sym p ∙ e
+
+-- ---- the tables as such, or refusal 1
+by_test : (b : Bool) (t u : Tables) → Ok u ≡ (if b then Ok t else Err Damaged) → (b ≡ true) × (u ≡ t)
+by_test true t u e = (refl, cc)
+by_test false t u e = cc
+
+by_refusal : (b : Bool) (t : Tables) (why : Refused) → Err why ≡ (if b then Ok t else Err Damaged) → (b ≡ false) × (why ≡ Damaged)
+by_refusal true t why e = cc
+by_refusal false t why e = (refl, cc)
+
+pub lent_sound : (t u : Tables) → Ok u ≡ if_sound t → (sound t ≡ true) × (u ≡ t)
+lent_sound t u e = by_test (sound t) t u e
+
+pub not_lent : (t : Tables) (why : Refused) → Err why ≡ if_sound t → (sound t ≡ false) × (why ≡ Damaged)
+not_lent t why e = by_refusal (sound t) t why e

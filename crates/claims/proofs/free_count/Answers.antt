@@ -1,13 +1,19 @@
 -- `claims::free_count` meets its promise.
-use Rattle.shape.proofs.Tests.{now_sound}
+use Rattle.std.proofs.Common.{refl, sym, ap}
+use Rattle.std.proofs.lemmas.Result.{err_from_is_err_and}
+use Rattle.rules.specs.Means.{means_count}
+use Rattle.rules.specs.Reach.{count_free}
+use Rattle.shape.proofs.Tests.{lent_sound, not_lent}
 use Rattle.claims.proofs.Ways.{count_sound, count_damaged}
 use Rattle.claims.proofs.free_count.Goals as goal
 
-pub free_count-free-requires : goal.free_count-free-requires
-free_count-free-requires g c = search now_sound
-
-pub returns-then-is_sound : goal.returns-then-is_sound
-returns-then-is_sound g c = search count_sound
+pub returns-in_err-tables : goal.returns-in_err-tables
+returns-in_err-tables g c =
+    let p = err_from_is_err_and c.from_residual.result c.from_residual.ensures.1 in
+    let damaged = not_lent _ _ c.in_err-tables.ensures in
+    rw (p.1, p.2, damaged.1) (count_damaged _ _ _ 0 _ refl damaged.0)
 
 pub returns : goal.returns
-returns g c = search count_damaged
+returns g c =
+    let lent = lent_sound _ _ c.in_ok-tables.ensures in
+    count_sound _ _ _ 0 _ refl _ (rw lent.1 at c.free_count.ensures) lent.0
