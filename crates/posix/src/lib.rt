@@ -10,6 +10,9 @@ ghost use Rattle.posix.specs.Records.{IsWord, as_claim, as_lock, run_refusal, lo
 
 use rules::{BadRecord, Refused};
 
+// the numbers to a record
+const WIDTH: usize = 3;
+
 // A claim as it is lent: its first frame, the frame after its last, and its kind.
 #[derive(Clone, Copy)]
 struct Claimed {
@@ -35,7 +38,7 @@ fn is_type(number: i64) -> bool
 }
 
 // the refusal of a lock of the frames from first up to but not including end
-#[tactic(auto, using(std::proofs::lemmas::Bool::Decides::nat_tests), unfolding(crate::specs::Records::run_refusal))]
+#[tactic(auto, unfolding(crate::specs::Records::run_refusal))]
 fn run_refusal(title: u32, first: u64, end: u64, known: bool) -> Result<(), Refused>
     ensures { means_done result ≡ run_refusal title first end known }
 {
@@ -54,6 +57,7 @@ fn run_refusal(title: u32, first: u64, end: u64, known: bool) -> Result<(), Refu
     Ok(())
 }
 
+// the refusal of a lock, by the signs of its start and its length
 fn lock_refusal(title: u32, one: Locked) -> Result<(), Refused>
     ensures { means_done result ≡ refusal_of (import_lock title (as_lock one)) }
 {
@@ -109,7 +113,8 @@ fn claim_of(title: u32, one: Locked) -> Claimed
 
 // ---- one claim
 
-#[tactic(auto, using(std::proofs::lemmas::Bool::Decides::nat_tests), unfolding(rules::specs::Locks::export_claim, rules::specs::Shape::is_kind))]
+// the refusal of a claim
+#[tactic(auto, unfolding(rules::specs::Locks::export_claim, rules::specs::Shape::is_kind))]
 fn claim_refusal(title: u32, one: Claimed) -> Result<(), Refused>
     ensures { means_done result ≡ refusal_of (export_claim title (as_claim one)) }
 {
@@ -125,6 +130,7 @@ fn claim_refusal(title: u32, one: Claimed) -> Result<(), Refused>
     Err(Refused::UnknownKind)
 }
 
+// the length of its lock, 0 where it ends at the title's end
 fn length_of(title: u32, one: Claimed) -> i64
     requires { one.start ≤ one.end }
     ensures { result ≡ length_of title (as_claim one) }
@@ -152,7 +158,7 @@ fn lock_at(locks: &[i64], place: usize) -> Locked
     requires { record_width * place + 2 < length locks.now }
     ensures { as_lock result ≡ lock_at locks.now place }
 {
-    let at = 3 * place;
+    let at = WIDTH * place;
     Locked {
         lock_type: locks[at],
         start: locks[at + 1],
@@ -164,7 +170,7 @@ fn claim_at(claims: &[u32], place: usize) -> Claimed
     requires { record_width * place + 2 < length claims.now }
     ensures { as_claim result ≡ claim_at claims.now place }
 {
-    let at = 3 * place;
+    let at = WIDTH * place;
     Claimed {
         start: claims[at],
         end: claims[at + 1],
@@ -176,7 +182,7 @@ fn put_claim(claims: &mut [u32], place: usize, one: Claimed)
     requires { record_width * place + 2 < length claims.old }
     ensures { claims.new ≡ put_claim claims.old place (as_claim one) }
 {
-    let at = 3 * place;
+    let at = WIDTH * place;
     claims[at] = one.start;
     claims[at + 1] = one.end;
     claims[at + 2] = one.kind;
@@ -186,7 +192,7 @@ fn put_lock(locks: &mut [i64], place: usize, one: Locked)
     requires { record_width * place + 2 < length locks.old }
     ensures { locks.new ≡ put_lock locks.old place (as_lock one) }
 {
-    let at = 3 * place;
+    let at = WIDTH * place;
     locks[at] = one.lock_type;
     locks[at + 1] = one.start;
     locks[at + 2] = one.span;
@@ -218,16 +224,17 @@ fn lock_refusal_at(title: u32, locks: &[i64], place: usize) -> Result<(), Refuse
 fn first_bad_lock(title: u32, locks: &[i64]) -> Result<(), BadRecord>
     ensures { means_moved result ≡ verdict (each (import_lock title) (locks_in locks.now)) }
 {
-    let count = locks.len() / 3;
+    let count = locks.len() / WIDTH;
     first_bad(count, |place| lock_refusal_at(title, locks, place))
 }
 
+// This loop and that of put_locks stand apart: what they store are numbers of two types.
 fn put_claims(title: u32, locks: &[i64], claims: &mut [u32])
     requires has_room { length locks.now / record_width ≤ length claims.old / record_width }
     requires all_accepted { moved 0 0 ≡ verdict (each (import_lock title) (locks_in locks.now)) }
     ensures { claims.new ≡ put_from put_claim 0 (records_from (claim_for title locks.now) 0 (length locks.now / record_width)) claims.old }
 {
-    for place in 0..locks.len() / 3 {
+    for place in 0..locks.len() / WIDTH {
         put_claim(claims, place, claim_of(title, lock_at(locks, place)));
     }
 }
@@ -242,7 +249,7 @@ pub fn import(title: u32, locks: &[i64], claims: &mut [u32]) -> Result<(), BadRe
         });
     }
     first_bad_lock(title, locks)?;
-    if claims.len() / 3 < locks.len() / 3 {
+    if claims.len() / WIDTH < locks.len() / WIDTH {
         return Err(BadRecord {
             why: Refused::NoRoom,
             place: 0,
@@ -264,7 +271,7 @@ fn claim_refusal_at(title: u32, claims: &[u32], place: usize) -> Result<(), Refu
 fn first_bad_claim(title: u32, claims: &[u32]) -> Result<(), BadRecord>
     ensures { means_moved result ≡ verdict (each (export_claim title) (claims_in claims.now)) }
 {
-    let count = claims.len() / 3;
+    let count = claims.len() / WIDTH;
     first_bad(count, |place| claim_refusal_at(title, claims, place))
 }
 
@@ -273,7 +280,7 @@ fn put_locks(title: u32, claims: &[u32], locks: &mut [i64])
     requires all_accepted { moved 0 0 ≡ verdict (each (export_claim title) (claims_in claims.now)) }
     ensures { locks.new ≡ put_from put_lock 0 (records_from (lock_for title claims.now) 0 (length claims.now / record_width)) locks.old }
 {
-    for place in 0..claims.len() / 3 {
+    for place in 0..claims.len() / WIDTH {
         put_lock(locks, place, lock_of(title, claim_at(claims, place)));
     }
 }
@@ -288,7 +295,7 @@ pub fn export(title: u32, claims: &[u32], locks: &mut [i64]) -> Result<(), BadRe
         });
     }
     first_bad_claim(title, claims)?;
-    if locks.len() / 3 < claims.len() / 3 {
+    if locks.len() / WIDTH < claims.len() / WIDTH {
         return Err(BadRecord {
             why: Refused::NoRoom,
             place: 0,
