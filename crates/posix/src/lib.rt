@@ -214,18 +214,11 @@ fn first_bad<F: Fn(usize) -> Result<(), Refused>>(count: usize, look: F) -> Resu
 
 // ---- a list of locks
 
-fn lock_refusal_at(title: u32, locks: &[i64], place: usize) -> Result<(), Refused>
-    requires { record_width * place + 2 < length locks.now }
-    ensures { means_done result ≡ refusal_of (import_lock title (lock_at locks.now place)) }
-{
-    lock_refusal(title, lock_at(locks, place))
-}
-
 fn first_bad_lock(title: u32, locks: &[i64]) -> Result<(), BadRecord>
     ensures { means_moved result ≡ verdict (each (import_lock title) (locks_in locks.now)) }
 {
     let count = locks.len() / WIDTH;
-    first_bad(count, |place| lock_refusal_at(title, locks, place))
+    first_bad(count, |place| lock_refusal(title, lock_at(locks, place)))
 }
 
 // This loop and that of put_locks stand apart: what they store are numbers of two types.
@@ -261,18 +254,11 @@ pub fn import(title: u32, locks: &[i64], claims: &mut [u32]) -> Result<(), BadRe
 
 // ---- a list of claims
 
-fn claim_refusal_at(title: u32, claims: &[u32], place: usize) -> Result<(), Refused>
-    requires { record_width * place + 2 < length claims.now }
-    ensures { means_done result ≡ refusal_of (export_claim title (claim_at claims.now place)) }
-{
-    claim_refusal(title, claim_at(claims, place))
-}
-
 fn first_bad_claim(title: u32, claims: &[u32]) -> Result<(), BadRecord>
     ensures { means_moved result ≡ verdict (each (export_claim title) (claims_in claims.now)) }
 {
     let count = claims.len() / WIDTH;
-    first_bad(count, |place| claim_refusal_at(title, claims, place))
+    first_bad(count, |place| claim_refusal(title, claim_at(claims, place)))
 }
 
 fn put_locks(title: u32, claims: &[u32], locks: &mut [i64])
