@@ -3,27 +3,22 @@ use Prim.Native.Nat.{ℕ, suc, ◌+◌, ◌/◌, ◌<◌, ◌≤◌}
 use Rattle.std.specs.Prelude.{Result, Err}
 use mathlib.Core.Path.{◌≡◌, refl, sym, ap, ◌∙◌}
 use mathlib.Core.List.{List}
-use mathlib.Core.Logic.{◌≢◌}
 use native.Mathlib.Omega.{arith}
 use lib.IntN.{ℤ, pos}
 use lib.ListN.{length}
 use borrow.Author.Tests.{ne_eqb, eq-eqb}
 use Rattle.rules.specs.Comparison.{Claim, claim}
-use Rattle.rules.specs.Locks.{Lock, lock, Taken, taken, bad, import_lock, lock_of, export_claim, each, record_width, locks_in, lock_numbers, claims_in, claim_numbers, listed, moved, import_locks, export_claims}
+use Rattle.rules.specs.Locks.{Lock, lock, taken, bad, import_lock, lock_of, export_claim, each, record_width, locks_in, lock_numbers, claims_in, claim_numbers, listed, moved, import_locks, export_claims}
 use Rattle.rules.specs.Means.{means_done, means_moved}
 use Rattle.rules.specs.declared.BadRecord.{BadRecord}
 use Rattle.rules.specs.declared.Refused.{Refused}
 use Rattle.rules.proofs.Laws.Locks.{exporting, import_never_0, export_never_0}
 use Rattle.posix.specs.Records.{lock_at, claim_at, put_claim, put_lock, verdict, IsFirstBad, records_from, put_from, claim_or0, claim_for, lock_for, refusal_of}
+use Rattle.posix.proofs.One.{is_claim}
 use Rattle.posix.proofs.Lists as lists
 use Rattle.posix.proofs.Lists.{StoredUpTo}
 
--- ---- what is stored for a record that is not refused
-is_claim : (x : Taken Claim) → x ≢ bad 0 → refusal_of x ≡ 0 → x ≡ taken (claim_or0 x)
-is_claim (taken c) d e = refl
-is_claim (bad number) d e = absurd (d (ap bad e))
-
--- a claim that is not refused has a frame
+-- ---- a claim that is not refused: it has a frame, and is taken for its lock
 record Exported (title : ℕ) (c : Claim) : Type 0 where
   in_order : c.start ≤ c.end
   is : export_claim title c ≡ taken (lock_of title c)

@@ -3,7 +3,7 @@ use Rattle.std.specs.Prelude.{if◌then◌else◌}
 use Prim.Native.Nat.{ℕ, zero, suc, ◌+◌, ◌-◌, ◌<◌, ◌≤◌}
 use mathlib.Core.Path.{◌≡◌, refl, sym, ap, ◌∙◌}
 use mathlib.Core.Bool.{Bool, true, false, not, ◌||◌, true≢false}
-use mathlib.Core.Logic.{⊎_elim}
+use mathlib.Core.Logic.{◌≢◌, ⊎_elim}
 use native.Mathlib.Omega.{arith}
 use lib.IntN.{ℤ, pos, negsuc, nat_abs, ◌+ℤ◌, +ℤ_idr, pos-ne-negsuc}
 use lib.Signed.{lt_z}
@@ -16,9 +16,10 @@ use Rattle.rules.specs.Comparison.{Claim, claim}
 use Rattle.rules.specs.Locks.{lock, by_sign, first_frame, is_type, Taken, taken, bad, import_lock}
 use Rattle.rules.proofs.Laws.Shape.{is_kind_law}
 use Rattle.rules.proofs.Laws.Locks.{end_is, import_run, starts_below, reaches_below, run_back, run_to_the_end, run_on, Imports, imports, import_never_0}
-use Rattle.posix.specs.Records.{IsWord, run_refusal, refusal_of}
+use Rattle.posix.specs.Records.{IsWord, run_refusal, claim_or0, refusal_of}
 use Rattle.posix.proofs.Signs.{again, read_0, word_fits}
 
+-- ---- the refusal of a run
 run_refused : (title first end : ℕ) (type : ℤ) → run_refusal title first end (is_type type) ≡ refusal_of (import_run title first end type)
 unfolding run_refusal
 run_refused title first end type = go (end ≤? first) (4294967295 <? end) (is_type type) (title <? end)
@@ -95,14 +96,9 @@ module _ (title : ℕ) (type start span : ℤ) (f : SFits w64 start) where
       lock_on q e z = on title type r start span (rw (from_is, size_is, known_is) at q) not_below (rw (to_z-of_z g) at e) (λ y. z (ap (of_z w64) y))
 
 -- ---- the numbers of a lock that is not refused: its start, and the sum of its start and its length, are of 32 bits
-claim_of : Taken Claim → Claim
-claim_of (taken c) = c
-claim_of (bad number) = claim 0 0 0
-
-is_taken : (x : Taken Claim) → (x ≡ bad 0 → ⊥) → refusal_of x ≡ 0 → x ≡ taken (claim_of x)
-unfolding claim_of
-is_taken (taken c) d e = refl
-is_taken (bad number) d e = absurd (d (ap bad e))
+pub is_claim : (x : Taken Claim) → x ≢ bad 0 → refusal_of x ≡ 0 → x ≡ taken (claim_or0 x)
+is_claim (taken c) d e = refl
+is_claim (bad number) d e = absurd (d (ap bad e))
 
 -- by the sign of the length
 record Sums (title : ℕ) (start span : ℤ) (a b : ℕ) : Type 0 where
@@ -145,11 +141,11 @@ sums title start (pos (suc m)) a b h k p q =
 
 module _ (title : ℕ) (type start span : ℤ) (q : refusal_of (import_lock title (lock type start span)) ≡ 0) where
   c : Claim
-  c = claim_of (import_lock title (lock type start span))
+  c = claim_or0 (import_lock title (lock type start span))
 
   takes : import_lock title (lock type start span) ≡ taken c
   unfolding c
-  takes = is_taken (import_lock title (lock type start span)) (import_never_0 title (lock type start span)) q
+  takes = is_claim (import_lock title (lock type start span)) (import_never_0 title (lock type start span)) q
 
   known : Imports title (lock type start span) c
   known = imports title (lock type start span) c takes
@@ -166,7 +162,7 @@ module _ (title : ℕ) (type start span : ℤ) (q : refusal_of (import_lock titl
     start_is_word = rw (to_z-of_z f) its_sums.itself
 
     module _ (g : SFits w64 span) where
-      pub sum_is_word : IsWord (again start +ℤ again span)
+      sum_is_word : IsWord (again start +ℤ again span)
       sum_is_word = rw (to_z-of_z f, to_z-of_z g) its_sums.sum
 
       pub sum_again_is_word : IsWord (again (again start +ℤ again span))
