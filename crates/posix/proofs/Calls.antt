@@ -38,7 +38,8 @@ module _ (title : ℕ) (l : List ℤ) where
 
   pub locks_found : (says : ℕ → Result (Unit {0}) Refused → Type 0)
       → ((j : ℕ) (r : Result (Unit {0}) Refused) → j < length l / record_width → says j r → means_done r ≡ refusal_of (import_lock title (lock_at l j)))
-      → (found : Result (Unit {0}) BadRecord) → IsFirstBad says (length l / record_width) found → means_moved found ≡ verdict (each (import_lock title) (locks_in l))
+      → (found : Result (Unit {0}) BadRecord) → IsFirstBad says (length l / record_width) found
+      → means_moved found ≡ verdict (each (import_lock title) (locks_in l))
   locks_found = lists.found_is lock (pos 0) (import_lock title) l (claim_for title l) claim_is
 
   module _ (accepted : moved 0 0 ≡ verdict (each (import_lock title) (locks_in l))) where
@@ -52,7 +53,8 @@ module _ (title : ℕ) (l : List ℕ) where
 
   pub claims_found : (says : ℕ → Result (Unit {0}) Refused → Type 0)
       → ((j : ℕ) (r : Result (Unit {0}) Refused) → j < length l / record_width → says j r → means_done r ≡ refusal_of (export_claim title (claim_at l j)))
-      → (found : Result (Unit {0}) BadRecord) → IsFirstBad says (length l / record_width) found → means_moved found ≡ verdict (each (export_claim title) (claims_in l))
+      → (found : Result (Unit {0}) BadRecord) → IsFirstBad says (length l / record_width) found
+      → means_moved found ≡ verdict (each (export_claim title) (claims_in l))
   claims_found = lists.found_is claim 0 (export_claim title) l (lock_for title l) lock_is
 
   module _ (accepted : moved 0 0 ≡ verdict (each (export_claim title) (claims_in l))) where
@@ -61,13 +63,15 @@ module _ (title : ℕ) (l : List ℕ) where
         (exported title (claim start end kind) (rw e (lists.each_passed claim 0 (export_claim title) l (export_never_0 title) accepted place h))).in_order
 
 -- ---- what is stored for one: the claim of a lock, and the lock of a claim
-pub claim_stored : (title n place : ℕ) (l : List ℤ) (given sofar after : List ℕ) (k : Lock) (c : Claim) → StoredUpTo put_claim (claim_for title l) given n place sofar → place < n
+pub claim_stored : (title n place : ℕ) (l : List ℤ) (given sofar after : List ℕ) (k : Lock) (c : Claim)
+    → StoredUpTo put_claim (claim_for title l) given n place sofar → place < n
     → k ≡ lock_at l place → taken c ≡ import_lock title k → after ≡ put_claim sofar place c → StoredUpTo put_claim (claim_for title l) given n (place + 1) after
 claim_stored title n place l given sofar after k c inv h e q p =
     lists.stored_on put_claim (claim_for title l) given n place sofar after inv h
     (p ∙ ap (λ x. put_claim sofar place (claim_or0 x)) (q ∙ ap (import_lock title) e))
 
-pub lock_stored : (title n place : ℕ) (l : List ℕ) (given sofar after : List ℤ) (c : Claim) (k : Lock) → StoredUpTo put_lock (lock_for title l) given n place sofar → place < n
+pub lock_stored : (title n place : ℕ) (l : List ℕ) (given sofar after : List ℤ) (c : Claim) (k : Lock)
+    → StoredUpTo put_lock (lock_for title l) given n place sofar → place < n
     → c ≡ claim_at l place → k ≡ lock_of title c → after ≡ put_lock sofar place k → StoredUpTo put_lock (lock_for title l) given n (place + 1) after
 lock_stored title n place l given sofar after c k inv h e q p =
     lists.stored_on put_lock (lock_for title l) given n place sofar after inv h (p ∙ ap (put_lock sofar place) (q ∙ ap (lock_of title) e))
@@ -79,7 +83,8 @@ module _ (title : ℕ) (l : List ℤ) (lent : List ℕ) where
   import_no_title e = rw (eq-eqb title 0 e)
 
   module _ (some : title ≡ 0 → ⊥) where
-    pub import_refused : (found : BadRecord) → means_moved (Err found) ≡ verdict (each (import_lock title) (locks_in l)) → listed (means_moved (Err found)) lent ≡ import_locks title l lent
+    pub import_refused : (found : BadRecord) → means_moved (Err found) ≡ verdict (each (import_lock title) (locks_in l))
+        → listed (means_moved (Err found)) lent ≡ import_locks title l lent
     unfolding import_locks
     import_refused found q = rw (ne_eqb title 0 some) (lists.call_refused claim_numbers (each (import_lock title) (locks_in l)) found lent q)
 
@@ -90,7 +95,8 @@ module _ (title : ℕ) (l : List ℤ) (lent : List ℕ) where
           rw (ne_eqb title 0 some)
           (lists.call_short lock (pos 0) (import_lock title) l (claim_for title l) (claim_is title l) (λ c. c.start) (λ c. c.end) (λ c. c.kind) (import_never_0 title) accepted lent h)
 
-      pub import_accepted : (after : List ℕ) → length l / 3 ≤ length lent / 3 → after ≡ put_from put_claim 0 (records_from (claim_for title l) 0 (length l / record_width)) lent
+      pub import_accepted : (after : List ℕ) → length l / 3 ≤ length lent / 3
+          → after ≡ put_from put_claim 0 (records_from (claim_for title l) 0 (length l / record_width)) lent
           → listed (moved 0 0) after ≡ import_locks title l lent
       unfolding import_locks
       import_accepted after h p =
@@ -103,7 +109,8 @@ module _ (title : ℕ) (l : List ℕ) (lent : List ℤ) where
   export_no_title e = rw (eq-eqb title 0 e)
 
   module _ (some : title ≡ 0 → ⊥) where
-    pub export_refused : (found : BadRecord) → means_moved (Err found) ≡ verdict (each (export_claim title) (claims_in l)) → listed (means_moved (Err found)) lent ≡ export_claims title l lent
+    pub export_refused : (found : BadRecord) → means_moved (Err found) ≡ verdict (each (export_claim title) (claims_in l))
+        → listed (means_moved (Err found)) lent ≡ export_claims title l lent
     unfolding export_claims
     export_refused found q = rw (ne_eqb title 0 some) (lists.call_refused lock_numbers (each (export_claim title) (claims_in l)) found lent q)
 
@@ -114,7 +121,8 @@ module _ (title : ℕ) (l : List ℕ) (lent : List ℤ) where
           rw (ne_eqb title 0 some)
           (lists.call_short claim 0 (export_claim title) l (lock_for title l) (lock_is title l) (λ k. k.type) (λ k. k.start) (λ k. k.length) (export_never_0 title) accepted lent h)
 
-      pub export_accepted : (after : List ℤ) → length l / 3 ≤ length lent / 3 → after ≡ put_from put_lock 0 (records_from (lock_for title l) 0 (length l / record_width)) lent
+      pub export_accepted : (after : List ℤ) → length l / 3 ≤ length lent / 3
+          → after ≡ put_from put_lock 0 (records_from (lock_for title l) 0 (length l / record_width)) lent
           → listed (moved 0 0) after ≡ export_claims title l lent
       unfolding export_claims
       export_accepted after h p =

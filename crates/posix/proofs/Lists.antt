@@ -21,14 +21,16 @@ unfolding records_from
 shifted f g h i zero = refl
 shifted f g h i (suc n) = rw (h i, shifted f g h (i + 1) n)
 
-record_behind : {A B : Type 0} (make : A → A → A → B) (none a b c : A) (more : List A) (i : ℕ) → record_at make none (a ∷ b ∷ c ∷ more) (i + 1) ≡ record_at make none more i
+record_behind : {A B : Type 0} (make : A → A → A → B) (none a b c : A) (more : List A) (i : ℕ)
+    → record_at make none (a ∷ b ∷ c ∷ more) (i + 1) ≡ record_at make none more i
 record_behind make none a b c more i =
     let p : record_width * (i + 1) ≡ suc (suc (suc (record_width * i))) = omega arith in
     let q : record_width * (i + 1) + 1 ≡ suc (suc (suc (record_width * i + 1))) = omega arith in
     let r : record_width * (i + 1) + 2 ≡ suc (suc (suc (record_width * i + 2))) = omega arith in
     rw (q, r, p)
 
-pub records_at : {A B : Type 0} (make : A → A → A → B) (none : A) (l : List A) → in_threes make l ≡ records_from (record_at make none l) 0 (length l / record_width)
+pub records_at : {A B : Type 0} (make : A → A → A → B) (none : A) (l : List A)
+    → in_threes make l ≡ records_from (record_at make none l) 0 (length l / record_width)
 unfolding in_threes records_from
 records_at make none [] = refl
 records_at make none (a ∷ []) = refl
@@ -53,12 +55,14 @@ is_bad (taken b) why q = absurd (numbered why q)
 is_bad (bad number) why q = ap bad (sym q)
 
 -- a list is accepted if each of its records is
-both_accepted : {B : Type 0} (x : Taken B) (rest : All B) → x ≢ bad 0 → (verdict (and_then x rest)).refusal ≡ 0 → (refusal_of x ≡ 0) × ((verdict rest).refusal ≡ 0)
+both_accepted : {B : Type 0} (x : Taken B) (rest : All B) → x ≢ bad 0 → (verdict (and_then x rest)).refusal ≡ 0
+    → (refusal_of x ≡ 0) × ((verdict rest).refusal ≡ 0)
 both_accepted (taken b) (all records) d e = (refl, refl)
 both_accepted (taken b) (first_bad number place) d e = (refl, e)
 both_accepted (bad number) rest d e = absurd (d (ap bad e))
 
-all_accepted : {A B : Type 0} (move : A → Taken B) (at : ℕ → A) → ((a : A) → move a ≢ bad 0) → (i n : ℕ) → (verdict (each move (records_from at i n))).refusal ≡ 0
+all_accepted : {A B : Type 0} (move : A → Taken B) (at : ℕ → A) → ((a : A) → move a ≢ bad 0) → (i n : ℕ)
+    → (verdict (each move (records_from at i n))).refusal ≡ 0
     → (j : ℕ) → i ≤ j → j < i + n → refusal_of (move (at j)) ≡ 0
 unfolding each records_from
 all_accepted move at never_0 i zero e j h k = absurd (omega arith)
@@ -76,7 +80,8 @@ module _ {A B : Type 0} (move : A → Taken B) (at : ℕ → A) (f : ℕ → B) 
   taken_all i zero h = refl
   taken_all i (suc n) h = rw (is i (h i (omega arith) (omega arith)), taken_all (i + 1) n (λ j p q. h j (omega arith) (omega arith)))
 
-  stops_at : (i n place : ℕ) (number : ℕ) → place < n → Pass i place → move (at (i + place)) ≡ bad number → each move (records_from at i n) ≡ first_bad number place
+  stops_at : (i n place : ℕ) (number : ℕ) → place < n → Pass i place → move (at (i + place)) ≡ bad number
+      → each move (records_from at i n) ≡ first_bad number place
   unfolding each records_from
   stops_at i zero place number h before q = absurd (omega arith)
   stops_at i (suc n) zero number h before q = let e : i + 0 ≡ i = omega arith in rw (rw e at q)
@@ -99,7 +104,8 @@ set_behind : {A : Type 0} (x l : List A) (k : ℕ) (v : A) → set (x ++ l) (len
 set_behind [] l k v = let e : 0 + k ≡ k = omega arith in rw e
 set_behind {A} (a ∷ x) l k v = let e : length (a ∷ x) + k ≡ suc (length x + k) = omega arith in rw e (ap (λ (m : List A). a ∷ m) (set_behind x l k v))
 
-three_behind : {A : Type 0} (x l : List A) (i : ℕ) (a b c p q r : A) → length x ≡ record_width * i → put3 (x ++ (a ∷ b ∷ c ∷ l)) i p q r ≡ (x ++ (p ∷ q ∷ r ∷ [])) ++ l
+three_behind : {A : Type 0} (x l : List A) (i : ℕ) (a b c p q r : A) → length x ≡ record_width * i
+    → put3 (x ++ (a ∷ b ∷ c ∷ l)) i p q r ≡ (x ++ (p ∷ q ∷ r ∷ [])) ++ l
 three_behind {A} x l i a b c p q r e =
     let z : length x + 0 ≡ length x = omega arith in
     rw (← e)
@@ -127,7 +133,8 @@ module _ {A B : Type 0} (first second third : B → A) where
       (stored_behind (x ++ one) (i + 1) more l (omega arith) (omega arith)
       ∙ append_assoc x one (threes first second third more ++ drop (record_width * length more) l))
 
-  pub stored : (records : List B) (l : List A) → record_width * length records ≤ length l → put_from put 0 records l ≡ threes first second third records ++ drop (record_width * length records) l
+  pub stored : (records : List B) (l : List A) → record_width * length records ≤ length l
+      → put_from put 0 records l ≡ threes first second third records ++ drop (record_width * length records) l
   stored records l h = stored_behind [] 0 records l refl h
 
 module _ {A B : Type 0} (put : List A → ℕ → B → List A) (f : ℕ → B) (given : List A) where
@@ -156,11 +163,13 @@ module _ {A B C : Type 0} (make : A → A → A → B) (none : A) (move : B → 
 
   pub each_passed : ((b : B) → move b ≢ bad 0) → moved 0 0 ≡ verdict (each move (in_threes make l)) → (j : ℕ) → j < count → refusal_of (move (at j)) ≡ 0
   each_passed never_0 q j h =
-      let e : (verdict (each move (records_from at 0 count))).refusal ≡ 0 = ap (λ (x : List B). (verdict (each move x)).refusal) (sym (records_at make none l)) ∙ ap (λ m. m.refusal) (sym q) in
+      let e : (verdict (each move (records_from at 0 count))).refusal ≡ 0
+      = ap (λ (x : List B). (verdict (each move x)).refusal) (sym (records_at make none l)) ∙ ap (λ m. m.refusal) (sym q) in
       all_accepted move at never_0 0 count e j (omega arith) (omega arith)
 
   module _ (f : ℕ → C) (is : (j : ℕ) → refusal_of (move (at j)) ≡ 0 → move (at j) ≡ taken (f j)) where
-    pub found_is : (says : ℕ → Result (Unit {0}) Refused → Type 0) → ((j : ℕ) (r : Result (Unit {0}) Refused) → j < count → says j r → means_done r ≡ refusal_of (move (at j)))
+    pub found_is : (says : ℕ → Result (Unit {0}) Refused → Type 0)
+        → ((j : ℕ) (r : Result (Unit {0}) Refused) → j < count → says j r → means_done r ≡ refusal_of (move (at j)))
         → (found : Result (Unit {0}) BadRecord) → IsFirstBad says count found → means_moved found ≡ verdict (each move (in_threes make l))
     unfolding IsFirstBad
     found_is says told (Ok tt) pass =

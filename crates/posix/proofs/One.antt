@@ -38,13 +38,15 @@ module _ (title : ℕ) (type : ℤ) where
   starts (pos n) span e = absurd (let h = ltb-true n 0 e in omega arith)
   starts (negsuc n) span e = rw (starts_below title type span n)
 
-  reaches : (start span : ℤ) → lt_z start (pos 0) ≡ false → lt_z span (pos 0) ≡ true → nat_abs start < nat_abs span → 12 ≡ refusal_of (import_lock title (lock type start span))
+  reaches : (start span : ℤ) → lt_z start (pos 0) ≡ false → lt_z span (pos 0) ≡ true → nat_abs start < nat_abs span
+      → 12 ≡ refusal_of (import_lock title (lock type start span))
   reaches (pos n) (pos m) s e h = absurd (let i = ltb-true m 0 e in omega arith)
   reaches (pos n) (negsuc m) s e h = rw (reaches_below title type n m h)
   reaches (negsuc n) span s e h = absurd (true≢false s)
 
   module _ (r : ℕ) where
-    back : (start span : ℤ) → r ≡ run_refusal title (nat_abs start - nat_abs span) (nat_abs start) (is_type type) → lt_z start (pos 0) ≡ false → lt_z span (pos 0) ≡ true
+    back : (start span : ℤ) → r ≡ run_refusal title (nat_abs start - nat_abs span) (nat_abs start) (is_type type) → lt_z start (pos 0) ≡ false
+        → lt_z span (pos 0) ≡ true
         → nat_abs span ≤ nat_abs start → r ≡ refusal_of (import_lock title (lock type start span))
     back (pos n) (pos m) q s e h = absurd (let i = ltb-true m 0 e in omega arith)
     back (pos n) (negsuc m) q s e h = rw (run_back title type n m h, ← run_refused title (n - suc m) n type) q
@@ -57,7 +59,8 @@ module _ (title : ℕ) (type : ℤ) where
     to_the_end (pos n) (negsuc m) q s z = absurd (omega arith)
     to_the_end (negsuc n) span q s z = absurd (true≢false s)
 
-    on : (start span : ℤ) → r ≡ run_refusal title (nat_abs start) (nat_abs start + nat_abs span) (is_type type) → lt_z start (pos 0) ≡ false → lt_z span (pos 0) ≡ false
+    on : (start span : ℤ) → r ≡ run_refusal title (nat_abs start) (nat_abs start + nat_abs span) (is_type type) → lt_z start (pos 0) ≡ false
+        → lt_z span (pos 0) ≡ false
         → (span ≡ pos 0 → ⊥) → r ≡ refusal_of (import_lock title (lock type start span))
     on (pos n) (pos zero) q s e z = absurd (z refl)
     on (pos n) (pos (suc m)) q s e z = rw (run_on title type n m, ← run_refused title n (n + suc m) type) q
@@ -86,13 +89,16 @@ module _ (title : ℕ) (type start span : ℤ) (f : SFits w64 start) where
       known_is : known ≡ is_type type
       known_is = k ∙ ap is_type (to_z-of_z t)
 
-      pub lock_back : r ≡ run_refusal title (from - size) from known → lt_z (again span) (pos 0) ≡ true → size ≤ from → r ≡ refusal_of (import_lock title (lock type start span))
+      pub lock_back : r ≡ run_refusal title (from - size) from known → lt_z (again span) (pos 0) ≡ true → size ≤ from
+          → r ≡ refusal_of (import_lock title (lock type start span))
       lock_back q e h = back title type r start span (rw (from_is, size_is, known_is) at q) not_below (rw (to_z-of_z g) at e) (rw (from_is, size_is) at h)
 
-      pub lock_to_the_end : (end : ℕ) → r ≡ run_refusal title from end known → end ≡ title → of_z w64 span ≡ 0 → r ≡ refusal_of (import_lock title (lock type start span))
+      pub lock_to_the_end : (end : ℕ) → r ≡ run_refusal title from end known → end ≡ title → of_z w64 span ≡ 0
+          → r ≡ refusal_of (import_lock title (lock type start span))
       lock_to_the_end end q h z = to_the_end title type r start span (rw (from_is, known_is, h) at q) not_below (ap nat_abs (read_0 span g z))
 
-      pub lock_on : r ≡ run_refusal title from (from + size) known → lt_z (again span) (pos 0) ≡ false → (of_z w64 span ≡ 0 → ⊥) → r ≡ refusal_of (import_lock title (lock type start span))
+      pub lock_on : r ≡ run_refusal title from (from + size) known → lt_z (again span) (pos 0) ≡ false → (of_z w64 span ≡ 0 → ⊥)
+          → r ≡ refusal_of (import_lock title (lock type start span))
       lock_on q e z = on title type r start span (rw (from_is, size_is, known_is) at q) not_below (rw (to_z-of_z g) at e) (λ y. z (ap (of_z w64) y))
 
 -- ---- the numbers of a lock that is not refused: its start, and the sum of its start and its length, are of 32 bits
@@ -109,7 +115,8 @@ record Sums (title : ℕ) (start span : ℤ) (a b : ℕ) : Type 0 where
   sum : IsWord (start +ℤ span)
   itself : IsWord start
 
-sums : (title : ℕ) (start span : ℤ) (a b : ℕ) → a ≤ 4294967295 → b ≤ 4294967295 → by_sign span (start +ℤ span) start start ≡ pos a → by_sign span start (pos title) (start +ℤ span) ≡ pos b
+sums : (title : ℕ) (start span : ℤ) (a b : ℕ) → a ≤ 4294967295 → b ≤ 4294967295 → by_sign span (start +ℤ span) start start ≡ pos a
+    → by_sign span start (pos title) (start +ℤ span) ≡ pos b
     → Sums title start span a b
 sums title start (negsuc m) a b h k p q =
     record {
@@ -188,7 +195,8 @@ module _ (title : ℕ) (type start span : ℤ) (q : refusal_of (import_lock titl
     summed : (n m : ℕ) → pos n ≡ again (again start +ℤ again span) → start +ℤ span ≡ pos m → n ≡ m
     summed n m p e = word n m (again start +ℤ again span) (sum_fits_again f g) p (rw (to_z-of_z f, to_z-of_z g) e)
 
-    pub claimed_back : pos a ≡ again (again start +ℤ again span) → pos b ≡ again start → lt_z (again span) (pos 0) ≡ true → taken (claim a b k) ≡ import_lock title (lock type start span)
+    pub claimed_back : pos a ≡ again (again start +ℤ again span) → pos b ≡ again start → lt_z (again span) (pos 0) ≡ true
+        → taken (claim a b k) ≡ import_lock title (lock type start span)
     claimed_back p r e =
         let w = its_sums.back (rw (to_z-of_z g) at e) in
         made a b k (summed a c.start p w.0) (word b c.end start f r w.1) the_kind ∙ sym takes
@@ -198,7 +206,8 @@ module _ (title : ℕ) (type start span : ℤ) (q : refusal_of (import_lock titl
         let e = read_0 span g z in
         made a title k (word a c.start start f p (its_sums.on (rw e))) (its_sums.to_the_end e) the_kind ∙ sym takes
 
-    pub claimed_on : pos a ≡ again start → pos b ≡ again (again start +ℤ again span) → lt_z (again span) (pos 0) ≡ false → (of_z w64 span ≡ 0 → ⊥) → taken (claim a b k) ≡ import_lock title (lock type start span)
+    pub claimed_on : pos a ≡ again start → pos b ≡ again (again start +ℤ again span) → lt_z (again span) (pos 0) ≡ false → (of_z w64 span ≡ 0 → ⊥)
+        → taken (claim a b k) ≡ import_lock title (lock type start span)
     claimed_on p r e z =
         let s : lt_z span (pos 0) ≡ false = rw (to_z-of_z g) at e in
         made a b k (word a c.start start f p (its_sums.on s)) (summed b c.end r (its_sums.to_an_end s (λ y. z (ap (of_z w64) y)))) the_kind ∙ sym takes

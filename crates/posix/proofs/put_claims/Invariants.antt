@@ -5,4 +5,5 @@ use Rattle.posix.proofs.put_claims.Given as goal
 
 abbrev pub invariant-loop-place : goal.invariant-loop-place
 invariant-loop-place l =
-    StoredUpTo put_claim (claim_for l.title l.locks) (put_from put_claim 0 (records_from (claim_for l.title l.locks) 0 l.place-end) l.initial.claims) l.place-end l.place l.claims
+    let stored = claim_for l.title l.locks in
+    StoredUpTo put_claim stored (put_from put_claim 0 (records_from stored 0 l.place-end) l.initial.claims) l.place-end l.place l.claims

@@ -5,4 +5,5 @@ use Rattle.posix.proofs.put_locks.Given as goal
 
 abbrev pub invariant-loop-place : goal.invariant-loop-place
 invariant-loop-place l =
-    StoredUpTo put_lock (lock_for l.title l.claims) (put_from put_lock 0 (records_from (lock_for l.title l.claims) 0 l.place-end) l.initial.locks) l.place-end l.place l.locks
+    let stored = lock_for l.title l.claims in
+    StoredUpTo put_lock stored (put_from put_lock 0 (records_from stored 0 l.place-end) l.initial.locks) l.place-end l.place l.locks
