@@ -8,7 +8,7 @@ ghost use Rattle.rules.specs.Script.{read_script};
 ghost use Rattle.rules.specs.Tables.{tables};
 ghost use Rattle.rules.specs.Comparison.{claim};
 ghost use Rattle.rules.specs.Answers.{done};
-ghost use Rattle.rules.specs.Means.{means, means_count, means_board};
+ghost use Rattle.rules.specs.Means.{means, means_count, means_board, means_run, means_done, means_moved, means_script};
 ghost use Rattle.rules.specs.Calls as call;
 ghost use Rattle.rules.specs.FreeCount.{free_count};
 ghost use Rattle.rules.specs.Run as running;
@@ -17,7 +17,8 @@ ghost use Rattle.rules.specs.Locks.{listed, import_locks, export_claims};
 ghost use Rattle.rules.specs.Play.{play as Play·play};
 ghost use Rattle.boundary.specs.Encoded.{halves, halves_of, encode, encode_count, encode_ran, encoded, encoded_run, step_told, shared_after, tell_step, told, tell_answer, tell, put_line, lines_after, script_numbers, read_as, encode_script};
 
-use rules::{BoardReply, CountReply, Line, Moved, Ran, Reply, Script};
+use replies::Said;
+use rules::{BadRecord, Claim, Filled, Line, Moved, Ordinary, Ran, Refused, Reply, Script, Sheet};
 
 // ---- answers as numbers
 
@@ -27,51 +28,78 @@ fn joined(upper: u32, lower: u32) -> u64
     4294967296 * upper as u64 + lower as u64
 }
 
-fn number_of(reply: Reply) -> u64
-    ensures { halves_of result ≡ encode (means reply) }
+// of clear: 0, or the refusal
+fn number_of_clear(answer: Result<(), Refused>) -> u64
+    ensures { result ≡ means_done answer }
 {
-    let said = replies::say(reply);
+    match answer {
+        Ok(()) => 0,
+        Err(why) => replies::number(why) as u64,
+    }
+}
+
+fn number_of(answer: Result<Reply, Refused>) -> u64
+    ensures { halves_of result ≡ encode (means answer) }
+{
+    let said = Said::from(answer);
     joined(said.code, said.number)
 }
 
 // the two words for the shared run, where the answer is a wait
-fn put_shared(shared: &mut [u32], reply: Reply)
+fn put_shared(shared: &mut [u32], answer: Result<Reply, Refused>)
     requires { length shared.old ≡ 2 }
-    ensures { shared.new ≡ shared_after shared.old (means reply) }
+    ensures { shared.new ≡ shared_after shared.old (means answer) }
 {
-    let said = replies::say(reply);
-    let code = said.code;
-    if code == 4 {
-        shared[0] = said.first;
-        shared[1] = said.end;
+    if let Some(run) = Said::from(answer).run {
+        shared[0] = run.first;
+        shared[1] = run.end;
     }
 }
 
-fn number_of_count(reply: CountReply) -> u64
-    ensures { halves_of result ≡ encode_count (means_count reply) }
+fn number_of_count(answer: Result<u32, Refused>) -> u64
+    ensures { halves_of result ≡ encode_count (means_count answer) }
 {
-    match reply {
-        CountReply::Refused(number) => joined(0, number),
-        CountReply::Count(n) => joined(1, n),
+    match answer {
+        Ok(n) => joined(1, n),
+        Err(why) => joined(0, replies::number(why)),
     }
 }
 
 fn number_of_run(ran: Ran) -> u64
-    ensures { halves_of result ≡ encode_ran ran }
+    ensures { halves_of result ≡ encode_ran (means_run ran) }
 {
-    joined(ran.refusal, ran.steps)
+    match ran.refusal {
+        None => joined(0, ran.steps),
+        Some(why) => joined(replies::number(why), ran.steps),
+    }
 }
 
 // the board's number; the word for the covered frames is stored where it is not refused
-fn tell_board(reply: BoardReply, covered: &mut u64) -> u64
-    ensures { told (halves_of result) covered.new [] ≡ tell_answer covered.old (means_board reply) [] }
+fn tell_board(answer: Result<Filled, Refused>, covered: &mut u64) -> u64
+    ensures { told (halves_of result) covered.new [] ≡ tell_answer covered.old (means_board answer) [] }
 {
-    match reply {
-        BoardReply::Rows(count, frames) => {
-            *covered = frames;
-            joined(1, count)
+    match answer {
+        Ok(filled) => {
+            *covered = filled.covered;
+            joined(1, filled.rows)
         }
-        BoardReply::Refused(number) => joined(0, number),
+        Err(why) => joined(0, replies::number(why)),
+    }
+}
+
+// of import and export
+fn moved(answer: Result<(), BadRecord>) -> Moved
+    ensures { result ≡ means_moved answer }
+{
+    match answer {
+        Ok(()) => Moved {
+            refusal: 0,
+            place: 0,
+        },
+        Err(bad) => Moved {
+            refusal: replies::number(bad.why),
+            place: bad.place,
+        },
     }
 }
 
@@ -81,8 +109,7 @@ fn tell_board(reply: BoardReply, covered: &mut u64) -> u64
 pub extern "C" fn soodhiqune_clear(nodes: &mut [u32], seats: &mut [u32], title: u32) -> u64
     ensures { done result (tables false nodes.new seats.new) ≡ call.clear (tables false nodes.old seats.old) title }
 {
-    let number = claims::clear::<Ordinary>(nodes, seats, title);
-    number as u64
+    number_of_clear(claims::clear::<Ordinary>(nodes, seats, title))
 }
 
 #[unsafe(no_mangle)]
@@ -96,16 +123,15 @@ pub extern "C" fn soodhiqune_reserve(
 ) -> u64
     ensures { done (halves_of result) (tables false nodes.new seats.new) ≡ encoded (call.reserve (tables false nodes.old seats.old) seat (claim start end kind)) }
 {
-    let reply = claims::reserve::<Ordinary>(nodes, seats, seat, start, end, kind);
-    number_of(reply)
+    let claim = Claim { start, end, kind };
+    number_of(claims::reserve::<Ordinary>(nodes, seats, seat, claim))
 }
 
 #[unsafe(no_mangle)]
 pub extern "C" fn soodhiqune_enter(nodes: &[u32], seats: &mut [u32], seat: u32) -> u64
     ensures { done (halves_of result) (tables false nodes.now seats.new) ≡ encoded (call.enter (tables false nodes.now seats.old) seat) }
 {
-    let reply = claims::enter::<Ordinary>(nodes, seats, seat);
-    number_of(reply)
+    number_of(claims::enter::<Ordinary>(nodes, seats, seat))
 }
 
 #[unsafe(no_mangle)]
@@ -117,25 +143,23 @@ pub extern "C" fn soodhiqune_step(
 ) -> u64
     ensures { step_told (halves_of result) shared.new (tables false nodes.new seats.new) ≡ tell_step shared.old (call.step (tables false nodes.old seats.old) seat) }
 {
-    let reply = claims::step::<Ordinary>(nodes, seats, seat);
-    put_shared(shared, reply);
-    number_of(reply)
+    let answer = claims::step::<Ordinary>(nodes, seats, seat);
+    put_shared(shared, answer);
+    number_of(answer)
 }
 
 #[unsafe(no_mangle)]
 pub extern "C" fn soodhiqune_release(nodes: &mut [u32], seats: &mut [u32], seat: u32) -> u64
     ensures { done (halves_of result) (tables false nodes.new seats.new) ≡ encoded (call.release (tables false nodes.old seats.old) seat) }
 {
-    let reply = claims::release::<Ordinary>(nodes, seats, seat);
-    number_of(reply)
+    number_of(claims::release::<Ordinary>(nodes, seats, seat))
 }
 
 #[unsafe(no_mangle)]
 pub extern "C" fn soodhiqune_free_count(nodes: &[u32], seats: &[u32]) -> u64
     ensures { halves_of result ≡ encode_count (free_count (tables false nodes.now seats.now)) }
 {
-    let reply = claims::free_count::<Ordinary>(nodes, seats);
-    number_of_count(reply)
+    number_of_count(claims::free_count::<Ordinary>(nodes, seats))
 }
 
 #[unsafe(no_mangle)]
@@ -147,8 +171,7 @@ pub extern "C" fn soodhiqune_run(
 ) -> u64
     ensures { done (halves_of result) (tables false nodes.new seats.new) ≡ encoded_run (running.run (tables false nodes.old seats.old) schedule.now budget) }
 {
-    let ran = run::run::<Ordinary>(nodes, seats, schedule, budget);
-    number_of_run(ran)
+    number_of_run(run::run::<Ordinary>(nodes, seats, schedule, budget))
 }
 
 #[unsafe(no_mangle)]
@@ -160,8 +183,7 @@ pub extern "C" fn soodhiqune_board(
 ) -> u64
     ensures { told (halves_of result) covered.new rows.new ≡ tell covered.old (board_numbers (tables false nodes.now seats.now) rows.old) }
 {
-    let reply = board::board::<Ordinary>(nodes, seats, rows);
-    tell_board(reply, covered)
+    tell_board(board::board::<Ordinary>(nodes, seats, rows), covered)
 }
 
 // ---- the same on a writers' sheet
@@ -170,8 +192,7 @@ pub extern "C" fn soodhiqune_board(
 pub extern "C" fn soodhiqune_sheet_clear(nodes: &mut [u32], seats: &mut [u32], title: u32) -> u64
     ensures { done result (tables true nodes.new seats.new) ≡ call.clear (tables true nodes.old seats.old) title }
 {
-    let number = claims::clear::<Sheet>(nodes, seats, title);
-    number as u64
+    number_of_clear(claims::clear::<Sheet>(nodes, seats, title))
 }
 
 #[unsafe(no_mangle)]
@@ -185,16 +206,15 @@ pub extern "C" fn soodhiqune_sheet_reserve(
 ) -> u64
     ensures { done (halves_of result) (tables true nodes.new seats.new) ≡ encoded (call.reserve (tables true nodes.old seats.old) seat (claim start end kind)) }
 {
-    let reply = claims::reserve::<Sheet>(nodes, seats, seat, start, end, kind);
-    number_of(reply)
+    let claim = Claim { start, end, kind };
+    number_of(claims::reserve::<Sheet>(nodes, seats, seat, claim))
 }
 
 #[unsafe(no_mangle)]
 pub extern "C" fn soodhiqune_sheet_enter(nodes: &[u32], seats: &mut [u32], seat: u32) -> u64
     ensures { done (halves_of result) (tables true nodes.now seats.new) ≡ encoded (call.enter (tables true nodes.now seats.old) seat) }
 {
-    let reply = claims::enter::<Sheet>(nodes, seats, seat);
-    number_of(reply)
+    number_of(claims::enter::<Sheet>(nodes, seats, seat))
 }
 
 #[unsafe(no_mangle)]
@@ -206,25 +226,23 @@ pub extern "C" fn soodhiqune_sheet_step(
 ) -> u64
     ensures { step_told (halves_of result) shared.new (tables true nodes.new seats.new) ≡ tell_step shared.old (call.step (tables true nodes.old seats.old) seat) }
 {
-    let reply = claims::step::<Sheet>(nodes, seats, seat);
-    put_shared(shared, reply);
-    number_of(reply)
+    let answer = claims::step::<Sheet>(nodes, seats, seat);
+    put_shared(shared, answer);
+    number_of(answer)
 }
 
 #[unsafe(no_mangle)]
 pub extern "C" fn soodhiqune_sheet_release(nodes: &mut [u32], seats: &mut [u32], seat: u32) -> u64
     ensures { done (halves_of result) (tables true nodes.new seats.new) ≡ encoded (call.release (tables true nodes.old seats.old) seat) }
 {
-    let reply = claims::release::<Sheet>(nodes, seats, seat);
-    number_of(reply)
+    number_of(claims::release::<Sheet>(nodes, seats, seat))
 }
 
 #[unsafe(no_mangle)]
 pub extern "C" fn soodhiqune_sheet_free_count(nodes: &[u32], seats: &[u32]) -> u64
     ensures { halves_of result ≡ encode_count (free_count (tables true nodes.now seats.now)) }
 {
-    let reply = claims::free_count::<Sheet>(nodes, seats);
-    number_of_count(reply)
+    number_of_count(claims::free_count::<Sheet>(nodes, seats))
 }
 
 #[unsafe(no_mangle)]
@@ -236,8 +254,7 @@ pub extern "C" fn soodhiqune_sheet_run(
 ) -> u64
     ensures { done (halves_of result) (tables true nodes.new seats.new) ≡ encoded_run (running.run (tables true nodes.old seats.old) schedule.now budget) }
 {
-    let ran = run::run::<Sheet>(nodes, seats, schedule, budget);
-    number_of_run(ran)
+    number_of_run(run::run::<Sheet>(nodes, seats, schedule, budget))
 }
 
 #[unsafe(no_mangle)]
@@ -249,8 +266,7 @@ pub extern "C" fn soodhiqune_sheet_board(
 ) -> u64
     ensures { told (halves_of result) covered.new rows.new ≡ tell covered.old (board_numbers (tables true nodes.now seats.now) rows.old) }
 {
-    let reply = board::board::<Sheet>(nodes, seats, rows);
-    tell_board(reply, covered)
+    tell_board(board::board::<Sheet>(nodes, seats, rows), covered)
 }
 
 // ---- locks of the archive's file system, three numbers to a record. The place of a refused record is handed back by value, beside the refusal, so that
@@ -260,14 +276,14 @@ pub extern "C" fn soodhiqune_sheet_board(
 pub extern "C" fn soodhiqune_import(title: u32, locks: &[i64], claims: &mut [u32]) -> Moved
     ensures { listed result claims.new ≡ import_locks title locks.now claims.old }
 {
-    posix::import(title, locks, claims)
+    moved(posix::import(title, locks, claims))
 }
 
 #[unsafe(no_mangle)]
 pub extern "C" fn soodhiqune_export(title: u32, claims: &[u32], locks: &mut [i64]) -> Moved
     ensures { listed result locks.new ≡ export_claims title claims.now locks.old }
 {
-    posix::export(title, claims, locks)
+    moved(posix::export(title, claims, locks))
 }
 
 // ---- a script played
@@ -295,42 +311,37 @@ fn put_line(numbers: &mut [u32], at: usize, line: Line)
     numbers[at + 4] = line.kind;
 }
 
-fn put_lines(numbers: &mut [u32], script: Script)
-    requires is_whole { length numbers.old ≡ 5004 }
-    requires has_rows { length script.rows ≡ 1000 }
-    ensures { numbers.new ≡ lines_after 1000 numbers.old script.rows }
+fn put_lines(numbers: &mut [u32], rows: &[Line; 1000])
+    requires { length numbers.old ≡ 5004 }
+    ensures { numbers.new ≡ lines_after 1000 numbers.old rows.now }
 {
-    let mut i: usize = 0;
-    while i < 1000 {
-        let line = script.rows[i];
-        put_line(numbers, 4 + 5 * i, line);
-        i += 1;
+    for i in 0..1000 {
+        put_line(numbers, 4 + 5 * i, rows[i]);
     }
 }
 
-fn put_script(numbers: &mut [u32], script: Script)
-    requires is_whole { length numbers.old ≡ 5004 }
-    requires has_rows { length script.rows ≡ 1000 }
-    ensures { numbers.new ≡ script_numbers script numbers.old }
+fn put_script(numbers: &mut [u32], script: &Script)
+    requires { length numbers.old ≡ 5004 }
+    ensures { numbers.new ≡ script_numbers (means_script (Ok script.now)) numbers.old }
 {
     numbers[0] = script.n;
     numbers[1] = script.s;
     numbers[2] = script.k;
     numbers[3] = script.title;
-    put_lines(numbers, script);
+    put_lines(numbers, &script.rows);
 }
 
 fn read_into(bytes: &[u8], numbers: &mut [u32]) -> u64
     requires { length numbers.old ≡ 5004 }
     ensures { read_as (halves_of result) numbers.new ≡ encode_script (read_script bytes.now) numbers.old }
 {
-    let script = script::read(bytes);
-    let refusal = script.refusal;
-    if refusal == 0 {
-        put_script(numbers, script);
-        return 0;
+    match script::read(bytes) {
+        Ok(script) => {
+            put_script(numbers, &script);
+            0
+        }
+        Err(wrong) => joined(replies::number(Refused::NotWellFormed), wrong.line),
     }
-    joined(refusal, script.wrong)
 }
 
 // The length is promised so that the promise alone tells the script (proofs/ScriptTold.antt).
