@@ -1,160 +1,101 @@
 -- The rows as they are written one by one: what is written so far, followed by what was lent, is the board so far.
-use Prim.Native.Nat.{ℕ, suc, ◌+◌, ◌*◌, ◌/◌, ◌≤◌, ◌<◌}
+use Prim.Native.Nat.{ℕ, ◌+◌, ◌*◌, ◌/◌, ◌≤◌, ◌<◌}
 use mathlib.Core.Path.{◌≡◌, refl, sym, ap, ◌∙◌}
 use mathlib.Core.Bool.{Bool, true, false}
-use mathlib.Core.List.{List, [], ◌∷◌, ◌++◌, append_assoc}
-use mathlib.Core.Logic.{◌≢◌}
+use mathlib.Core.List.{List, [], ◌∷◌, ◌++◌}
 use native.Mathlib.Omega.{arith}
 use lib.Dec.{leb}
-use lib.ListN.{length, drop, set, get_or, length-append}
-use lib.Seq.{drop-cons}
-use borrow.Author.Tests.{eq-eqb, ne_eqb, eqb-true, eqb-false, lt-ltb, le-ltb, le-leb, leb-true, leb-false}
+use lib.ListN.{length, drop, length-append}
+use borrow.Author.Tests.{lt-ltb, le-ltb, le-leb, leb-true, leb-false}
+use Rattle.std.proofs.lemmas.List.{take_at}
+use Rattle.std.proofs.lemmas.Slice.{drop-append-drop}
 use Rattle.rules.specs.Notation.{◌is◌, ◌≤?◌}
-use Rattle.rules.specs.Tables.{Tables, tables, seat_count_of, phase}
+use Rattle.rules.specs.Tables.{Tables, seat_count, phase}
 use Rattle.rules.specs.Shape.{sound}
 use Rattle.rules.specs.Board.{row_of, rows_below, holders, covered_by, numbers_of, row_width, Boarded, shown, board_numbers}
 use Rattle.rules.specs.declared.Row.{Row}
-use Rattle.holders.specs.Holding.{holding}
-use Rattle.holders.proofs.Rows.{rows_more, rows_same, rows_upto, rows_at_most, rows_counted}
-use Rattle.rules.proofs.Laws.Shape.{seats_few}
 use Rattle.rules.proofs.Laws.BoardNumbers.{numbers_append, numbers_length}
-use Rattle.board.specs.Filling.{put_row, Filled, filled, fill_seat, fill_below, show_holders}
-
--- ---- a store behind what is written
-set_behind : (x l : List ℕ) (k v : ℕ) → set (x ++ l) (length x + k) v ≡ x ++ set l k v
-set_behind [] l k v = let e : 0 + k ≡ k = omega arith in rw e
-set_behind (a ∷ x) l k v = let e : length (a ∷ x) + k ≡ suc (length x + k) = omega arith in rw e (ap (λ (m : List ℕ). a ∷ m) (set_behind x l k v))
-
-row_behind : (x : List ℕ) (a b c d : ℕ) (row : Row) (l : List ℕ) → put_row (x ++ (a ∷ b ∷ c ∷ d ∷ l)) (length x) row ≡ (x ++ (row.seat ∷ row.first ∷ row.end ∷ row.kind ∷ [])) ++ l
-unfolding put_row
-row_behind x a b c d row l =
-    let e = row.seat in
-    let f = row.first in
-    let g = row.end in
-    let h = row.kind in
-    let z : length x + 0 ≡ length x = omega arith in
-    ap (λ (m : List ℕ). set (set (set m (length x + 1) f) (length x + 2) g) (length x + 3) h) (rw z at (set_behind x (a ∷ b ∷ c ∷ d ∷ l) 0 e))
-    ∙ ap (λ (m : List ℕ). set (set m (length x + 2) g) (length x + 3) h) (set_behind x (e ∷ b ∷ c ∷ d ∷ l) 1 f)
-    ∙ ap (λ (m : List ℕ). set m (length x + 3) h) (set_behind x (e ∷ f ∷ c ∷ d ∷ l) 2 g)
-    ∙ set_behind x (e ∷ f ∷ g ∷ d ∷ l) 3 h
-    ∙ sym (append_assoc x (e ∷ f ∷ g ∷ h ∷ []) l)
-
--- four numbers stand where there is room for a row
-one : (l : List ℕ) (k j : ℕ) → k < length l → j ≡ suc k → drop k l ≡ get_or l k 0 ∷ drop j l
-one l k j h e = rw e (drop-cons l k 0 h)
-
-four : (l : List ℕ) (k : ℕ) → k + 4 ≤ length l → drop k l ≡ get_or l k 0 ∷ get_or l (k + 1) 0 ∷ get_or l (k + 2) 0 ∷ get_or l (k + 3) 0 ∷ drop (k + 4) l
-four l k h =
-    rw (
-      one l k (k + 1) (omega arith) (omega arith),
-      one l (k + 1) (k + 2) (omega arith) (omega arith),
-      one l (k + 2) (k + 3) (omega arith) (omega arith),
-      one l (k + 3) (k + 4) (omega arith) (omega arith),
-    )
-
-put_row_behind : (x l : List ℕ) (k : ℕ) (row : Row) → length x ≡ k → k + 4 ≤ length l → put_row (x ++ drop k l) k row ≡ (x ++ (row.seat ∷ row.first ∷ row.end ∷ row.kind ∷ [])) ++ drop (k + 4) l
-put_row_behind x l k row p r =
-    rw (four l k r) (rw p at (row_behind x (get_or l k 0) (get_or l (k + 1) 0) (get_or l (k + 2) 0) (get_or l (k + 3) 0) row (drop (k + 4) l)))
-
--- ---- a seat
-module _ (t : Tables) (out : List ℕ) (s rows p : ℕ) where
-  pub seat_filled : (out' : List ℕ) (row : Row) → out' ≡ put_row out (row_width * rows) row → row ≡ row_of t s → p ≡ phase t s → p ≡ 5 → filled (rows + 1) out' ≡ fill_seat t s (filled rows out)
-  unfolding fill_seat
-  seat_filled out' row e is_row q h = rw (← q, eq-eqb p 5 h, ← is_row, ← e)
-
-  pub seat_skipped : p ≡ phase t s → p ≢ 5 → filled rows out ≡ fill_seat t s (filled rows out)
-  unfolding fill_seat
-  seat_skipped q d = rw (← q, ne_eqb p 5 d)
-
-  -- there is room for the row of a seat that holds
-  pub room : rows ≡ length (rows_below s t) → row_width * length (rows_below (s + 1) t) ≤ length out → p ≡ phase t s → p ≡ 5 → row_width * rows + 4 ≤ length out
-  room w r q h = let k = ap length (rows_more t s p q h) ∙ length-append (rows_below s t) (row_of t s ∷ []) in omega arith
-
--- ---- from seat to seat
-pub fill_start : (t : Tables) (lent : List ℕ) → filled 0 lent ≡ fill_below 0 t lent
-unfolding fill_below rows_below numbers_of
-fill_start t lent = refl
-
-module _ (t : Tables) (lent out : List ℕ) (s n rows : ℕ) (sofar : filled rows out ≡ fill_below s t lent) where
-  pub fill_counted : rows ≡ length (rows_below s t)
-  unfolding fill_below
-  fill_counted = ap (λ (x : Filled). x.rows) sofar
-
-  pub fill_small : rows ≤ s
-  fill_small = let w = fill_counted in let k = rows_at_most t s in omega arith
-
-  pub fill_done : n ≤ s → s ≤ n → filled rows out ≡ fill_below n t lent
-  fill_done a b = let e : s ≡ n = omega arith in rw (← e) sofar
-
--- what is lent for all has room for the first of them
-pub fill_fits : (t : Tables) (lent out : List ℕ) (s n : ℕ) → row_width * length (rows_below n t) ≤ length lent → s < n → length out ≡ length lent → row_width * length (rows_below (s + 1) t) ≤ length out
-fill_fits t lent out s n r h l = let k = rows_upto t (s + 1) n (omega arith) in omega arith
-
-pub fill_again : (t : Tables) (lent out out' : List ℕ) (s n rows rows' : ℕ) → filled rows' out' ≡ fill_seat t s (filled rows out) → filled rows out ≡ fill_below s t lent
-    → row_width * length (rows_below n t) ≤ length lent → s < n → filled rows' out' ≡ fill_below (s + 1) t lent
-unfolding fill_seat fill_below numbers_of
-fill_again t lent out out' s n rows rows' e sofar r h = e ∙ ap (fill_seat t s) sofar ∙ by (phase t s is 5) refl
-  where
-    by : (b : Bool) → (phase t s is 5) ≡ b → fill_seat t s (fill_below s t lent) ≡ fill_below (s + 1) t lent
-    by true q =
-        let holds = eqb-true (phase t s) 5 q in
-        let more = rows_more t s (phase t s) refl holds in
-        let k = length-append (rows_below s t) (row_of t s ∷ []) in
-        let m = numbers_length (rows_below s t) in
-        let below = ap length more in
-        let fits = rows_upto t (s + 1) n (omega arith) in
-        let z : row_width * length (rows_below s t) + 4 ≡ row_width * length (rows_below s t ++ (row_of t s ∷ [])) = omega arith in
-        let one : length (rows_below s t) + 1 ≡ length (rows_below s t ++ (row_of t s ∷ [])) = omega arith in
-        rw (q, more, numbers_append (rows_below s t) (row_of t s ∷ []), ← z, ← one, put_row_behind (numbers_of (rows_below s t)) lent (row_width * length (rows_below s t)) (row_of t s) m (omega arith))
-    by false q = rw (q, rows_same t s (phase t s) refl (eqb-false (phase t s) 5 q))
+use Rattle.holders.proofs.Rows.{rows_more, rows_same, rows_upto, rows_at_most, rows_all}
+use Rattle.board.specs.Filling.{put_row}
 
 -- ---- room for every row
-pub room_for_each : (sheet : Bool) (t : List ℕ) (n room : ℕ) → n ≤ room → true ≡ (holding sheet t n ≤? room)
-room_for_each sheet t n room h =
-    let a = rows_at_most (tables sheet [] t) n in
-    let b = rows_counted (tables sheet [] t) n in
-    sym (le-leb (holding sheet t n) room (omega arith))
+pub room_for_each : (t : Tables) (n room : ℕ) → n ≡ seat_count t → n ≤ room → leb n room ≡ (length (holders t) ≤? room)
+unfolding holders
+room_for_each t n room e h = let few = rows_at_most t (seat_count t) in le-leb n room h ∙ sym (le-leb (length (rows_below (seat_count t) t)) room (omega arith))
 
-pub room_counted : (sheet : Bool) (t : List ℕ) (n room k : ℕ) → k ≡ holding sheet t n → leb k room ≡ (holding sheet t n ≤? room)
-room_counted sheet t n room k e = rw e
+-- ---- a row behind what is written
+put_row_behind : (x l : List ℕ) (k : ℕ) (row : Row) → length x ≡ k → put_row (x ++ drop k l) k row ≡ (x ++ numbers_of (row ∷ [])) ++ drop (k + row_width) l
+unfolding put_row
+put_row_behind x l k row p = rw (take_at x (drop k l) k p, drop-append-drop k l x (k + row_width) (omega arith) p)
+
+-- ---- from seat to seat
+pub record Filling (t : Tables) (lent out : List ℕ) (rows s : ℕ) : Type 0 where
+  pub counted : rows ≡ length (rows_below s t)
+  pub few : rows ≤ s
+  pub numbers : out ≡ numbers_of (rows_below s t) ++ drop (row_width * length (rows_below s t)) lent
+
+pub filling_none : (t : Tables) (lent : List ℕ) → Filling t lent lent 0 0
+unfolding rows_below numbers_of
+filling_none t lent = record { counted = refl; few = omega arith; numbers = refl }
+
+module _ (t : Tables) (lent out : List ℕ) (rows s : ℕ) (f : Filling t lent out rows s) where
+  module _ (b : Bool) (is_held : b ≡ (phase t s is 5)) where
+    one_more : b ≡ true → length (rows_below (s + 1) t) ≡ rows + 1
+    one_more e =
+        let k = ap length (rows_more t s b is_held e) ∙ length-append (rows_below s t) (row_of t s ∷ []) in
+        let c = f.counted in
+        omega arith
+
+    -- what has room for all rows has room for one more
+    pub row_fits : b ≡ true → (n : ℕ) → n ≡ seat_count t → s < n → row_width * length (holders t) ≤ length lent → length out ≡ length lent
+        → row_width * rows + row_width ≤ length out
+    unfolding holders
+    row_fits e n is_count h room same =
+        let k = one_more e in
+        let u = rows_upto t (s + 1) (seat_count t) (omega arith) in
+        omega arith
+
+    pub filling_more : b ≡ true → (row : Row) → row ≡ row_of t s → (out' : List ℕ) → out' ≡ put_row out (row_width * rows) row
+        → Filling t lent out' (rows + 1) (s + 1)
+    filling_more e row is_row out' put =
+        let more = rows_more t s b is_held e in
+        let z : row_width * length (rows_below s t) + row_width ≡ row_width * length (rows_below (s + 1) t) =
+        let k = one_more e in let c = f.counted in omega arith in
+        record {
+          counted = sym (one_more e);
+          few = let k = f.few in omega arith;
+          numbers =
+              let w = put_row_behind (numbers_of (rows_below s t)) lent (row_width * length (rows_below s t)) (row_of t s) (numbers_length (rows_below s t)) in
+              rw (put, f.numbers, f.counted, is_row, w, z, more, numbers_append (rows_below s t) (row_of t s ∷ []));
+        }
+
+    pub filling_same : b ≡ false → Filling t lent out rows (s + 1)
+    filling_same e = record {
+      counted = rw (rows_same t s b is_held e) f.counted;
+      few = let k = f.few in omega arith;
+      numbers = rw (rows_same t s b is_held e) f.numbers;
+    }
+
+  module _ (n : ℕ) (is_count : n ≡ seat_count t) (h : s ≤ n) (i : n ≤ s) where
+    pub filling_counted : rows ≡ length (holders t)
+    filling_counted = rw (← rows_all t s n is_count h i) f.counted
+
+    pub filling_all : out ≡ numbers_of (holders t) ++ drop (row_width * length (holders t)) lent
+    filling_all = rw (← rows_all t s n is_count h i) f.numbers
 
 -- ---- the call
-module _ (sheet : Bool) (n t l : List ℕ) (c : ℕ) (b : Bool) (is_room : b ≡ (holding sheet t c ≤? (length l / row_width))) where
-  pub long_enough : b ≡ true → row_width * length (rows_below c (tables sheet n t)) ≤ length l
-  long_enough e = let k = rows_counted (tables sheet n t) c in let h = leb-true (holding sheet t c) (length l / row_width) (sym is_room ∙ e) in omega arith
+module _ (t : Tables) (l : List ℕ) where
+  pub shown_damaged : sound t ≡ false → shown (Boarded.refused 1) l ≡ board_numbers t l
+  unfolding board_numbers
+  shown_damaged e = rw e
 
-  module _ (is_count : c ≡ seat_count_of sheet t) where
-    holders_counted : length (holders (tables sheet n t)) ≡ holding sheet t c
-    unfolding holders
-    holders_counted = rows_counted (tables sheet n t) (seat_count_of sheet t) ∙ rw is_count
+  module _ (is_sound_here : sound t ≡ true) (b : Bool) (is_room : b ≡ (length (holders t) ≤? (length l / row_width))) where
+    pub too_short : b ≡ false → shown (Boarded.refused 9) l ≡ board_numbers t l
+    unfolding board_numbers
+    too_short e = rw (is_sound_here, lt-ltb (length l / row_width) (length (holders t)) (leb-false (length (holders t)) (length l / row_width) (sym is_room ∙ e)))
 
-    pub too_short : b ≡ false → shown (Boarded.refused 9) l ≡ show_holders (tables sheet n t) l
-    unfolding show_holders
-    too_short e = rw (holders_counted, lt-ltb (length l / row_width) (holding sheet t c) (leb-false (holding sheet t c) (length l / row_width) (sym is_room ∙ e)))
-
-    pub holders_shown : (l' : List ℕ) (a v : ℕ) → filled a l' ≡ fill_below c (tables sheet n t) l → v ≡ covered_by (holders (tables sheet n t)) → b ≡ true → shown (Boarded.filled a v) l' ≡ show_holders (tables sheet n t) l
-    unfolding show_holders fill_below holders
-    holders_shown l' a v f is_sum e =
-        let all : fill_below c (tables sheet n t) l ≡ fill_below (seat_count_of sheet t) (tables sheet n t) l = rw is_count in
-        let g = f ∙ all in
-        rw (
-          le-ltb (length l / row_width) (length (rows_below (seat_count_of sheet t) (tables sheet n t))) (rw holders_counted (leb-true (holding sheet t c) (length l / row_width) (sym is_room ∙ e))),
-          ap (λ (x : Filled). x.rows) g,
-          is_sum,
-          ap (λ (x : Filled). x.board) g,
-        )
-
--- the number of rows fits a u32
-pub rows_fit : (sheet : Bool) (n t l l' : List ℕ) (c a : ℕ) → filled a l' ≡ fill_below c (tables sheet n t) l → c ≡ seat_count_of sheet t → sound (tables sheet n t) ≡ true → a < 4294967296
-rows_fit sheet n t l l' c a f e h =
-    let k = fill_small (tables sheet n t) l l' c c a f in
-    let m = seats_few sheet n t c e h in
-    omega arith
-
-pub shown_sound : (sheet : Bool) (n t l l' : List ℕ) (b : Bool) (r : Boarded) → shown r l' ≡ show_holders (tables sheet n t) l → b ≡ sound (tables sheet n t) → b ≡ true → shown r l' ≡ board_numbers (tables sheet n t) l
-unfolding board_numbers show_holders
-shown_sound sheet n t l l' b r w p e = rw (sym p ∙ e) w
-
-pub shown_damaged : (sheet : Bool) (n t l : List ℕ) (b : Bool) → b ≡ sound (tables sheet n t) → b ≡ false → shown (Boarded.refused 1) l ≡ board_numbers (tables sheet n t) l
-unfolding board_numbers
-shown_damaged sheet n t l b p e = rw (sym p ∙ e)
+    pub holders_shown : b ≡ true → (rows : ℕ) → rows ≡ length (holders t) → (l' : List ℕ) → l' ≡ numbers_of (holders t) ++ drop (row_width * length (holders t)) l
+        → (covered : ℕ) → covered ≡ covered_by (holders t) → shown (Boarded.filled rows covered) l' ≡ board_numbers t l
+    unfolding board_numbers
+    holders_shown e rows is_rows l' is_board covered is_sum =
+        rw (is_sound_here, is_rows, is_board, is_sum, le-ltb (length l / row_width) (length (holders t)) (leb-true (length (holders t)) (length l / row_width) (sym is_room ∙ e)))

@@ -74,6 +74,11 @@ rows_counted t (suc n) = go (phase t n is 5) (rows_counted t n)
     go true h = length-append (rows_below n t) (row_of t n ∷ []) ∙ rw h
     go false h = h ∙ omega arith
 
+-- all seats that hold are the holders
+pub holders_counted : (t : Tables) (k : ℕ) → k ≡ holding t.sheet t.seats (seat_count t) → k ≡ length (holders t)
+unfolding holders
+holders_counted t k e = e ∙ sym (rows_counted t (seat_count t))
+
 -- ---- `count`, seat by seat
 module _ (t : Tables) (s found : ℕ) (sofar : found ≡ holding t.sheet t.seats s) (b : Bool) (is_held : b ≡ (phase t s is 5)) where
   pub holding_more : b ≡ true → found + 1 ≡ holding t.sheet t.seats (s + 1)
