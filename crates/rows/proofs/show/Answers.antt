@@ -1,15 +1,16 @@
--- `rows::show` meets its promise: each turn of its loop writes the row of the last holder that is left.
-use Rattle.rows.proofs.Filling.{left_all, turn_holds, turn_less, left_over_none}
+-- `rows::show` meets its promise.
+use borrow.Author.Rules.{rules}
+use Rattle.rows.proofs.Filling.{shown_damaged, long_enough, too_short, holders_shown}
 use Rattle.rows.proofs.show.Goals as goal
 
-pub loop-left-init : goal.loop-left-init
-loop-left-init g c = rw c.rows_in-left.ensures (left_all _ _ _ c.answer-reply.ensures)
-
-pub last_row-row-requires-clause-holds : goal.last_row-row-requires-clause-holds
-last_row-row-requires-clause-holds g c = turn_holds _ _ _ _ _ _ c.loop-left.invariant c.loop-left-test.true
-
-pub loop-left-preserved : goal.loop-left-preserved
-loop-left-preserved g c = turn_less _ _ _ _ _ _ c.loop-left.invariant c.loop-left-test.true _ c.last_row-row.ensures
+pub returns-then-not-is_sound : goal.returns-then-not-is_sound
+returns-then-not-is_sound g c = search (shown_damaged, rules)
 
 pub returns : goal.returns
-returns g c = left_over_none _ _ _ c.answer-reply.ensures _ _ _ c.loop-left.invariant c.loop-left-test.false
+returns g c = search (holders_shown, rules)
+
+pub returns-then-rows-count : goal.returns-then-rows-count
+returns-then-rows-count g c = search (too_short, rules)
+
+pub fill-requires : goal.fill-requires
+fill-requires g c = search (long_enough, rules)
