@@ -12,7 +12,7 @@ use Rattle.rules.specs.declared.Line.{Line}
 use Rattle.rules.specs.declared.Contents.{Contents}
 use Rattle.rules.specs.Script.{Script}
 use Rattle.rules.proofs.Ground.Logic.{branch}
-use Rattle.script.proofs.Bounds.{read_bounded}
+use Rattle.script.proofs.Bounds.{read_rows}
 use Rattle.boundary.specs.Encoded.{halves, halves_of, put_line, put_top_line, row_at, lines_after, script_numbers, ReadAs, read_as, encode_script}
 use Rattle.boundary.specs.Decoded.{line_at, lines_in, script_in, decode_script}
 use Rattle.boundary.proofs.Codes.{lines_length, top_length, script_length}
@@ -127,13 +127,13 @@ numbers_back script lent r w n m =
     (top_kept 1000 l script.rows 3 (omega arith) ∙ top.3)
     (rows_back 1000 l script.rows (omega arith) (omega arith) ∙ take_all 1000 script.rows (omega arith))
 
-script_back : {script : Script} (lent numbers : List ℕ) (r : ℕ) → AsRead script → length script.rows ≡ 1000 → read_as (halves_of r) numbers ≡ encode_script script lent → length numbers ≡ 5004 → decode_script (halves_of r) numbers ≡ script
+script_back : {script : Script} (lent numbers : List ℕ) (r : ℕ) → AsRead script → (script.refusal ≡ 0 → length script.rows ≡ 1000) → read_as (halves_of r) numbers ≡ encode_script script lent → length numbers ≡ 5004 → decode_script (halves_of r) numbers ≡ script
 unfolding decode_script encode_script script_numbers bad_at
 script_back {script} lent numbers r (good e w) n p m =
     let q : read_as (halves_of r) numbers ≡ read_as (halves 0 0) (script_numbers script lent) = rw e at p in
     let k : length numbers ≡ length lent = script_length lent numbers script.rows _ _ _ _ (ap (λ (x : ReadAs). x.numbers) q) in
-    ap (λ (x : ReadAs). decode_script x.number x.numbers) q ∙ numbers_back script lent e w n (omega arith)
+    ap (λ (x : ReadAs). decode_script x.number x.numbers) q ∙ numbers_back script lent e w (n e) (omega arith)
 script_back lent numbers r (bad wrong) n p m = ap (λ (x : ReadAs). decode_script x.number x.numbers) p
 
 pub read_told : Tells kinds.ps kinds.r read.Post (λ κs args. read_script args.0.now) (λ κs r s. decode_script (halves_of r) s.1.0.now)
-read_told κs args r s p = script_back _ _ r (as_read args.0.now) (read_bounded args.0.now).rows p.0 p.1
+read_told κs args r s p = script_back _ _ r (as_read args.0.now) (read_rows args.0.now) p.0 p.1

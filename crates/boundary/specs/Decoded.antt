@@ -1,6 +1,6 @@
 -- What a caller reads in the number that a call returns: from its upper half what kind of answer, from its lower the answer's number. No
 -- promise cites these; that they read back what was encoded is proved in proofs/Told.antt.
-use Rattle.std.specs.Prelude.{ℕ, zero, suc, ◌+◌, List, [], ◌∷◌, ◌++◌, get_or, if◌then◌else◌}
+use Rattle.std.specs.Prelude.{ℕ, zero, suc, ◌+◌, List, [], ◌∷◌, ◌++◌, get_or, Some, if◌then◌else◌}
 use Rattle.rules.specs.Notation.{◌is◌}
 use Rattle.rules.specs.Answers.{Answer}
 use Rattle.rules.specs.FreeCount.{Counted}
@@ -19,7 +19,7 @@ decode h = answer_by (said_plainly h.upper h.lower)
 
 -- step, with the two words for the shared run
 abbrev pub decode_step : Halves → List ℕ → Answer
-decode_step h shared = answer_by (said h.upper h.lower (get_or shared 0 0) (get_or shared 1 0))
+decode_step h shared = answer_by (said h.upper h.lower (Some (record { first = get_or shared 0 0; end = get_or shared 1 0 })))
 
 abbrev pub decode_count : Halves → Counted
 decode_count h =

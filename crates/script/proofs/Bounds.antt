@@ -80,6 +80,9 @@ read_within src =
     (λ f. branch Within ((contents_of src).next is nowhere src) (λ f. bad_within 1)
     (λ f. bodies_within src (contents_of src) _ _ _ _ (contents_bounded src (eqb-false (contents_of src).next (nowhere src) f)) (length-replicate 1000 no_line)))
 
+pub read_rows : (src : List ℕ) → (read_script src).refusal ≡ 0 → length (read_script src).rows ≡ 1000
+read_rows src e = (read_within src e).1
+
 pub read_bounded : (src : List ℕ) (script : Script) → means_script (Ok script) ≡ read_script src → Bounded script
 read_bounded src script e =
     let w = subst Within (sym e) (read_within src) refl in

@@ -1,9 +1,12 @@
 -- `boundary::tell_board` meets its promise.
-use Rattle.boundary.proofs.Codes.{told_rows, told_refused}
+use Rattle.std.proofs.Common.{rules}
+use Rattle.boundary.specs.Encoded.{tell_answer}
 use Rattle.boundary.proofs.tell_board.Goals as goal
 
-pub returns-in-Rows : goal.returns-in-Rows
-returns-in-Rows c = search told_rows
+pub returns-in-Ok : goal.returns-in-Ok
+unfolding tell_answer
+returns-in-Ok c = search rules
 
-pub returns-in-Refused : goal.returns-in-Refused
-returns-in-Refused c = search told_refused
+pub returns-in-Err : goal.returns-in-Err
+unfolding tell_answer
+returns-in-Err c = search rules
