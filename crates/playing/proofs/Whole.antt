@@ -2,26 +2,30 @@
 use Prim.Native.Nat.{ℕ, zero, suc, ◌+◌, ◌*◌, ◌≤◌, ◌<◌}
 use native.Mathlib.Omega.{arith}
 use mathlib.Core.Bool.{true, false}
-use mathlib.Core.List.{List, ◌∷◌, ◌++◌}
+use mathlib.Core.List.{List, ◌∷◌, ◌++◌, map}
 use mathlib.Core.Path.{◌≡◌, refl, sym, ap, ◌∙◌}
-use lib.ListN.{length, take, drop, replicate, length-replicate}
+use Rattle.std.specs.Prelude.{Ok, Err}
+use lib.ListN.{length, take, drop, replicate, length-replicate, length-drop}
 use lib.Seq.{length-take-le, take-set-lt}
-use borrow.Author.Tests.{eq-eqb, ne_eqb}
-use Rattle.rules.specs.Tables.{Tables, tables, title_at, before_nodes, node_width, seat_width, put_top, zeros, fresh, node_count_of, seat_count_of}
+use Rattle.rules.specs.Tables.{Tables, tables, title_at, before_nodes, node_width, seat_width, put_top, zeros, fresh, node_count, seat_count}
 use Rattle.rules.specs.Shape.{sound}
 use Rattle.rules.specs.Reached.{Reached, cleared}
+use Rattle.rules.specs.Means.{means_script}
 use Rattle.rules.proofs.Laws.Words.{put_top_length}
 use Rattle.rules.proofs.Laws.Shape.{is_sound}
 use Rattle.rules.proofs.Laws.RunSteps.{calls_reached}
 use Rattle.rules.proofs.Apart.{always_sound}
-use Rattle.rules.specs.Script.{read_script}
-use Rattle.rules.specs.Play.{calls_of, trace, after_all, turns_text, end_text, ascii, decimal, start_of, script_text, play}
-use Rattle.rules.specs.Script.{Script}
+use Rattle.rules.specs.Script.{read_script, bad_at}
+use Rattle.rules.specs.Play.{call_of, calls_of, trace, after_all, turns_text, end_text, ascii, decimal, start_of, script_text, play}
+use Rattle.rules.specs.declared.Line.{Line}
+use Rattle.rules.specs.declared.Script.{Script}
+use Rattle.rules.specs.declared.Wrong.{Wrong}
 use Rattle.script.specs.Bounded.{Bounded}
 use Rattle.script.proofs.Bounds.{read_bounded}
-use Rattle.text.specs.Page.{Page, page, puts}
-use Rattle.text.proofs.Pages.{joined, written}
-use Rattle.playing.specs.Played.{Played, played, play_from, played_text}
+use Rattle.text.specs.Page.{Page as Printed, page, page_of, puts, Prints}
+use Rattle.text.specs.declared.Page.{Page}
+use Rattle.text.proofs.Pages.{then, written}
+use Rattle.playing.specs.Played.{Played, read, played, play_from, played_text}
 
 -- ---- the part of a fresh table that is lent
 take_same : (m n : ℕ) → n ≤ m → take {A = ℕ} n (replicate m 0) ≡ replicate n 0
@@ -58,55 +62,52 @@ module _ (script : Script) (w v : ℕ) (nodes seats : List ℕ) (bounded : Bound
   pub seats_lent : v ≡ length (take v seats)
   seats_lent = rw these_seats (sym (length-replicate v 0))
 
-  lent_fresh : tables false (take w nodes) (take v seats) ≡ start_of script
+  lent_fresh : tables false (take w nodes) (take v seats) ≡ start_of (read script)
   unfolding start_of fresh
   lent_fresh = rw (these_nodes, these_seats, is_nodes, is_seats)
 
-  pub lent_reached : script.refusal ≡ 0 → Reached script.n script.s (tables false (take w nodes) (take v seats))
+  pub lent_reached : Reached script.n script.s (tables false (take w nodes) (take v seats))
   unfolding start_of
-  lent_reached e = rw lent_fresh (cleared (bounded.some_nodes e) bounded.nodes (bounded.some_seats e) bounded.seats false (bounded.some_frames e))
+  lent_reached = rw lent_fresh (cleared bounded.some_nodes bounded.nodes bounded.some_seats bounded.seats false bounded.some_frames)
 
-  pub script_played : (p q : Page) → q ≡ puts p (played_text (tables false (take w nodes) (take v seats)) (calls_of script)) → q ≡ puts p (script_text script)
+  pub script_played : (p q : Page) → Prints p q (played_text (tables false (take w nodes) (take v seats)) (calls_of (read script))) → Prints p q (script_text (read script))
   unfolding played_text script_text
   script_played p q e = rw lent_fresh at e
 
 -- ---- the calls, then the end
-module _ (t : Tables) (script : Script) (n s : List ℕ) (p q : Page) (is_played : played (tables false n s) q ≡ play_from 1 (calls_of script) t p) where
-  pub tables_played : (r : Page) → r ≡ puts q (end_text (tables false n s)) → r ≡ puts p (played_text t (calls_of script))
-  unfolding play_from played_text
-  tables_played r e =
-      let a : tables false n s ≡ after_all t (calls_of script) = ap (λ (x : Played). x.after) is_played in
-      let b : q ≡ puts p (turns_text 1 (trace t (calls_of script))) = ap (λ (x : Played). x.printed) is_played in
-      joined p q r _ _ b (rw (← a) e)
+pub played_sound : (t u : Tables) (lines : List Line) (p q : Printed) {n s : ℕ} → played u q ≡ play_from 1 (map call_of lines) t p → Reached n s t → sound u ≡ true
+unfolding play_from
+played_sound t u lines p q is_played r = rw (ap (λ (x : Played). x.after) is_played) (always_sound (calls_reached r (map call_of lines)))
 
-  pub played_sound : Reached script.n script.s t → sound (tables false n s) ≡ true
-  unfolding play_from
-  played_sound r = rw (ap (λ (x : Played). x.after) is_played) (always_sound (calls_reached r (calls_of script)))
+pub tables_played : (t u : Tables) (script : Script) (p q r : Page) → played u (page_of q) ≡ play_from 1 (map call_of (take script.k script.rows)) t (page_of p) → q.out.ghost_name ≡ p.out.ghost_name → Prints q r (end_text u) → Prints p r (played_text t (calls_of (read script)))
+unfolding play_from played_text calls_of
+tables_played t u script p q r is_played same e =
+    let a : u ≡ after_all t (map call_of (take script.k script.rows)) = ap (λ (x : Played). x.after) is_played in
+    let b : page_of q ≡ puts (page_of p) (turns_text 1 (trace t (map call_of (take script.k script.rows)))) = ap (λ (x : Played). x.printed) is_played in
+    then (record { same_buffer = same; is_printed = b }) (rw a at e)
 
-  -- what is printed of 1,000 calls on the longest tables
-  pub played_short : (at end : ℕ) → end ≤ at + 11 * node_count_of false n + 49 * seat_count_of false s + 34 → at ≤ 0 + 43 * script.k → Reached script.n script.s t → Bounded script → end ≤ 48986
-  played_short at end e a r b =
-      let w = is_sound (tables false n s) (played_sound r) in
-      let k = b.calls in
-      let x = w.few_nodes in
-      let y = w.few_seats in
-      omega arith
+-- what is printed of 1,000 calls on the longest tables
+pub played_short : (u : Tables) → sound u ≡ true → (at next end calls : ℕ) → end ≤ next + 11 * node_count u + 49 * seat_count u + 34 → next ≤ at + 43 * calls → calls ≤ 1000 → end ≤ at + 48986
+played_short u s at next end calls e a k =
+    let w = is_sound u s in
+    let x = w.few_nodes in
+    let y = w.few_seats in
+    omega arith
 
 -- ---- the bytes
-module _ (src : List ℕ) (script : Script) (is_script : script ≡ read_script src) where
-  pub script_bounded : Bounded script
-  script_bounded = rw is_script (read_bounded src)
+module _ (src : List ℕ) where
+  pub play_bad : (wrong : Wrong) → means_script (Err wrong) ≡ read_script src → play src ≡ ascii "bad " ++ decimal wrong.line ++ ascii "\n"
+  unfolding play bad_at
+  play_bad wrong e = rw (← e)
 
-  pub play_bad : (script.refusal ≡ 0 → ⊥) → play src ≡ ascii "bad " ++ decimal script.wrong ++ ascii "\n"
+  pub play_good : (script : Script) → means_script (Ok script) ≡ read_script src → play src ≡ script_text (read script)
   unfolding play
-  play_bad h = rw (← is_script, ne_eqb script.refusal 0 h)
-
-  pub play_good : script.refusal ≡ 0 → play src ≡ script_text script
-  unfolding play
-  play_good h = rw (← is_script, eq-eqb script.refusal 0 h)
+  play_good script e = rw (← e)
 
 -- a text that ends before the buffer does stands whole in it, and what stood behind it stays
-pub whole : (src text l l' : List ℕ) (r : ℕ) → page l' r ≡ puts (page l 0) text → play src ≡ text → r ≤ 48986 → length l ≡ 49152 → length l' ≡ length l → (take r l' ≡ play src) × ((drop r l' ≡ drop r l) × (((r ≤ length l') × (r ≡ length (take r l'))) × (r ≤ 48986)))
-whole src text l l' r e f h m k =
-    let w = written l l' text r e (omega arith) in
-    (w.0 ∙ sym f, (w.1, ((omega arith, sym (length-take-le r l' (omega arith))), h)))
+pub whole : (src l l' : List ℕ) (r : ℕ) → page l' r ≡ puts (page l 0) (play src) → r ≤ 48986 → length l ≡ 49152 → (take r l' ≡ play src) × ((drop r l' ≡ drop r l) × ((r ≤ length l') × (r ≡ length (take r l'))))
+whole src l l' r e h m =
+    let w = written l l' (play src) r e (omega arith) in
+    let rest = ap length w.1 in
+    let k : length l' ≡ length l = omega (arith, length-drop r l', length-drop r l) in
+    (w.0, (w.1, (omega arith, sym (length-take-le r l' (omega arith)))))

@@ -1,9 +1,16 @@
 -- What the functions of this crate hand on while a script is played. Nothing here need be believed: the promise of `play` is that of the
 -- rules alone.
-use Rattle.std.specs.Prelude.{ℕ, List, ◌++◌}
+use Rattle.std.specs.Prelude.{ℕ, List, ◌++◌, Ok}
 use Rattle.rules.specs.Tables.{Tables}
+use Rattle.rules.specs.Means.{means_script}
+use Rattle.rules.specs.Script as rule
 use Rattle.rules.specs.Play.{Call, after_all, trace, turns_text, end_text}
+use Rattle.rules.specs.declared.Script.{Script}
 use Rattle.text.specs.Page.{Page, puts}
+
+-- a script that is well formed, in the rules' words
+abbrev pub read : Script → rule.Script
+read script = means_script (Ok script)
 
 -- the tables after some calls, and the page with their lines
 pub record Played : Type 0 where

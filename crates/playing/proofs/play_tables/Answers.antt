@@ -1,9 +1,16 @@
 -- `playing::play_tables` meets its contract.
+use Rattle.std.proofs.Common.{rules, ◌≤◌, ◌+◌, ◌*◌}
 use Rattle.playing.proofs.Whole.{tables_played, played_sound, played_short}
 use Rattle.playing.proofs.play_tables.Goals as goal
 
-pub put_end-requires : goal.put_end-requires
-put_end-requires c = search played_sound
+pub tables-requires : goal.tables-requires
+tables-requires c = played_sound _ _ _ _ _ c.play_calls.ensures.is_printed c.requires.reached
 
-pub returns : goal.returns
-returns c = record { is_printed = search tables_played; at_most = search played_short }
+pub returns-clause-is_printed : goal.returns-clause-is_printed
+returns-clause-is_printed c =
+    tables_played _ _ c.args.script.now c.args.page.now c.play_calls.new.page _ c.play_calls.ensures.is_printed c.play_calls.ensures.same_buffer (rw c.tables.ensures at c.put_end.ensures.is_printed)
+
+pub returns-clause-at_most : goal.returns-clause-at_most
+returns-clause-at_most c =
+    let s = played_sound _ _ _ _ _ c.play_calls.ensures.is_printed c.requires.reached in
+    played_short _ s _ _ _ _ (rw c.tables.ensures at c.put_end.ensures.at_most) c.play_calls.ensures.at_most (search rules)

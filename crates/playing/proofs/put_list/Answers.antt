@@ -1,14 +1,16 @@
 -- `playing::put_list` meets its contract: its parts, one after another.
-use native.Mathlib.Omega.{arith}
-use Rattle.text.proofs.Pages.{reached}
+use Rattle.std.proofs.Common.{arith}
+use Rattle.text.proofs.Pages.{reaches}
 use Rattle.playing.proofs.Listing.{list_is}
 use Rattle.playing.proofs.put_list.Goals as goal
 
-pub returns : goal.returns
-returns c =
-    let h = reached _ _ _ _ _ c.put_text-name.ensures in
-    let i = reached _ _ _ _ _ c.put_byte.ensures in
-    record {
-      is_printed = list_is _ _ _ _ _ _ _ c.put_byte.ensures c.put_listed-end.ensures.is_printed c.put_text-name.ensures c.node_count-n.ensures c.link-head.ensures;
-      at_most = omega (arith, h, i, c.put_listed-end.ensures.at_most, c.node_count-n.ensures);
-    }
+pub returns-clause-is_printed : goal.returns-clause-is_printed
+returns-clause-is_printed c = list_is _ _ _ _ _ _ _ c.put_text.ensures c.put_listed.ensures.is_printed c.put_byte.ensures c.node_count.ensures c.link.ensures
+
+pub returns-clause-at_most : goal.returns-clause-at_most
+returns-clause-at_most c =
+    let a = reaches _ _ _ c.put_text.ensures in
+    let b = reaches _ _ _ c.put_byte.ensures in
+    let d = c.put_listed.ensures.at_most in
+    let e = c.node_count.ensures in
+    omega arith

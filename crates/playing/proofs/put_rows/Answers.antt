@@ -1,20 +1,16 @@
--- `playing::put_rows` meets its contract. The loop's invariant: the page has the rows of the seats passed, none longer than 49 bytes. The
--- measure is the number of seats left.
-use native.Mathlib.Omega.{arith}
-use Rattle.playing.proofs.Holding.{text_start, text_again, rows_reach, text_done}
-use Rattle.rules.proofs.Laws.Shape.{seats_few}
-use mathlib.Core.Path.{refl}
-use Prim.Native.Nat.{◌≤◌}
+-- `playing::put_rows` meets its contract.
+use Rattle.std.proofs.Common.{arith}
+use Rattle.playing.proofs.Holding.{text_start, text_again, text_done}
 use Rattle.playing.proofs.put_rows.Goals as goal
 
-pub overflow_cast-count : goal.overflow_cast-count
-overflow_cast-count c = let few : c.seat_count-count.result ≤ 64 = search seats_few in omega arith
-
 pub loop-s-init : goal.loop-s-init
-loop-s-init c = (search seats_few, refl, omega arith, omega arith, text_start _ _)
+loop-s-init c = record { passed = text_start _ _; short = omega arith }
 
 pub loop-s-preserved : goal.loop-s-preserved
-loop-s-preserved c = (omega arith, omega arith, omega arith, search rows_reach, search text_again)
+loop-s-preserved c = record {
+  passed = text_again _ _ _ _ _ c.loop-s.invariant.passed c.put_held.ensures.is_printed;
+  short = omega arith;
+}
 
-pub returns : goal.returns
-returns c = record { is_printed = search text_done; at_most = omega arith }
+pub returns-clause-is_printed : goal.returns-clause-is_printed
+returns-clause-is_printed c = search text_done
