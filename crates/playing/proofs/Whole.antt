@@ -21,7 +21,6 @@ use Rattle.rules.specs.declared.Line.{Line}
 use Rattle.rules.specs.declared.Script.{Script}
 use Rattle.rules.specs.declared.Wrong.{Wrong}
 use Rattle.script.specs.Bounded.{Bounded}
-use Rattle.script.proofs.Bounds.{read_bounded}
 use Rattle.text.specs.Page.{Page as Printed, page, page_of, puts, Prints}
 use Rattle.text.specs.declared.Page.{Page}
 use Rattle.text.proofs.Pages.{then, written}

@@ -13,14 +13,14 @@ play_script-requires c = read_bounded _ _ c.in-Ok.ensures
 pub returns : goal.returns
 returns c =
     let e : page_of c.match-read.page ≡ puts (page c.args.out.now 0) (rule.play c.args.src.now)
-        = elim c.match-read.branch [
-          | in-Ok w ↦ rw (w.page-is, play_good _ _ w.in-Ok.ensures) w.play_script.ensures.is_printed.is_printed
-          | in-Err w ↦ rw (w.page-is, play_bad _ _ w.in-Err.ensures, ← w.from.ensures) w.put_line.ensures.is_printed.is_printed
-        ] in
+    = elim c.match-read.branch [
+      | in-Ok w ↦ rw (w.page-is, play_good _ _ w.in-Ok.ensures) w.play_script.ensures.is_printed.is_printed
+      | in-Err w ↦ rw (w.page-is, play_bad _ _ w.in-Err.ensures, ← w.from.ensures) w.put_line.ensures.is_printed.is_printed
+    ] in
     let h : c.match-read.page.at ≤ 48986
-        = elim c.match-read.branch [
-          | in-Ok w ↦ rw w.page-is w.play_script.ensures.at_most
-          | in-Err w ↦ rw w.page-is (omega (arith, w.put_line.ensures.at_most))
-        ] in
+    = elim c.match-read.branch [
+      | in-Ok w ↦ rw w.page-is w.play_script.ensures.at_most
+      | in-Err w ↦ rw w.page-is (omega (arith, w.put_line.ensures.at_most))
+    ] in
     let w = whole _ _ _ _ e h c.told-out in
     record { is_printed = w.0; rest_is_kept = w.1.0; is_within = w.1.1; at_most = h }

@@ -12,6 +12,6 @@ invariant-loop-i l = record {
   same_buffer : l.page.out.ghost_name ≡ l.initial.page.out.ghost_name;
   short : l.page.at ≤ l.initial.page.at + 43 * l.i;
   rest :
-    play_from (l.i + 1) (map call_of (drop l.i l.lines)) (tables false l.nodes l.seats) (page_of l.page)
-    ≡ play_from 1 (map call_of l.lines) (tables false l.initial.nodes l.initial.seats) (page_of l.initial.page);
+      play_from (l.i + 1) (map call_of (drop l.i l.lines)) (tables false l.nodes l.seats) (page_of l.page)
+      ≡ play_from 1 (map call_of l.lines) (tables false l.initial.nodes l.initial.seats) (page_of l.initial.page);
 }

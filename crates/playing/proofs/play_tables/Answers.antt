@@ -1,5 +1,5 @@
 -- `playing::play_tables` meets its contract.
-use Rattle.std.proofs.Common.{rules, ◌≤◌, ◌+◌, ◌*◌}
+use Rattle.std.proofs.Common.{rules}
 use Rattle.playing.proofs.Whole.{tables_played, played_sound, played_short}
 use Rattle.playing.proofs.play_tables.Goals as goal
 

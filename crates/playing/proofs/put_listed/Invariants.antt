@@ -10,6 +10,6 @@ invariant-loop l = record {
   same_buffer : l.page.out.ghost_name ≡ l.initial.page.out.ghost_name;
   short : l.page.at ≤ l.initial.page.at + 11 * l.counter;
   rest :
-    puts (page_of l.page) (numbers_text (nodes_from (l.left - l.counter) l.tables l.a))
-    ≡ puts (page_of l.initial.page) (numbers_text (nodes_from l.left l.tables l.from));
+      puts (page_of l.page) (numbers_text (nodes_from (l.left - l.counter) l.tables l.a))
+      ≡ puts (page_of l.initial.page) (numbers_text (nodes_from l.left l.tables l.from));
 }
