@@ -1,5 +1,5 @@
 -- The rows as they are written one by one: what is written so far, followed by what was lent, is the board so far.
-use Prim.Native.Nat.{ℕ, suc, ◌+◌, ◌≤◌, ◌<◌}
+use Prim.Native.Nat.{ℕ, ◌+◌, ◌≤◌, ◌<◌}
 use mathlib.Core.Path.{◌≡◌, refl, sym, ap, ◌∙◌}
 use mathlib.Core.Bool.{Bool, true, false}
 use mathlib.Core.List.{List, [], ◌∷◌, ◌++◌, append_assoc}
@@ -20,22 +20,21 @@ use Rattle.holders.proofs.Rows.{rows_more, rows_same, rows_upto, rows_all, holde
 row_behind : (x lent : List Row) (row : Row) → length x < length lent → set (x ++ drop (length x) lent) (length x) row ≡ (x ++ (row ∷ [])) ++ drop (length (x ++ (row ∷ []))) lent
 row_behind x lent row h = rw (drop-cons lent (length x) row h, set-append_seam, length-append, add-one, append_assoc)
 
--- ---- from seat to seat
-pub record Filling (t : Tables) (lent out : List Row) (at s : ℕ) : Type 0 where
-  pub counted : at ≡ length (rows_below s t)
-  pub few : at ≤ s
-  pub rows : out ≡ rows_below s t ++ drop (length (rows_below s t)) lent
+-- ---- from seat to seat: the rows of the first s seats stand first, and behind them what was lent
+unfoldable pub Filling : Tables → List Row → List Row → ℕ → ℕ → Type 0
+Filling t lent out at s = (at ≡ length (rows_below s t)) × (out ≡ rows_below s t ++ drop (length (rows_below s t)) lent)
 
 pub filling_none : (t : Tables) (lent : List Row) → Filling t lent lent 0 0
-unfolding rows_below
-filling_none t lent = record { counted = refl; few = omega arith; rows = refl }
+unfolding Filling rows_below
+filling_none t lent = (refl, refl)
 
 module _ (t : Tables) (lent out : List Row) (at s : ℕ) (f : Filling t lent out at s) where
   module _ (b : Bool) (is_held : b ≡ (phase t s is 5)) where
     one_more : b ≡ true → length (rows_below (s + 1) t) ≡ at + 1
+    unfolding Filling
     one_more e =
         let k = ap length (rows_more t s b is_held e) ∙ length-append (rows_below s t) (row_of t s ∷ []) in
-        let c = f.counted in
+        let c = f.0 in
         omega arith
 
     -- what has room for all rows has room for one more
@@ -47,24 +46,18 @@ module _ (t : Tables) (lent out : List Row) (at s : ℕ) (f : Filling t lent out
         omega arith
 
     pub filling_more : b ≡ true → (row : Row) → row ≡ row_of t s → at < length lent → Filling t lent (set out at row) (at + 1) (s + 1)
+    unfolding Filling
     filling_more e row is_row h =
-        let more = rows_more t s b is_held e in
-        let c = f.counted in
-        record {
-          counted = sym (one_more e);
-          few = let k = f.few in omega arith;
-          rows = rw (f.rows, c, is_row, more) (row_behind (rows_below s t) lent (row_of t s) (omega arith));
-        }
+        let c = f.0 in
+        (sym (one_more e), rw (f.1, c, is_row, rows_more t s b is_held e) (row_behind (rows_below s t) lent (row_of t s) (omega arith)))
 
     pub filling_same : b ≡ false → Filling t lent out at (s + 1)
-    filling_same e = record {
-      counted = rw (rows_same t s b is_held e) f.counted;
-      few = let k = f.few in omega arith;
-      rows = rw (rows_same t s b is_held e) f.rows;
-    }
+    unfolding Filling
+    filling_same e = rw (rows_same t s b is_held e) f
 
   pub filling_all : (n : ℕ) → n ≡ seat_count t → s ≤ n → n ≤ s → out ≡ holders t ++ drop (length (holders t)) lent
-  filling_all n is_count h i = rw (← rows_all t s n is_count h i) f.rows
+  unfolding Filling
+  filling_all n is_count h i = rw (← rows_all t s n is_count h i) f.1
 
 -- ---- the call
 module _ (t : Tables) (lent : List Row) where

@@ -25,11 +25,7 @@ fn fill<P: Profile>(tables: &Sound<P>, rows: &mut [Row])
     }
 }
 
-pub fn show<P: Profile>(
-    rows: &mut [Row],
-    nodes: &[u32],
-    seats: &[u32],
-) -> Result<Filled, Refused>
+pub fn show<P: Profile>(rows: &mut [Row], nodes: &[u32], seats: &[u32]) -> Result<Filled, Refused>
     ensures { shown (means_board result) rows.new ≡ board (tables P.SHEET nodes.now seats.now) rows.old }
 {
     if !shape::is_sound::<P>(nodes, seats) {
