@@ -1,11 +1,11 @@
 -- The rows as they are written one by one: what is written so far, followed by what was lent, is the board so far.
 use Prim.Native.Nat.{ℕ, ◌+◌, ◌*◌, ◌/◌, ◌≤◌, ◌<◌}
-use mathlib.Core.Path.{◌≡◌, refl, sym, ap, ◌∙◌}
+use mathlib.Core.Path.{◌≡◌, refl, sym, ◌∙◌}
 use mathlib.Core.Bool.{Bool, true, false}
 use mathlib.Core.List.{List, [], ◌∷◌, ◌++◌}
 use native.Mathlib.Omega.{arith}
 use lib.Dec.{leb}
-use lib.ListN.{length, drop, length-append}
+use lib.ListN.{length, drop}
 use borrow.Author.Tests.{lt-ltb, le-ltb, le-leb, leb-true, leb-false}
 use Rattle.std.proofs.lemmas.List.{take_at}
 use Rattle.std.proofs.lemmas.Slice.{drop-append-drop}
@@ -15,7 +15,7 @@ use Rattle.rules.specs.Shape.{sound}
 use Rattle.rules.specs.Board.{row_of, rows_below, holders, covered_by, numbers_of, row_width, Boarded, shown, board_numbers}
 use Rattle.rules.specs.declared.Row.{Row}
 use Rattle.rules.proofs.Laws.BoardNumbers.{numbers_append, numbers_length}
-use Rattle.holders.proofs.Rows.{rows_more, rows_same, rows_upto, rows_at_most, rows_all}
+use Rattle.holders.proofs.Rows.{rows_more, rows_same, one_row_more, row_of_holders, rows_at_most, rows_all}
 use Rattle.board.specs.Filling.{put_row}
 
 -- ---- room for every row
@@ -40,29 +40,19 @@ filling_none t lent = record { counted = refl; few = omega arith; numbers = refl
 
 module _ (t : Tables) (lent out : List ℕ) (rows s : ℕ) (f : Filling t lent out rows s) where
   module _ (b : Bool) (is_held : b ≡ (phase t s is 5)) where
-    one_more : b ≡ true → length (rows_below (s + 1) t) ≡ rows + 1
-    one_more e =
-        let k = ap length (rows_more t s b is_held e) ∙ length-append (rows_below s t) (row_of t s ∷ []) in
-        let c = f.counted in
-        omega arith
-
     -- what has room for all rows has room for one more
     pub row_fits : b ≡ true → (n : ℕ) → n ≡ seat_count t → s < n → row_width * length (holders t) ≤ length lent → length out ≡ length lent
         → row_width * rows + row_width ≤ length out
-    unfolding holders
-    row_fits e n is_count h room same =
-        let k = one_more e in
-        let u = rows_upto t (s + 1) (seat_count t) (omega arith) in
-        omega arith
+    row_fits e n is_count h room same = let k = row_of_holders t s b is_held e rows f.counted n is_count h in omega arith
 
     pub filling_more : b ≡ true → (row : Row) → row ≡ row_of t s → (out' : List ℕ) → out' ≡ put_row out (row_width * rows) row
         → Filling t lent out' (rows + 1) (s + 1)
     filling_more e row is_row out' put =
         let more = rows_more t s b is_held e in
         let z : row_width * length (rows_below s t) + row_width ≡ row_width * length (rows_below (s + 1) t) =
-        let k = one_more e in let c = f.counted in omega arith in
+        let k = one_row_more t s b is_held e rows f.counted in let c = f.counted in omega arith in
         record {
-          counted = sym (one_more e);
+          counted = sym (one_row_more t s b is_held e rows f.counted);
           few = let k = f.few in omega arith;
           numbers =
               let w = put_row_behind (numbers_of (rows_below s t)) lent (row_width * length (rows_below s t)) (row_of t s) (numbers_length (rows_below s t)) in

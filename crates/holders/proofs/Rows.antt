@@ -1,6 +1,6 @@
 -- The rows of the first seats, seat by seat: what one seat more adds to them and to their number.
 use Rattle.std.specs.Prelude.{if◌then◌else◌}
-use Prim.Native.Nat.{ℕ, zero, suc, ◌+◌, ◌-◌, ◌≤◌}
+use Prim.Native.Nat.{ℕ, zero, suc, ◌+◌, ◌-◌, ◌≤◌, ◌<◌}
 use native.Mathlib.Omega.{arith}
 use native.Mathlib.Numerals.{add-one}
 use mathlib.Core.Bool.{Bool, true, false}
@@ -31,19 +31,6 @@ pub rows_again : (t : Tables) (s : ℕ) → rows_below (s + 1) t ≡ rows_below 
 unfolding rows_below held_by
 rows_again t s = rw (add-one s) (rows_by t s (phase t s is 5))
 
-module _ (t : Tables) (s : ℕ) (b : Bool) (is_held : b ≡ (phase t s is 5)) where
-  pub rows_more : b ≡ true → rows_below (s + 1) t ≡ rows_below s t ++ (row_of t s ∷ [])
-  rows_more e = rows_again t s ∙ rw (held_one t s b is_held e)
-
-  pub rows_same : b ≡ false → rows_below (s + 1) t ≡ rows_below s t
-  rows_same e = rows_again t s ∙ rw (held_none t s b is_held e) (append-nil (rows_below s t))
-
--- after the last seat
-pub rows_all : (t : Tables) (s n : ℕ) → n ≡ seat_count t → s ≤ n → n ≤ s → rows_below s t ≡ holders t
-unfolding holders
-rows_all t s n e h i = let k : s ≡ seat_count t = omega arith in rw k
-
--- ---- their number
 pub rows_upto : (t : Tables) (s n : ℕ) → s ≤ n → length (rows_below s t) ≤ length (rows_below n t)
 rows_upto t s n h = let e : s + (n - s) ≡ n = omega arith in rw e at (rise (n - s))
   where
@@ -55,6 +42,28 @@ rows_upto t s n h = let e : s + (n - s) ≡ n = omega arith in rw e at (rise (n 
         let l = ap length (rows_again t (s + k)) ∙ length-append (rows_below (s + k) t) (held_by t (s + k)) in
         rw e (omega arith)
 
+module _ (t : Tables) (s : ℕ) (b : Bool) (is_held : b ≡ (phase t s is 5)) where
+  pub rows_more : b ≡ true → rows_below (s + 1) t ≡ rows_below s t ++ (row_of t s ∷ [])
+  rows_more e = rows_again t s ∙ rw (held_one t s b is_held e)
+
+  pub rows_same : b ≡ false → rows_below (s + 1) t ≡ rows_below s t
+  rows_same e = rows_again t s ∙ rw (held_none t s b is_held e) (append-nil (rows_below s t))
+
+  -- how many rows there are then; and the row written next is one of the holders'
+  module _ (held : b ≡ true) (at : ℕ) (is_count : at ≡ length (rows_below s t)) where
+    pub one_row_more : length (rows_below (s + 1) t) ≡ at + 1
+    one_row_more = rw (rows_more held) (let k = length-append (rows_below s t) (row_of t s ∷ []) in omega arith)
+
+    pub row_of_holders : (n : ℕ) → n ≡ seat_count t → s < n → at < length (holders t)
+    unfolding holders
+    row_of_holders n e h = let k = one_row_more in let u = rows_upto t (s + 1) (seat_count t) (omega arith) in omega arith
+
+-- after the last seat
+pub rows_all : (t : Tables) (s n : ℕ) → n ≡ seat_count t → s ≤ n → n ≤ s → rows_below s t ≡ holders t
+unfolding holders
+rows_all t s n e h i = let k : s ≡ seat_count t = omega arith in rw k
+
+-- ---- their number
 pub rows_at_most : (t : Tables) (n : ℕ) → length (rows_below n t) ≤ n
 unfolding rows_below
 rows_at_most t zero = omega arith

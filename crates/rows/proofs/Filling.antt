@@ -1,6 +1,6 @@
 -- The rows as they are written one by one: what is written so far, followed by what was lent, is the board so far.
 use Prim.Native.Nat.{ℕ, ◌+◌, ◌≤◌, ◌<◌}
-use mathlib.Core.Path.{◌≡◌, refl, sym, ap, ◌∙◌}
+use mathlib.Core.Path.{◌≡◌, refl, sym}
 use mathlib.Core.Bool.{Bool, true, false}
 use mathlib.Core.List.{List, [], ◌∷◌, ◌++◌, append_assoc}
 use native.Mathlib.Omega.{arith}
@@ -14,7 +14,7 @@ use Rattle.rules.specs.Shape.{sound}
 use Rattle.rules.specs.Board.{row_of, rows_below, holders, covered_by, Boarded, shown, board}
 use Rattle.rules.specs.declared.Row.{Row}
 use Rattle.holders.specs.Holding.{holding}
-use Rattle.holders.proofs.Rows.{rows_more, rows_same, rows_upto, rows_all, holders_counted}
+use Rattle.holders.proofs.Rows.{rows_more, rows_same, one_row_more, row_of_holders, rows_all, holders_counted}
 
 -- ---- a row behind what is written
 row_behind : (x lent : List Row) (row : Row) → length x < length lent → set (x ++ drop (length x) lent) (length x) row ≡ (x ++ (row ∷ [])) ++ drop (length (x ++ (row ∷ []))) lent
@@ -30,26 +30,16 @@ filling_none t lent = (refl, refl)
 
 module _ (t : Tables) (lent out : List Row) (at s : ℕ) (f : Filling t lent out at s) where
   module _ (b : Bool) (is_held : b ≡ (phase t s is 5)) where
-    one_more : b ≡ true → length (rows_below (s + 1) t) ≡ at + 1
-    unfolding Filling
-    one_more e =
-        let k = ap length (rows_more t s b is_held e) ∙ length-append (rows_below s t) (row_of t s ∷ []) in
-        let c = f.0 in
-        omega arith
-
     -- what has room for all rows has room for one more
     pub row_fits : b ≡ true → (n : ℕ) → n ≡ seat_count t → s < n → length (holders t) ≤ length lent → at < length lent
-    unfolding holders
-    row_fits e n is_count h room =
-        let k = one_more e in
-        let u = rows_upto t (s + 1) (seat_count t) (omega arith) in
-        omega arith
+    unfolding Filling
+    row_fits e n is_count h room = let k = row_of_holders t s b is_held e at f.0 n is_count h in omega arith
 
     pub filling_more : b ≡ true → (row : Row) → row ≡ row_of t s → at < length lent → Filling t lent (set out at row) (at + 1) (s + 1)
     unfolding Filling
     filling_more e row is_row h =
         let c = f.0 in
-        (sym (one_more e), rw (f.1, c, is_row, rows_more t s b is_held e) (row_behind (rows_below s t) lent (row_of t s) (omega arith)))
+        (sym (one_row_more t s b is_held e at f.0), rw (f.1, c, is_row, rows_more t s b is_held e) (row_behind (rows_below s t) lent (row_of t s) (omega arith)))
 
     pub filling_same : b ≡ false → Filling t lent out at (s + 1)
     unfolding Filling
