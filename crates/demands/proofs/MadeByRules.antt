@@ -30,23 +30,23 @@ use Rattle.demands.proofs.Made.{ClearMade, clear_made, CallMade, reserve_made, e
 
 -- ---- each call is its rule
 pub made_clear : {t u : Tables} {frames r : ℕ} → ClearMade t frames r u → done r u ≡ clear t frames
-made_clear (clear_made κs args r end p) = p
+made_clear (clear_made P laws profile code κs args r end p) = p
 
 pub made_call : {t u : Tables} {c : Call} {a : Answer} → CallMade t c a u → done a u ≡ call t c
 unfolding call
-made_call (reserve_made κs args r end p) = p
-made_call (enter_made κs args r end p) = p
-made_call (step_made κs args r end p) = p
-made_call (release_made κs args r end p) = p
+made_call (reserve_made P laws profile code κs args r end p) = p
+made_call (enter_made P laws profile code κs args r end p) = p
+made_call (step_made P laws profile code κs args r end p) = p
+made_call (release_made P laws profile code κs args r end p) = p
 
 pub made_run : {t u : Tables} {schedule : List ℕ} {budget : ℕ} {r : Ran} → RunMade t schedule budget r u → done r u ≡ run t schedule budget
-made_run (run_made κs args r end p) = p
+made_run (run_made P laws profile code κs args r end p) = p
 
 pub made_count : {t : Tables} {a : Counted} → CountMade t a → a ≡ free_count t
-made_count (count_made κs args r end p) = p
+made_count (count_made P laws profile code κs args r end p) = p
 
 pub made_board : {t : Tables} {rows after : List ℕ} {a : Boarded} → BoardMade t rows a after → shown a after ≡ board_numbers t rows
-made_board (board_made κs args r end p) = p
+made_board (board_made P laws profile code κs args r end p) = p
 
 pub made_import : {frames : ℕ} {locks : List ℤ} {lent after : List ℕ} {r : Moved} → ImportMade frames locks lent r after → listed r after ≡ import_locks frames locks lent
 made_import (import_made κs args r end p) = p
