@@ -1,27 +1,22 @@
 -- What two nodes share, as one law for each way through the code.
+use Rattle.std.specs.Prelude.{max, min}
 use Prim.Native.Nat.{ℕ, ◌≤◌, ◌<◌}
 use mathlib.Core.Path.{◌≡◌, ◌∙◌}
 use mathlib.Core.Bool.{Bool}
 use mathlib.Core.List.{List, []}
-use borrow.Author.Tests.{le-leb, lt-leb}
-use Rattle.rules.specs.Tables.{tables, node_word, start_at, end_at}
-use Rattle.rules.specs.Comparison.{claim_of, later, earlier, run_or_none, shared}
+use native.Mathlib.Omega.{arith}
+use borrow.Author.Tests.{leb-true, leb-false}
+use Rattle.rules.specs.Notation.{◌≤?◌}
+use Rattle.rules.specs.Comparison.{Claim, later, earlier, run_or_none, shared}
 use Rattle.rules.specs.declared.SharedRun.{SharedRun}
+use Rattle.rules.proofs.Ground.Logic.{branch}
 
-module _ (a b : ℕ) where
-  pub later_second : a ≤ b → b ≡ later a b
-  later_second h = rw (le-leb a b h)
+-- the later of two starts, and the earlier of two ends
+later_is : (a b : ℕ) → max a b ≡ later a b
+later_is a b = branch (λ r. max a b ≡ r) (a ≤? b) (λ e. let h = leb-true a b e in omega arith) (λ e. let h = leb-false a b e in omega arith)
 
-  pub later_first : b < a → a ≡ later a b
-  later_first h = rw (lt-leb a b h)
+earlier_is : (a b : ℕ) → min a b ≡ earlier a b
+earlier_is a b = branch (λ r. min a b ≡ r) (b ≤? a) (λ e. let h = leb-true b a e in omega arith) (λ e. let h = leb-false b a e in omega arith)
 
-  pub earlier_second : b ≤ a → b ≡ earlier a b
-  earlier_second h = rw (le-leb b a h)
-
-  pub earlier_first : a < b → a ≡ earlier a b
-  earlier_first h = rw (lt-leb b a h)
-
-pub shared_is : (sheet : Bool) (l : List ℕ) (c o a b x y first end : ℕ) (r : SharedRun) → r ≡ run_or_none first end → end ≡ earlier b y → first ≡ later a x
-    → y ≡ node_word sheet l o end_at → x ≡ node_word sheet l o start_at → b ≡ node_word sheet l c end_at → a ≡ node_word sheet l c start_at
-    → r ≡ shared (claim_of (tables sheet l []) c) (claim_of (tables sheet l []) o)
-shared_is sheet l c o a b x y first end r p q f py px pb pa = p ∙ rw (q, f, py, px, pb, pa)
+pub shared_is : (c o c' o' : Claim) (first end : ℕ) (r : SharedRun) → r ≡ run_or_none first end → end ≡ min c.end o.end → first ≡ max c.start o.start → o ≡ o' → c ≡ c' → r ≡ shared c' o'
+shared_is c o c' o' first end r p q f is_o is_c = p ∙ rw (← is_c, ← is_o, q, f, later_is c.start o.start, earlier_is c.end o.end)

@@ -41,12 +41,8 @@ pub compare_fits : (c o : Claim) → SFits w32 (compare c o)
 unfolding compare
 compare_fits c o = a_sign (lies_after c o) (lies_before c o)
 
-pub of_words : (sheet : Bool) (l : List ℕ) (c o a b k x y m : ℕ) (r : ℤ) → r ≡ compare (claim a b k) (claim x y m) → m ≡ node_word sheet l o kind_at → y ≡ node_word sheet l o end_at → x ≡ node_word sheet l o start_at
-    → k ≡ node_word sheet l c kind_at → b ≡ node_word sheet l c end_at → a ≡ node_word sheet l c start_at
-    → to_z w32 (of_z w32 r) ≡ compare (claim_of (tables sheet l []) c) (claim_of (tables sheet l []) o)
-of_words sheet l c o a b k x y m r q pm py px pk pb pa =
-    let e : r ≡ compare (claim_of (tables sheet l []) c) (claim_of (tables sheet l []) o) = q ∙ rw (pa, pb, pk, px, py, pm) in
-    rw e (to_z-of_z (compare_fits (claim_of (tables sheet l []) c) (claim_of (tables sheet l []) o)))
+pub of_words : (c o : Claim) (r : ℤ) → r ≡ compare c o → to_z w32 (of_z w32 r) ≡ compare c o
+of_words c o r q = rw q (to_z-of_z (compare_fits c o))
 
 -- ---- a signed local is tested by its bits, `of_z w32 r`: what each test tells
 module _ {A : Type 0} (r : ℤ) (after clash before : A) (fits : SFits w32 r) where
