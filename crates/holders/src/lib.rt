@@ -36,6 +36,7 @@ pub fn count<P: Profile>(tables: &Sound<P>) -> u32
 }
 
 // the row of a holder
+#[tactic(auto, using(crate::proofs::Owned::held_seat, crate::proofs::Owned::held_node, crate::proofs::Owned::held_within))]
 pub fn row_of<P: Profile>(tables: &Sound<P>, s: u32) -> Row
     requires { Holds tables.now s }
     ensures { result ≡ row_of tables.now s }
