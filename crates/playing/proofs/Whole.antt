@@ -2,7 +2,7 @@
 use Prim.Native.Nat.{ℕ, zero, suc, ◌+◌, ◌*◌, ◌≤◌, ◌<◌}
 use native.Mathlib.Omega.{arith}
 use mathlib.Core.Bool.{true, false}
-use mathlib.Core.List.{List, ◌∷◌, ◌++◌, map}
+use mathlib.Core.List.{List, ◌∷◌, ◌++◌}
 use mathlib.Core.Path.{◌≡◌, refl, sym, ap, ◌∙◌}
 use Rattle.std.specs.Prelude.{Ok, Err}
 use lib.ListN.{length, take, drop, replicate, length-replicate, length-drop}
@@ -16,15 +16,14 @@ use Rattle.rules.proofs.Laws.Shape.{is_sound}
 use Rattle.rules.proofs.Laws.RunSteps.{calls_reached}
 use Rattle.rules.proofs.Apart.{always_sound}
 use Rattle.rules.specs.Script.{read_script, bad_at}
-use Rattle.rules.specs.Play.{call_of, calls_of, trace, after_all, turns_text, end_text, ascii, decimal, start_of, script_text, play}
-use Rattle.rules.specs.declared.Line.{Line}
+use Rattle.rules.specs.Play.{Call, calls_of, trace, after_all, turns_text, end_text, ascii, decimal, start_of, script_text, play}
 use Rattle.rules.specs.declared.Script.{Script}
 use Rattle.rules.specs.declared.Wrong.{Wrong}
 use Rattle.script.specs.Bounded.{Bounded}
-use Rattle.text.specs.Page.{Page as Printed, page, page_of, puts, Prints}
+use Rattle.text.specs.Page.{page, puts, Prints}
 use Rattle.text.specs.declared.Page.{Page}
 use Rattle.text.proofs.Pages.{then, written}
-use Rattle.playing.specs.Played.{Played, read, played, play_from, played_text}
+use Rattle.playing.specs.Played.{read, played_text}
 
 -- ---- the part of a fresh table that is lent
 take_same : (m n : ℕ) → n ≤ m → take {A = ℕ} n (replicate m 0) ≡ replicate n 0
@@ -74,16 +73,12 @@ module _ (script : Script) (w v : ℕ) (nodes seats : List ℕ) (bounded : Bound
   script_played p q e = rw lent_fresh at e
 
 -- ---- the calls, then the end
-pub played_sound : (t u : Tables) (lines : List Line) (p q : Printed) {n s : ℕ} → played u q ≡ play_from 1 (map call_of lines) t p → Reached n s t → sound u ≡ true
-unfolding play_from
-played_sound t u lines p q is_played r = rw (ap (λ (x : Played). x.after) is_played) (always_sound (calls_reached r (map call_of lines)))
+pub played_sound : (t u : Tables) (calls : List Call) {n s : ℕ} → u ≡ after_all t calls → Reached n s t → sound u ≡ true
+played_sound t u calls e r = rw e (always_sound (calls_reached r calls))
 
-pub tables_played : (t u : Tables) (script : Script) (p q r : Page) → played u (page_of q) ≡ play_from 1 (map call_of (take script.k script.rows)) t (page_of p) → q.out.ghost_name ≡ p.out.ghost_name → Prints q r (end_text u) → Prints p r (played_text t (calls_of (read script)))
-unfolding play_from played_text calls_of
-tables_played t u script p q r is_played same e =
-    let a : u ≡ after_all t (map call_of (take script.k script.rows)) = ap (λ (x : Played). x.after) is_played in
-    let b : page_of q ≡ puts (page_of p) (turns_text 1 (trace t (map call_of (take script.k script.rows)))) = ap (λ (x : Played). x.printed) is_played in
-    then (record { same_buffer = same; is_printed = b }) (rw a at e)
+pub tables_played : (t u : Tables) (script : Script) (p q r : Page) → u ≡ after_all t (calls_of (read script)) → Prints p q (turns_text 1 (trace t (calls_of (read script)))) → Prints q r (end_text u) → Prints p r (played_text t (calls_of (read script)))
+unfolding played_text
+tables_played t u script p q r e a b = then a (rw e at b)
 
 -- what is printed of 1,000 calls on the longest tables
 pub played_short : (u : Tables) → sound u ≡ true → (at next end calls : ℕ) → end ≤ next + 11 * node_count u + 49 * seat_count u + 34 → next ≤ at + 43 * calls → calls ≤ 1000 → end ≤ at + 48986

@@ -1,21 +1,20 @@
 // A script played, from its bytes to every byte that is printed, in a lent buffer.
 #![tactic(auto)]
 
-ghost use Rattle.std.specs.Prelude.{◌≡◌, true, false, ◌+◌, ◌*◌, ◌<◌, ◌≤◌, length, take, drop, map};
+ghost use Rattle.std.specs.Prelude.{◌≡◌, false, ◌+◌, ◌*◌, ◌<◌, ◌≤◌, length, take, drop, map};
 ghost use Rattle.rules.specs.Tables as table;
 ghost use Rattle.rules.specs.Tables.{tables};
 ghost use Rattle.rules.specs.Reach.{nodes_from};
-ghost use Rattle.rules.specs.Shape.{sound};
 ghost use Rattle.rules.specs.Reached.{Reached};
 ghost use Rattle.rules.specs.Board as rule;
 ghost use Rattle.rules.specs.Answers.{done};
 ghost use Rattle.rules.specs.Means.{means};
-ghost use Rattle.rules.specs.Play.{call, call_of, calls_of, numbers_text, list_text, rows_text, end_text, script_text};
+ghost use Rattle.rules.specs.Play.{call, call_of, calls_of, after_all, trace, turns_text, numbers_text, list_text, rows_text, end_text, script_text};
 ghost use Rattle.rules.specs.Play.{play as Play·play};
 ghost use Rattle.script.specs.Bounded.{Bounded};
-ghost use Rattle.text.specs.Page.{page_of, Prints};
+ghost use Rattle.text.specs.Page.{Prints};
 ghost use Rattle.holders.specs.Holding.{held_by};
-ghost use Rattle.playing.specs.Played.{read, played, play_from, played_text};
+ghost use Rattle.playing.specs.Played.{read, played_text};
 
 use rules::{Claim, Line, Ordinary, Refused, Reply, Script};
 use text::Page;
@@ -42,12 +41,10 @@ fn make_call(nodes: &mut [u32], seats: &mut [u32], line: Line) -> Result<Reply, 
 }
 
 // The calls of a script, each with its line.
-#[tactic(auto, using(crate::proofs::Turns::ways))]
 fn play_calls(nodes: &mut [u32], seats: &mut [u32], page: &mut Page, lines: &[Line])
     requires { length lines.now ≤ 1000 }
-    ensures same_buffer { page.new.out.ghost_name ≡ page.old.out.ghost_name }
-    ensures is_printed { played (tables false nodes.new seats.new) (page_of page.new)
-        ≡ play_from 1 (map call_of lines.now) (tables false nodes.old seats.old) (page_of page.old) }
+    ensures are_made { tables false nodes.new seats.new ≡ after_all (tables false nodes.old seats.old) (map call_of lines.now) }
+    ensures is_printed { Prints page.old page.new (turns_text 1 (trace (tables false nodes.old seats.old) (map call_of lines.now))) }
     ensures at_most { page.new.at ≤ page.old.at + 43 * length lines.now }
 {
     for (i, line) in lines.iter().enumerate() {
