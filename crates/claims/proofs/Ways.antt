@@ -1,20 +1,18 @@
 -- The public calls as one law for each way through the code: n and t are the tables before, n' and t' after.
-use Prim.Native.Nat.{ℕ, suc, ◌+◌, ◌≤◌, ◌<◌, ◌*◌}
+use Prim.Native.Nat.{ℕ, ◌+◌, ◌≤◌, ◌<◌, ◌*◌}
 use mathlib.Core.Path.{◌≡◌, refl, sym, ap, ◌∙◌}
 use mathlib.Core.Bool.{Bool, true, false, not}
-use mathlib.Core.List.{List, [], ◌∷◌}
-use mathlib.Core.Logic.{◌≢◌, ⊎_elim}
+use mathlib.Core.List.{List, []}
+use mathlib.Core.Logic.{◌≢◌}
 use native.Mathlib.Omega.{arith}
-use native.Mathlib.Nat.{eq-or-lt_of_le}
-use lib.ListN.{length, get_or, set}
-use lib.Seq.{get_or-set_same, get_or-set_other}
+use lib.ListN.{length}
 use borrow.Author.Tests.{eq-eqb, ne_eqb, le-leb, lt-leb, le-ltb, lt-ltb, not-true, not-false}
 use Rattle.rules.specs.Tables.{tables, title_at, put_top, title, zeros, fresh, seat_word, seat_count_of, phase_at, seat_width}
 use Rattle.std.specs.Prelude.{Option, None, Some}
 use Rattle.rules.specs.Comparison.{Claim, claim}
 use Rattle.rules.specs.Shape.{lengths_fit, sound, may_claim}
 use Rattle.rules.specs.Reach.{count_free}
-use Rattle.rules.specs.Fetch.{fetched, fetch}
+use Rattle.rules.specs.Fetch.{fetch}
 use Rattle.rules.specs.Answers.{Answer, node, out, refused, done, answer_of, on}
 use Rattle.rules.specs.Steps.{leave, entering}
 use Rattle.rules.specs.Calls.{clear, reserved, reserve, enter, step, release}

@@ -130,7 +130,11 @@ pub fn enter<P: Profile>(nodes: &[u32], seats: &mut [u32], s: u32) -> Result<Rep
 // ---- step
 
 // the step, and the answer from the seat's new phase
-fn step_and_answer<P: Profile>(nodes: &mut [u32], seats: &mut [u32], s: u32) -> Result<Reply, Refused>
+fn step_and_answer<P: Profile>(
+    nodes: &mut [u32],
+    seats: &mut [u32],
+    s: u32,
+) -> Result<Reply, Refused>
     requires { sound (tables P.SHEET nodes.old seats.old) ≡ true }
     ensures { done (means result) (tables P.SHEET nodes.new seats.new) ≡ call.step (tables P.SHEET nodes.old seats.old) s }
 {

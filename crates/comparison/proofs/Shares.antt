@@ -1,9 +1,7 @@
 -- What two nodes share, as one law for each way through the code.
 use Rattle.std.specs.Prelude.{max, min}
-use Prim.Native.Nat.{ℕ, ◌≤◌, ◌<◌}
+use Prim.Native.Nat.{ℕ}
 use mathlib.Core.Path.{◌≡◌, ◌∙◌}
-use mathlib.Core.Bool.{Bool}
-use mathlib.Core.List.{List, []}
 use native.Mathlib.Omega.{arith}
 use borrow.Author.Tests.{leb-true, leb-false}
 use Rattle.rules.specs.Notation.{◌≤?◌}

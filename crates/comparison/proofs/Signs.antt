@@ -3,7 +3,6 @@ use Rattle.std.specs.Prelude.{if◌then◌else◌}
 use Prim.Native.Nat.{ℕ, zero, suc, ◌<◌}
 use mathlib.Core.Path.{◌≡◌, refl, sym, ap, ◌∙◌}
 use mathlib.Core.Bool.{Bool, true, false, ◌&&◌, true≢false}
-use mathlib.Core.List.{List, []}
 use native.Mathlib.Omega.{arith}
 use lib.Dec.{eqb}
 use lib.IntN.{ℤ, pos, negsuc}
@@ -12,8 +11,7 @@ use mir.Syntax.{w32}
 use mir.Val.{SFits, of_z, to_z}
 use mir.Facts.{to_z-of_z, sfits_lit}
 use borrow.Author.Tests.{ltb-true}
-use Rattle.rules.specs.Tables.{tables, node_word, start_at, end_at, kind_at}
-use Rattle.rules.specs.Comparison.{Claim, claim, claim_of, lies_after, lies_before, compare, by_comparison}
+use Rattle.rules.specs.Comparison.{Claim, claim, lies_after, lies_before, compare, by_comparison}
 use Rattle.comparison.specs.Behind.{lies_behind}
 
 module _ (a b k x y m : ℕ) where

@@ -99,7 +99,12 @@ fn take_out<P: Profile>(nodes: &mut [u32])
 // ---- fetch
 
 // Once the marked nodes are taken out: the node taken, or none, and then nothing is stored.
-fn fetch_again<P: Profile>(nodes: &mut [u32], seats: &mut [u32], s: u32, claim: Claim) -> Option<u32>
+fn fetch_again<P: Profile>(
+    nodes: &mut [u32],
+    seats: &mut [u32],
+    s: u32,
+    claim: Claim,
+) -> Option<u32>
     requires tables_sound { sound (tables P.SHEET nodes.old seats.old) ≡ true }
     requires no_prev { prev (tables P.SHEET [] seats.old) s ≡ 0 }
     requires no_cur { cur (tables P.SHEET [] seats.old) s ≡ 0 }

@@ -6,11 +6,11 @@ use mathlib.Core.List.{List, []}
 use mathlib.Core.Logic.{◌≢◌}
 use native.Mathlib.Omega.{arith}
 use borrow.Author.Tests.{ne_eqb, le-leb, lt-leb}
-use Rattle.rules.specs.Tables.{Tables, tables, node_word, seat_word, seat_count_of, phase_at, own_at, start_at, end_at, kind_at, seat_width}
+use Rattle.rules.specs.Tables.{Tables, tables, seat_word, seat_count_of, phase_at, own_at, seat_width}
 use Rattle.std.specs.Prelude.{Option, None, Some}
 use Rattle.rules.specs.Comparison.{Claim, claim_of}
 use Rattle.rules.specs.Shape.{sound}
-use Rattle.rules.specs.Fetch.{fetched, fetch}
+use Rattle.rules.specs.Fetch.{fetch}
 use Rattle.rules.specs.Answers.{Answer, Done, done, answered}
 use Rattle.rules.specs.Steps.{walking, waiting_to_enter, validating, reader_waiting, refetched, withdrawn, entering, step_by_phase, kind_of}
 use Rattle.rules.specs.Calls.{step}

@@ -28,7 +28,10 @@ fn stop_at_damage(steps: u32, entries: usize, budget: u32) -> Ran
     ensures { means_run result ≡ part.stop_at_damage steps entries budget }
 {
     if (steps == budget) | (entries <= steps as usize) {
-        return Ran { steps, refusal: None };
+        return Ran {
+            steps,
+            refusal: None,
+        };
     }
     Ran {
         steps,
@@ -38,22 +41,23 @@ fn stop_at_damage(steps: u32, entries: usize, budget: u32) -> Ran
 
 // The tables are sound whenever an entry is stepped, so that none tests them. Whether there is such a seat is asked here, so that its phase
 // can be read before and after the step.
-fn run_steps<P: Profile>(
-    nodes: &mut [u32],
-    seats: &mut [u32],
-    schedule: &[u32],
-    budget: u32,
-) -> Ran
+fn run_steps<P: Profile>(nodes: &mut [u32], seats: &mut [u32], schedule: &[u32], budget: u32) -> Ran
     requires { sound (tables P.SHEET nodes.old seats.old) ≡ true }
     ensures { done (means_run result) (tables P.SHEET nodes.new seats.new) ≡ rule.run_steps budget (tables P.SHEET nodes.old seats.old) schedule.now }
 {
     let mut steps: u32 = 0;
     loop {
         if steps == budget {
-            break Ran { steps, refusal: None };
+            break Ran {
+                steps,
+                refusal: None,
+            };
         }
         if schedule.len() <= steps as usize {
-            break Ran { steps, refusal: None };
+            break Ran {
+                steps,
+                refusal: None,
+            };
         }
         let s = schedule[steps as usize];
         let count = words::seat_count::<P>(seats) as u32;

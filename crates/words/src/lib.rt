@@ -68,7 +68,11 @@ fn seat_width<P: Profile>() -> usize
     ensures words { result ≡ seat_width P.SHEET }
     ensures few { result ≤ 8 }
 {
-    if P::SHEET { SHEET_SEAT_WIDTH } else { SEAT_WIDTH }
+    if P::SHEET {
+        SHEET_SEAT_WIDTH
+    } else {
+        SEAT_WIDTH
+    }
 }
 
 // ---- where a word stands: nothing else adds up a place. Each is told to be small, so that no caller has to show that a place fits.

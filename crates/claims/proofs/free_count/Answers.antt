@@ -1,8 +1,6 @@
 -- `claims::free_count` meets its promise.
-use Rattle.std.proofs.Common.{refl, sym, ap}
+use Rattle.std.proofs.Common.{refl}
 use Rattle.std.proofs.lemmas.Result.{err_from_is_err_and}
-use Rattle.rules.specs.Means.{means_count}
-use Rattle.rules.specs.Reach.{count_free}
 use Rattle.shape.proofs.Tests.{lent_sound, not_lent}
 use Rattle.claims.proofs.Ways.{count_sound, count_damaged}
 use Rattle.claims.proofs.free_count.Goals as goal

@@ -32,7 +32,7 @@ loop-preserved g c =
     let gathered = c.loop.invariant.1 in (
       next_small lent.sheet lent.nodes _ _ (links_within lent.sheet lent.nodes lent.seats c.are_sound.ensures) c.link-cur-in-loop.ensures,
       elim c.if-node_word-ne1.branch [
-          then-node_word-ne1 w ↦ kept_join _ _ _ _ _ _ gathered c.loop-test.true c.if-cur-eq0.false _ _ c.link-cur-in-loop.ensures c.node_word.ensures _ (w.listed-is ∙ w.join.ensures.1) w.if-node_word-ne1.true
+        | then-node_word-ne1 w ↦ kept_join _ _ _ _ _ _ gathered c.loop-test.true c.if-cur-eq0.false _ _ c.link-cur-in-loop.ensures c.node_word.ensures _ (w.listed-is ∙ w.join.ensures.1) w.if-node_word-ne1.true
         | else-node_word-ne1 w ↦ rw w.listed-is (kept_skip _ _ _ _ _ _ gathered c.loop-test.true c.if-cur-eq0.false _ _ c.link-cur-in-loop.ensures c.node_word.ensures (search rules))
       ],
     )

@@ -1,6 +1,6 @@
 -- `reach::reach_others` meets its promise.
 use Rattle.std.proofs.Common.{◌∙◌, rules}
-use Rattle.reach.proofs.Ways.{some_hops, seat_within, seats_start, seats_pass, seats_join, seats_done}
+use Rattle.reach.proofs.Ways.{some_hops, seats_start, seats_pass, seats_join, seats_done}
 use Rattle.reach.proofs.reach_others.Goals as goal
 use Rattle.reach.proofs.reach_others.Goals.{then-r-s, else-r-s}
 
@@ -15,7 +15,7 @@ reach_seat-requires g c =
 pub loop-r-preserved : goal.loop-r-preserved
 loop-r-preserved g c =
     elim c.if-r-s.branch [
-        then-r-s w ↦ w.used-is ∙ seats_join _ _ _ _ _ _ _ w.reach_seat.ensures c.loop-r.invariant w.if-r-s.true
+      | then-r-s w ↦ w.used-is ∙ seats_join _ _ _ _ _ _ _ w.reach_seat.ensures c.loop-r.invariant w.if-r-s.true
       | else-r-s w ↦ w.used-is ∙ seats_pass _ _ _ _ _ _ c.loop-r.invariant (search rules)
     ]
 

@@ -1,9 +1,9 @@
 -- What the library's own types mean, as those who meet them need it: a refusal has a number that is not 0, and there is no node where the rules say 0.
 use Prim.Native.Nat.{ℕ, zero, suc}
-use mathlib.Core.Path.{◌≡◌, refl, sym, ◌∙◌}
+use mathlib.Core.Path.{◌≡◌, refl, sym}
 use mathlib.Core.Logic.{◌≢◌}
 use native.Mathlib.Omega.{arith}
-use Rattle.std.specs.Prelude.{Option, None, Some}
+use Rattle.std.specs.Prelude.{None, Some}
 use Rattle.rules.specs.Means.{number_of, node_if_any}
 use Rattle.rules.specs.declared.Refused.{Refused}
 use Rattle.rules.specs.declared.Refused.TheVariants.{Damaged, NoSuchSeat, NoFrames, UnknownKind, HasClaim, HasNoClaim, NotHolding, NoNodeFree, NoRoom, NotWellFormed, BeyondTitle, NoSuchRun, UnknownType, NotReserved}
