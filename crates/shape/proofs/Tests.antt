@@ -63,11 +63,11 @@ by_profile true b e = absurd (clash true refl e)
 by_profile false b e = refl
 
 -- ---- a name
-module _ (sheet : Bool) (l : List ℕ) (n a : ℕ) (is_count : n ≡ node_count_of sheet l) where
-  pub names_zero : a ≡ 0 → true ≡ names (tables sheet l []) a
-  unfolding names
-  names_zero e = rw (eq-eqb a 0 e)
+pub names_zero : (sheet : Bool) (l : List ℕ) (a : ℕ) → a ≡ 0 → true ≡ names (tables sheet l []) a
+unfolding names
+names_zero sheet l a e = rw (eq-eqb a 0 e)
 
+module _ (sheet : Bool) (l : List ℕ) (n a : ℕ) (is_count : n ≡ node_count_of sheet l) where
   pub names_past : n < a → a ≢ 0 → false ≡ names (tables sheet l []) a
   unfolding names
   names_past h d = rw (ne_eqb a 0 d, ← is_count, lt-leb a n h)
@@ -118,7 +118,7 @@ module _ (sheet : Bool) (l : List ℕ) (frames a x y k next m : ℕ) (is_mark : 
       let q : node_word sheet l a kind_at ≡ 0 = sym is_kind_of ∙ e in
       rw (is_mark, is_next_here, is_end, is_start, q, no_claim_of_0 sheet)
       (zero_case (eqb (node_word sheet l a start_at) 0) (eqb (node_word sheet l a end_at) 0) (eqb (link_word sheet l a) 0) (eqb (node_word sheet l a mark_at) 0) (names (tables sheet l []) (link_word sheet l a))
-      (λ z. sym (names_zero sheet l (node_count_of sheet l) (link_word sheet l a) refl (eqb-true (link_word sheet l a) 0 z))))
+      (λ z. sym (names_zero sheet l (link_word sheet l a) (eqb-true (link_word sheet l a) 0 z))))
 
   pub node_zero : k ≡ 0 → (eqb x 0 && eqb y 0 && eqb next 0 && eqb m 0) ≡ node_sound_by (tables sheet l []) frames a
   node_zero e =
@@ -398,20 +398,20 @@ nodes_of_fit sheet l t e = and_left (nodes_fit (tables sheet l [])) (seats_fit (
 pub ends_all : (sheet : Bool) (l : List ℕ) (n a : ℕ) → n ≡ node_count_of sheet l → a ≡ link_word sheet l 0 → ends_within (n - 0) (tables sheet l []) a ≡ list_ends (tables sheet l [])
 ends_all sheet l n a p q = let e : n - 0 ≡ n = omega arith in rw (e, p, q)
 
-pub long_enough : (sheet : Bool) (l t : List ℕ) → lengths_fit (tables sheet l t) ≡ true → before_nodes sheet ≤ length l
-long_enough sheet l t e = let h = (lengths_fit_law (tables sheet l t) e).nodes_length in omega arith
+pub long_enough : (sheet : Bool) (l : List ℕ) → nodes_fit (tables sheet l []) ≡ true → before_nodes sheet ≤ length l
+long_enough sheet l e = let h = (nodes_fit_law (tables sheet l []) e).0 in omega arith
 
 -- ---- the whole, from the title and from what is found of the part from node 1 on
 pub title_none : (sheet : Bool) (l t : List ℕ) (z : ℕ) → z ≡ title (tables sheet l []) → z ≡ 0 → lengths_fit (tables sheet l t) ≡ true → false ≡ sound (tables sheet l t)
 unfolding sound title_fits
 title_none sheet l t z p e fit = rw (fit, sym p ∙ e)
 
-module _ (sheet : Bool) (l t p : List ℕ) (is_part : p ≡ drop (before_nodes sheet) l) where
-  pub counts_part : (n : ℕ) → n ≡ node_count_of sheet l → n ≡ node_count_of sheet (with_zeros sheet p)
-  counts_part n e = rw is_part (e ∙ sym (same_count sheet l))
+pub counts_part : (sheet : Bool) (l p : List ℕ) (n : ℕ) → p ≡ drop (before_nodes sheet) l → n ≡ node_count_of sheet l → n ≡ node_count_of sheet (with_zeros sheet p)
+counts_part sheet l p n is_part e = rw is_part (e ∙ sym (same_count sheet l))
 
+module _ (sheet : Bool) (l t p : List ℕ) (is_part : p ≡ with_zeros sheet (drop (before_nodes sheet) l)) where
   module _ (fit : lengths_fit (tables sheet l t) ≡ true) (z : ℕ) (is_title : z ≡ title (tables sheet l [])) (some_title : z ≢ 0)
-      (b : Bool) (is_nodes : b ≡ nodes_sound_by (tables sheet (with_zeros sheet p) []) z) where
+      (b : Bool) (is_nodes : b ≡ nodes_sound_by (tables sheet p []) z) where
     has_title : 1 ≤? title (tables sheet l []) ≡ true
     has_title = le-leb 1 (title (tables sheet l [])) (let q = sym is_title in omega arith)
 
@@ -422,7 +422,7 @@ module _ (sheet : Bool) (l t p : List ℕ) (is_part : p ≡ drop (before_nodes s
     unfolding sound title_fits
     nodes_not e = rw (fit, has_title, nodes_are, not-true b e)
 
-    module _ (some : not b ≡ false) (h : ℕ) (is_head : h ≡ link_word sheet l 0) (c : Bool) (is_named : c ≡ names (tables sheet (with_zeros sheet p) []) h) where
+    module _ (some : not b ≡ false) (h : ℕ) (is_head : h ≡ link_word sheet l 0) (c : Bool) (is_named : c ≡ names (tables sheet p []) h) where
       head_is : names (tables sheet l []) h ≡ c
       head_is = sym (same_names sheet l h) ∙ sym (rw is_part at is_named)
 
@@ -431,7 +431,7 @@ module _ (sheet : Bool) (l t p : List ℕ) (is_part : p ≡ drop (before_nodes s
       head_not e = rw (fit, has_title, nodes_are, not-false b some, ← is_head, head_is, not-true c e)
 
       module _ (found : not c ≡ false) (x y : ℕ) (is_writers : y ≡ count_word (tables sheet l []) 2) (is_readers : x ≡ count_word (tables sheet l []) 1)
-          (d : Bool) (is_seats : d ≡ seats_and_counts_sound (tables sheet (with_zeros sheet p) t) x y) where
+          (d : Bool) (is_seats : d ≡ seats_and_counts_sound (tables sheet p t) x y) where
         seats_are : (seats_sound (tables sheet l t) && counts_fit (tables sheet l t)) ≡ d
         unfolding counts_fit
         seats_are = rw (← is_readers, ← is_writers, ← same_seats sheet l t, ← same_holders sheet l t 1, ← same_holders sheet l t 2) (sym (rw is_part at is_seats))
@@ -452,10 +452,7 @@ sound_not sheet l t b q e = rw (← q, e)
 pub fits : (sheet : Bool) (l t : List ℕ) (b : Bool) → b ≡ lengths_fit (tables sheet l t) → b ≡ true → lengths_fit (tables sheet l t) ≡ true
 fits sheet l t b p q = sym p ∙ q
 
--- N and S are small where the lengths fit
-pub few_nodes : (sheet : Bool) (l t : List ℕ) (n : ℕ) → n ≡ node_count_of sheet l → lengths_fit (tables sheet l t) ≡ true → n ≤ 256
-few_nodes sheet l t n e f = rw e (lengths_fit_law (tables sheet l t) f).few_nodes
-
+-- S is small where the lengths fit
 pub few_seats : (sheet : Bool) (l t : List ℕ) (n : ℕ) → n ≡ seat_count_of sheet t → lengths_fit (tables sheet l t) ≡ true → n ≤ 64
 few_seats sheet l t n e f = rw e (lengths_fit_law (tables sheet l t) f).few_seats
 

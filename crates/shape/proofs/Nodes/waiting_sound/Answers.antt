@@ -1,6 +1,6 @@
--- `shape::waiting_sound` meets its promise.
+-- `shape::Nodes::waiting_sound` meets its promise.
 use Rattle.shape.proofs.Tests.{waits_nowhere, waits_at_cur}
-use Rattle.shape.proofs.waiting_sound.Goals as goal
+use Rattle.shape.proofs.Nodes.waiting_sound.Goals as goal
 
 pub returns-then-cur-eq0 : goal.returns-then-cur-eq0
 returns-then-cur-eq0 g c = search waits_nowhere

@@ -1,6 +1,6 @@
--- `shape::seat_sound` meets its promise.
+-- `shape::Nodes::seat_sound` meets its promise.
 use Rattle.shape.proofs.Tests.{seat_idle, seat_walking, seat_waiting, seat_validating, seat_reader_waiting, seat_holding, seat_withdrawn, seat_resting, seat_no_phase}
-use Rattle.shape.proofs.seat_sound.Goals as goal
+use Rattle.shape.proofs.Nodes.seat_sound.Goals as goal
 
 pub returns-in-0 : goal.returns-in-0
 returns-in-0 g c = search seat_idle

@@ -1,7 +1,7 @@
--- `shape::ordinary_sound` meets its promise.
+-- `shape::Nodes::ordinary_sound` meets its promise.
 use Rattle.std.proofs.Common.{◌≡◌, true, false}
 use Rattle.shape.proofs.Tests.{lacks, has_3, has_4, has_other}
-use Rattle.shape.proofs.ordinary_sound.Goals as goal
+use Rattle.shape.proofs.Nodes.ordinary_sound.Goals as goal
 
 pub returns-then-SHEET : goal.returns-then-SHEET
 returns-then-SHEET g c = let on_a_sheet : g.P.Profile.SHEET ≡ true = cc in search lacks

@@ -1,6 +1,6 @@
--- `shape::nodes_sound` meets its promise.
+-- `shape::Nodes::nodes_sound` meets its promise.
 use Rattle.shape.proofs.Tests.{nodes_none, nodes_more, nodes_fail, nodes_all}
-use Rattle.shape.proofs.nodes_sound.Goals as goal
+use Rattle.shape.proofs.Nodes.nodes_sound.Goals as goal
 
 pub loop-i-init : goal.loop-i-init
 loop-i-init g c = nodes_none _ _ _

@@ -1,6 +1,6 @@
--- `shape::resting_sound` meets its promise.
+-- `shape::Nodes::resting_sound` meets its promise.
 use Rattle.shape.proofs.Tests.{rests_not, rests}
-use Rattle.shape.proofs.resting_sound.Goals as goal
+use Rattle.shape.proofs.Nodes.resting_sound.Goals as goal
 
 pub returns-then-own-prev : goal.returns-then-own-prev
 returns-then-own-prev g c = search rests_not
