@@ -49,6 +49,14 @@ fn holds<P: Profile>(seats: &[u32], s: u32) -> bool
     words::seat_word_within::<P>(seats, s, words::PHASE) == 5
 }
 
+// The words of a seat that name a node, or are 0.
+#[derive(Clone, Copy)]
+struct Named {
+    own: u32,
+    prev: u32,
+    cur: u32,
+}
+
 // The nodes, in the part of their table from node 1 on, and how many they are. A clause sees a table of these nodes, with zeros before node 1.
 #[derive(Drop)]
 struct Nodes<'a, P: Profile> {
@@ -156,52 +164,52 @@ impl<'a, P: Profile> Nodes<'a, P> {
     }
 
     // own names a node, and prev and cur are each 0 or name one
-    fn busy_sound(&self, own: u32, prev: u32, cur: u32) -> bool
-        ensures { result ≡ busy_sound (tables P.SHEET self.now []) own prev cur }
+    fn busy_sound(&self, named: Named) -> bool
+        ensures { result ≡ busy_sound (tables P.SHEET self.now []) named.own named.prev named.cur }
     {
-        if own == 0 {
+        if named.own == 0 {
             return false;
         }
-        if !self.names(own) {
+        if !self.names(named.own) {
             return false;
         }
-        if !self.names(prev) {
+        if !self.names(named.prev) {
             return false;
         }
-        self.names(cur)
+        self.names(named.cur)
     }
 
     // in phases 2 and 4
-    fn waiting_sound(&self, own: u32, prev: u32, cur: u32) -> bool
-        ensures { result ≡ waiting_sound (tables P.SHEET self.now []) own prev cur }
+    fn waiting_sound(&self, named: Named) -> bool
+        ensures { result ≡ waiting_sound (tables P.SHEET self.now []) named.own named.prev named.cur }
     {
-        if cur == 0 {
+        if named.cur == 0 {
             return false;
         }
-        self.busy_sound(own, prev, cur)
+        self.busy_sound(named)
     }
 
     // in phases 5, 6 and 7: of three names, only own is left to look up
-    fn resting_sound(&self, own: u32, prev: u32, cur: u32) -> bool
-        ensures { result ≡ resting_sound (tables P.SHEET self.now []) own prev cur }
+    fn resting_sound(&self, named: Named) -> bool
+        ensures { result ≡ resting_sound (tables P.SHEET self.now []) named.own named.prev named.cur }
     {
-        if (own == 0) | !(prev == 0) | !(cur == 0) {
+        if (named.own == 0) | !(named.prev == 0) | !(named.cur == 0) {
             return false;
         }
-        self.names(own)
+        self.names(named.own)
     }
 
     // in phases 3, 4 and 6, which a sheet lacks: the profile is looked at in these alone
-    fn ordinary_sound(&self, phase: u32, own: u32, prev: u32, cur: u32) -> bool
-        ensures { result ≡ ordinary_sound (tables P.SHEET self.now []) phase own prev cur }
+    fn ordinary_sound(&self, phase: u32, named: Named) -> bool
+        ensures { result ≡ ordinary_sound (tables P.SHEET self.now []) phase named.own named.prev named.cur }
     {
         if P::SHEET {
             return false;
         }
         match phase {
-            3 => self.busy_sound(own, prev, cur),
-            4 => self.waiting_sound(own, prev, cur),
-            _ => self.resting_sound(own, prev, cur),
+            3 => self.busy_sound(named),
+            4 => self.waiting_sound(named),
+            _ => self.resting_sound(named),
         }
     }
 
@@ -211,18 +219,20 @@ impl<'a, P: Profile> Nodes<'a, P> {
         ensures { result ≡ seat_sound (tables P.SHEET self.now seats.now) s }
     {
         let phase = words::seat_word_within::<P>(seats, s, words::PHASE);
-        let own = words::seat_word_within::<P>(seats, s, words::OWN);
-        let prev = words::seat_word_within::<P>(seats, s, words::PREV);
-        let cur = words::seat_word_within::<P>(seats, s, words::CUR);
+        let named = Named {
+            own: words::seat_word_within::<P>(seats, s, words::OWN),
+            prev: words::seat_word_within::<P>(seats, s, words::PREV),
+            cur: words::seat_word_within::<P>(seats, s, words::CUR),
+        };
         match phase {
-            0 => (own == 0) & (prev == 0) & (cur == 0),
-            1 => self.busy_sound(own, prev, cur),
-            2 => self.waiting_sound(own, prev, cur),
-            3 => self.ordinary_sound(phase, own, prev, cur),
-            4 => self.ordinary_sound(phase, own, prev, cur),
-            5 => self.resting_sound(own, prev, cur),
-            6 => self.ordinary_sound(phase, own, prev, cur),
-            7 => self.resting_sound(own, prev, cur),
+            0 => (named.own == 0) & (named.prev == 0) & (named.cur == 0),
+            1 => self.busy_sound(named),
+            2 => self.waiting_sound(named),
+            3 => self.ordinary_sound(phase, named),
+            4 => self.ordinary_sound(phase, named),
+            5 => self.resting_sound(named),
+            6 => self.ordinary_sound(phase, named),
+            7 => self.resting_sound(named),
             8..=4294967295 => false,
         }
     }

@@ -2,8 +2,8 @@
 use Rattle.shape.proofs.Tests.{own_none, own_lost, prev_lost, all_named}
 use Rattle.shape.proofs.Nodes.busy_sound.Goals as goal
 
-pub returns-then-own-eq0 : goal.returns-then-own-eq0
-returns-then-own-eq0 g c = search own_none
+pub returns-then-named-eq0 : goal.returns-then-named-eq0
+returns-then-named-eq0 g c = search own_none
 
 pub returns-then-not-names : goal.returns-then-not-names
 returns-then-not-names g c = search own_lost

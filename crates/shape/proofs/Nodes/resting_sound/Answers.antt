@@ -2,8 +2,8 @@
 use Rattle.shape.proofs.Tests.{rests_not, rests}
 use Rattle.shape.proofs.Nodes.resting_sound.Goals as goal
 
-pub returns-then-own-prev : goal.returns-then-own-prev
-returns-then-own-prev g c = search rests_not
+pub returns-then-named : goal.returns-then-named
+returns-then-named g c = search rests_not
 
 pub returns : goal.returns
 returns g c = search rests

@@ -2,8 +2,8 @@
 use Rattle.shape.proofs.Tests.{waits_nowhere, waits_at_cur}
 use Rattle.shape.proofs.Nodes.waiting_sound.Goals as goal
 
-pub returns-then-cur-eq0 : goal.returns-then-cur-eq0
-returns-then-cur-eq0 g c = search waits_nowhere
+pub returns-then-named-eq0 : goal.returns-then-named-eq0
+returns-then-named-eq0 g c = search waits_nowhere
 
 pub returns : goal.returns
 returns g c = search waits_at_cur
