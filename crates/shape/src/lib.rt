@@ -295,6 +295,7 @@ fn words_sound<P: Profile>(nodes: &[u32], seats: &[u32]) -> bool
     requires { lengths_fit (tables P.SHEET nodes.now seats.now) ≡ true }
     ensures { result ≡ sound (tables P.SHEET nodes.now seats.now) }
 {
+    let alone = Nodes::<P>::of(nodes);
     let count = words::seat_count::<P>(seats) as u32;
     let head = words::link::<P>(nodes, 0);
     let readers = words::count_word::<P>(nodes, 1);
@@ -303,7 +304,6 @@ fn words_sound<P: Profile>(nodes: &[u32], seats: &[u32]) -> bool
     if title == 0 {
         return false;
     }
-    let alone = Nodes::<P>::of(nodes);
     if !alone.nodes_sound(title) {
         return false;
     }
