@@ -1,6 +1,6 @@
 // The public calls for C and Rust to link: over numbers and slices alone, each answer encoded as one number, a wait's shared run in two words beside it. A
 // slice crosses as its address and its length, an array as its address. The calls on tables stand here twice: on the ordinary ones and, as
-// `soodhiqune_sheet_..`, on a writers' sheet. It is by their names that a caller says which tables it lends.
+// `soodhiqune_sheet_..`, on a writers' sheet, since C knows no types for them: it is by their names that a caller says which tables it lends.
 #![tactic(auto)]
 
 ghost use Rattle.std.specs.Prelude.{◌≡◌, true, false, [], ◌+◌, ◌≤◌, length, take, drop};
@@ -87,7 +87,7 @@ fn tell_board(answer: Result<Filled, Refused>, covered: &mut u64) -> u64
     }
 }
 
-// of import and export
+// of import and export; no `From`, since neither type is this crate's
 fn moved(answer: Result<(), BadRecord>) -> Moved
     ensures { result ≡ means_moved answer }
 {

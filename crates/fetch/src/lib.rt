@@ -76,6 +76,7 @@ fn take_out<P: Profile>(nodes: &mut [u32])
     let mut link = words::link::<P>(nodes, 0);
     let mut cur = link;
     let mut prev: u32 = 0;
+    // a walk along the list: its end stops it, and no number is counted but for the measure
     while cur != 0 {
         let next = words::next_within::<P>(nodes, cur);
         if words::node_word_within::<P>(nodes, cur, words::MARK) == 1 {

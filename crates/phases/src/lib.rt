@@ -28,7 +28,8 @@ fn fetch_again<P: Profile>(nodes: &mut [u32], seats: &mut [u32], s: u32) -> Resu
     }
 }
 
-// the phase decides the step; all but fetch, which looks at every seat, are lent the seat's own words
+// The phase decides the step, in the form that 01 asks for: its word copied to a local and matched over its numbers, refusals by ranges, each arm one small
+// function. All but fetch, which looks at every seat, are lent the seat's own words.
 fn step_by_phase<P: Profile>(nodes: &mut [u32], seats: &mut [u32], s: u32) -> Result<(), Refused>
     requires tables_sound { sound (tables P.SHEET nodes.old seats.old) ≡ true }
     requires has_seat { s < seat_count_of P.SHEET seats.old }

@@ -45,7 +45,7 @@ pub struct Row {
     pub kind: u32,
 }
 
-// A line of a script: its code (v 1, s 2, r 3, e 4) and four numbers.
+// A line of a script: its code (v 1, s 2, r 3, e 4) and four numbers, as 01 gives a row and as the rules of Script read it; so they cross to C.
 #[derive(Clone, Copy)]
 pub struct Line {
     pub code: u32,
@@ -55,7 +55,7 @@ pub struct Line {
     pub kind: u32,
 }
 
-// A script as read: N, S, K, the title's frame count and the rows. What a script does not fill is 0.
+// A script as read: N, S, K, the title's frame count and, as 01 asks, 1,000 rows by value: nothing here allocates. What a script does not fill is 0.
 #[derive(Clone, Copy)]
 pub struct Script {
     pub n: u32,

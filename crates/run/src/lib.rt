@@ -46,6 +46,7 @@ fn run_steps<P: Profile>(nodes: &mut [u32], seats: &mut [u32], schedule: &[u32],
     ensures { done (means_run result) (tables P.SHEET nodes.new seats.new) ≡ rule.run_steps budget (tables P.SHEET nodes.old seats.old) schedule.now }
 {
     let mut steps: u32 = 0;
+    // 01 asks for a loop over the schedule that is left by `break` with the count and the refusal from its inside
     loop {
         if steps == budget {
             break Ran {

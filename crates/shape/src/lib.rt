@@ -237,7 +237,7 @@ impl<'a, P: Profile> Nodes<'a, P> {
         }
     }
 
-    // the kind of the claim that a sound seat holds with, 0 if it holds with none
+    // the kind of the claim that a sound seat holds with; 0 if with none, and so in neither count, as the rule counts
     fn held_kind(&self, seats: &[u32], s: u32) -> u32
         requires has_seat { s < seat_count_of P.SHEET seats.now }
         requires seat_is_sound { seat_sound (tables P.SHEET self.now seats.now) s ≡ true }

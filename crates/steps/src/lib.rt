@@ -1,7 +1,9 @@
 // The step rules, one small function for each: what a step does in phases 1 to 5 and 7, release, and the answer from the seat's new phase, which a run
 // does without. A step touches one seat, so each is lent the node table and that seat's own words, and none knows where they stand or how many seats
 // there are: they are a table of the one seat, and its number there is 0. The promise of each is the rule's definition over these two; OwnWords.antt
-// has that it is then the rule over the whole tables. Those that move a count ask that one more or one less is still a count; the others are total.
+// has that it is then the rule over the whole tables. Those that move a count ask that one more or one less is still a count, which sound tables have as a
+// whole and no step sees; the others are total. Nodes and seat stay two slices: a struct that held both would have to promise, of each function, that it
+// still holds the same two, beside the promise that stands here.
 #![tactic(auto)]
 
 ghost use Rattle.std.specs.Prelude.{◌≡◌, [], ◌≤◌, ◌<◌};

@@ -36,6 +36,7 @@ impl Page<'_> {
         }
     }
 
+    // by way of the digits before the last, which are printed first
     pub fn put_number(&mut self, n: u64)
         ensures { Prints self.old self.new (decimal n) }
     {

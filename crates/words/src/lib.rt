@@ -1,6 +1,7 @@
 // The words of the two tables: the only code that knows where a word stands. Each read and each store is total, as its definition is:
 // a read past the end is 0, a store past the end does nothing, and node 0 has only zeros but for its link, the head. `P` is the tables' profile:
-// of all code these functions alone look at it for where a word stands, and they choose a number by it and never a way.
+// of all code these functions alone look at it for where a word stands, and they choose a number by it and never a way. Nodes and seats are named by
+// their numbers, since they lie in tables that C lends.
 #![tactic(auto)]
 
 ghost use Rattle.std.specs.Prelude.{◌≡◌, length, get_or, set, drop, true, false, [], ◌+◌, ◌-◌, ◌*◌, ◌<◌, ◌≤◌};
@@ -25,7 +26,8 @@ pub const NEXT: u32 = 3;
 
 pub const MARK: u32 = 4;
 
-// Where the words of a seat stand in it.
+// Where the words of a seat stand in it. The phase stays a number wherever it is looked at: 01 asks that its word is copied to a local and matched over
+// its numbers, refusals by ranges.
 pub const PHASE: u32 = 0;
 
 pub const OWN: u32 = 1;
@@ -375,7 +377,7 @@ pub fn seat_words<P: Profile>(s: u32) -> usize
     seat_width::<P>() * s as usize
 }
 
-// The longest ordinary tables there are, fresh.
+// The longest ordinary tables there are, fresh: of a fixed length, since nothing here allocates.
 pub fn fresh_nodes(frames: u32) -> [u32; 1284]
     ensures { result ≡ put_top (zeros (before_nodes false + node_width * 256)) title_at frames }
 {
