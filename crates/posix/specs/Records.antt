@@ -7,13 +7,9 @@ use Rattle.rules.specs.Locks.{Lock, lock, lock_of, Taken, taken, bad, import_loc
 use Rattle.rules.specs.declared.Moved.{Moved}
 use Rattle.rules.specs.declared.Refused.{Refused}
 use Rattle.rules.specs.declared.BadRecord.{BadRecord}
-use Rattle.posix.specs.declared.Claimed.{Claimed}
 use Rattle.posix.specs.declared.Locked.{Locked}
 
--- ---- the code's records as the rules have them
-abbrev pub as_claim : Claimed → Claim
-as_claim c = claim c.start c.end c.kind
-
+-- ---- a lock as the rules have it
 abbrev pub as_lock : Locked → Lock
 as_lock k = lock k.lock_type k.start k.span
 

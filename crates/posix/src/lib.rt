@@ -5,21 +5,13 @@
 
 ghost use Rattle.std.specs.Prelude.{ℕ, ◌≡◌, ◌+◌, ◌*◌, ◌/◌, ◌<◌, ◌≤◌, length, pos};
 ghost use Rattle.rules.specs.Locks.{is_type, taken, import_lock, export_claim, each, locks_in, claims_in, record_width, listed, moved, import_locks, export_claims, length_of, lock_of};
-ghost use Rattle.rules.specs.Means.{means_done, means_moved};
-ghost use Rattle.posix.specs.Records.{IsWord, as_claim, as_lock, run_refusal, lock_at, claim_at, put_claim, put_lock, verdict, IsFirstBad, records_from, put_from, claim_for, lock_for, refusal_of};
+ghost use Rattle.rules.specs.Means.{means_claim, means_done, means_moved};
+ghost use Rattle.posix.specs.Records.{IsWord, as_lock, run_refusal, lock_at, claim_at, put_claim, put_lock, verdict, IsFirstBad, records_from, put_from, claim_for, lock_for, refusal_of};
 
-use rules::{BadRecord, Refused};
+use rules::{BadRecord, Claim, Refused};
 
 // the numbers to a record
 const WIDTH: usize = 3;
-
-// A claim as it is lent: its first frame, the frame after its last, and its kind.
-#[derive(Clone, Copy)]
-struct Claimed {
-    start: u32,
-    end: u32,
-    kind: u32,
-}
 
 // A lock as it is lent: its type, its start and its signed length.
 #[derive(Clone, Copy)]
@@ -85,25 +77,25 @@ fn word(number: i64) -> u32
 }
 
 // The claim of a lock that is not refused, as reserve's numbers. Its frames are numbers of 32 bits, so that its sums are too.
-fn claim_of(title: u32, one: Locked) -> Claimed
+fn claim_of(title: u32, one: Locked) -> Claim
     requires { refusal_of (import_lock title (as_lock one)) ≡ 0 }
-    ensures { taken (as_claim result) ≡ import_lock title (as_lock one) }
+    ensures { taken (means_claim result) ≡ import_lock title (as_lock one) }
 {
     let start = word(one.start);
     let other = word(one.start + one.span);
     let kind = word(one.lock_type);
     match one.span {
-        ..0 => Claimed {
+        ..0 => Claim {
             start: other,
             end: start,
             kind,
         },
-        0 => Claimed {
+        0 => Claim {
             start,
             end: title,
             kind,
         },
-        1.. => Claimed {
+        1.. => Claim {
             start,
             end: other,
             kind,
@@ -115,8 +107,8 @@ fn claim_of(title: u32, one: Locked) -> Claimed
 
 // the refusal of a claim
 #[tactic(auto, unfolding(rules::specs::Locks::export_claim, rules::specs::Shape::is_kind))]
-fn claim_refusal(title: u32, one: Claimed) -> Result<(), Refused>
-    ensures { means_done result ≡ refusal_of (export_claim title (as_claim one)) }
+fn claim_refusal(title: u32, one: Claim) -> Result<(), Refused>
+    ensures { means_done result ≡ refusal_of (export_claim title (means_claim one)) }
 {
     if one.end <= one.start {
         return Err(Refused::NoFrames);
@@ -131,9 +123,9 @@ fn claim_refusal(title: u32, one: Claimed) -> Result<(), Refused>
 }
 
 // the length of its lock, 0 where it ends at the title's end
-fn length_of(title: u32, one: Claimed) -> i64
+fn length_of(title: u32, one: Claim) -> i64
     requires { one.start ≤ one.end }
-    ensures { result ≡ length_of title (as_claim one) }
+    ensures { result ≡ length_of title (means_claim one) }
 {
     if one.end == title {
         return 0;
@@ -141,9 +133,9 @@ fn length_of(title: u32, one: Claimed) -> i64
     i64::from(one.end - one.start)
 }
 
-fn lock_of(title: u32, one: Claimed) -> Locked
+fn lock_of(title: u32, one: Claim) -> Locked
     requires { one.start ≤ one.end }
-    ensures { as_lock result ≡ lock_of title (as_claim one) }
+    ensures { as_lock result ≡ lock_of title (means_claim one) }
 {
     Locked {
         lock_type: i64::from(one.kind),
@@ -166,21 +158,21 @@ fn lock_at(locks: &[i64], place: usize) -> Locked
     }
 }
 
-fn claim_at(claims: &[u32], place: usize) -> Claimed
+fn claim_at(claims: &[u32], place: usize) -> Claim
     requires { record_width * place + 2 < length claims.now }
-    ensures { as_claim result ≡ claim_at claims.now place }
+    ensures { means_claim result ≡ claim_at claims.now place }
 {
     let at = WIDTH * place;
-    Claimed {
+    Claim {
         start: claims[at],
         end: claims[at + 1],
         kind: claims[at + 2],
     }
 }
 
-fn put_claim(claims: &mut [u32], place: usize, one: Claimed)
+fn put_claim(claims: &mut [u32], place: usize, one: Claim)
     requires { record_width * place + 2 < length claims.old }
-    ensures { claims.new ≡ put_claim claims.old place (as_claim one) }
+    ensures { claims.new ≡ put_claim claims.old place (means_claim one) }
 {
     let at = WIDTH * place;
     claims[at] = one.start;
