@@ -17,7 +17,7 @@ use words::Sound;
 fn has_room<P: Profile>(tables: &Sound<P>, room: usize) -> bool
     ensures { result ≡ (length (holders tables.now) ≤? room) }
 {
-    tables.seat_count() as usize <= room || holders::count(tables) as usize <= room
+    tables.seat_count() as usize <= room || holders::number(tables) as usize <= room
 }
 
 fn put_row(out: &mut [u32], at: usize, row: Row)

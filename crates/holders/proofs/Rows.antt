@@ -4,11 +4,11 @@ use Prim.Native.Nat.{ℕ, zero, suc, ◌+◌, ◌-◌, ◌≤◌, ◌<◌}
 use native.Mathlib.Omega.{arith}
 use native.Mathlib.Numerals.{add-one}
 use mathlib.Core.Bool.{Bool, true, false}
-use mathlib.Core.List.{[], ◌∷◌, ◌++◌, append-nil}
+use mathlib.Core.List.{List, [], ◌∷◌, ◌++◌, append-nil}
 use mathlib.Core.Path.{◌≡◌, refl, sym, ap, ◌∙◌}
 use lib.ListN.{length, length-append}
 use Rattle.rules.specs.Notation.{◌is◌, count}
-use Rattle.rules.specs.Tables.{Tables, seat_count, phase}
+use Rattle.rules.specs.Tables.{Tables, seat_word, seat_count_of, seat_count, phase_at, phase}
 use Rattle.rules.specs.Board.{row_of, rows_below, holders}
 use Rattle.holders.specs.Holding.{holding, held_by}
 
@@ -89,11 +89,18 @@ unfolding holders
 holders_counted t k e = e ∙ sym (rows_counted t (seat_count t))
 
 -- ---- `count`, seat by seat
-module _ (t : Tables) (s found : ℕ) (sofar : found ≡ holding t.sheet t.seats s) (b : Bool) (is_held : b ≡ (phase t s is 5)) where
-  pub holding_more : b ≡ true → found + 1 ≡ holding t.sheet t.seats (s + 1)
+module _ (sheet : Bool) (seats : List ℕ) (s found : ℕ) (sofar : found ≡ holding sheet seats s) (b : Bool) (is_held : b ≡ (seat_word sheet seats s phase_at is 5)) where
+  pub holding_more : b ≡ true → found + 1 ≡ holding sheet seats (s + 1)
   unfolding holding count
   holding_more e = rw (add-one s, sym is_held ∙ e) (ap (λ (m : ℕ). m + 1) sofar)
 
-  pub holding_same : b ≡ false → found ≡ holding t.sheet t.seats (s + 1)
+  pub holding_same : b ≡ false → found ≡ holding sheet seats (s + 1)
   unfolding holding count
   holding_same e = rw (add-one s, sym is_held ∙ e) (sofar ∙ omega arith)
+
+-- ---- `number`: of the whole table, whose profile is known by its type
+pub all_seats : (t : Tables) (sheet : Bool) (seats : List ℕ) (n : ℕ) → seats ≡ t.seats → t.sheet ≡ sheet → n ≡ seat_count t → n ≤ seat_count_of sheet seats
+all_seats t sheet seats n p q e = rw (p, ← q, ← e) (omega arith)
+
+pub all_counted : (t : Tables) (sheet : Bool) (seats : List ℕ) (n k : ℕ) → seats ≡ t.seats → t.sheet ≡ sheet → n ≡ seat_count t → k ≡ holding sheet seats n → k ≡ holding t.sheet t.seats (seat_count t)
+all_counted t sheet seats n k p q e w = w ∙ rw (p, ← q, e)

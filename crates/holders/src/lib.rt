@@ -2,9 +2,9 @@
 // them. A holder of sound tables owns a node of the table, so no read is tested.
 #![tactic(auto)]
 
-ghost use Rattle.std.specs.Prelude.{◌≡◌, ◌<◌};
+ghost use Rattle.std.specs.Prelude.{◌≡◌, ◌<◌, ◌≤◌, []};
 ghost use Rattle.rules.specs.Notation.{◌is◌};
-ghost use Rattle.rules.specs.Tables.{seat_count, phase};
+ghost use Rattle.rules.specs.Tables.{tables, seat_count_of, seat_count, phase};
 ghost use Rattle.rules.specs.Board.{row_of, covered_by};
 ghost use Rattle.rules.specs.Board as rule;
 ghost use Rattle.rules.specs.Apart.{Holds};
@@ -22,17 +22,32 @@ pub fn holds<P: Profile>(tables: &Sound<P>, s: u32) -> bool
     tables.seat_word(s, words::PHASE) == 5
 }
 
-// how many seats hold
-pub fn count<P: Profile>(tables: &Sound<P>) -> u32
-    ensures { result ≡ holding tables.now.sheet tables.now.seats (seat_count tables.now) }
+fn holds_in<P: Profile>(seats: &[u32], s: u32) -> bool
+    requires { s < seat_count_of P.SHEET seats.now }
+    ensures { result ≡ (phase (tables P.SHEET [] seats.now) s is 5) }
+{
+    words::seat_word_within::<P>(seats, s, words::PHASE) == 5
+}
+
+// how many of the first seats hold, of any table of seats
+pub fn count<P: Profile>(seats: &[u32], below: u32) -> u32
+    requires { below ≤ seat_count_of P.SHEET seats.now }
+    ensures { result ≡ holding P.SHEET seats.now below }
 {
     let mut found: u32 = 0;
-    for s in 0..tables.seat_count() {
-        if holds(tables, s) {
+    for s in 0..below {
+        if holds_in::<P>(seats, s) {
             found += 1;
         }
     }
     found
+}
+
+// how many seats hold
+pub fn number<P: Profile>(tables: &Sound<P>) -> u32
+    ensures { result ≡ holding tables.now.sheet tables.now.seats (seat_count tables.now) }
+{
+    count::<P>(tables.seats(), tables.seat_count())
 }
 
 // the row of a holder

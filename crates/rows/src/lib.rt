@@ -32,7 +32,7 @@ pub fn show<P: Profile>(rows: &mut [Row], nodes: &[u32], seats: &[u32]) -> Resul
         return Err(Refused::Damaged);
     }
     let tables = Sound::<P>::tables(nodes, seats);
-    let count = holders::count(&tables);
+    let count = holders::number(&tables);
     if rows.len() < count as usize {
         return Err(Refused::NoRoom);
     }

@@ -433,6 +433,14 @@ impl<'a, P: Profile> Sound<'a, P> {
         let _ = &self.nodes;
     }
 
+    // the table of the seats as it is lent, for what asks nothing of it
+    pub fn seats(&self) -> &'a [u32]
+        ensures words { result.now ≡ self.now.seats }
+        ensures profile { self.now.sheet ≡ P.SHEET }
+    {
+        self.seats
+    }
+
     pub fn node_count(&self) -> usize
         ensures { result ≡ table.node_count self.now }
     {

@@ -5,4 +5,4 @@ use Rattle.holders.specs.Holding.{holding}
 use Rattle.holders.proofs.count.Given as goal
 
 abbrev pub invariant-loop-s : goal.invariant-loop-s
-invariant-loop-s g l = (l.found ≤ l.s) × (l.found ≡ holding l.tables.sheet l.tables.seats l.s)
+invariant-loop-s g l = (l.found ≤ l.s) × (l.found ≡ holding g.P.Profile.SHEET l.seats l.s)
