@@ -20,7 +20,7 @@ ghost use Rattle.boundary.specs.Encoded.{halves, halves_of, encode, encode_count
 use replies::Said;
 use rules::{BadRecord, Claim, Filled, Line, Moved, Ordinary, Ran, Refused, Reply, Script, Sheet};
 
-// ---- answers as numbers
+// ---- answers as numbers, by functions and no `From`: neither type is this crate's
 
 fn joined(upper: u32, lower: u32) -> u64
     ensures { halves_of result ≡ halves upper lower }
@@ -87,7 +87,7 @@ fn tell_board(answer: Result<Filled, Refused>, covered: &mut u64) -> u64
     }
 }
 
-// of import and export; no `From`, since neither type is this crate's
+// of import and export
 fn moved(answer: Result<(), BadRecord>) -> Moved
     ensures { result ≡ means_moved answer }
 {

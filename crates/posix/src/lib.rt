@@ -224,6 +224,7 @@ fn put_claims(title: u32, locks: &[i64], claims: &mut [u32])
     }
 }
 
+// Import and export stay two: what they look at, refuse and store is of two kinds, and a promise for both would name each.
 pub fn import(title: u32, locks: &[i64], claims: &mut [u32]) -> Result<(), BadRecord>
     ensures { listed (means_moved result) claims.new ≡ import_locks title locks.now claims.old }
 {

@@ -13,6 +13,7 @@ fn read_full<R: Read>(reader: &mut R, buf: &mut [u8]) -> io::Result<usize>
     ensures { IfOk result (λ n. n ≤ length buf.new) }
 {
     let mut n = 0;
+    // a reader gives as many bytes at a time as it likes, so no range is known beforehand
     while n < buf.len() {
         let more = reader.read(&mut buf[n..])?;
         if more == 0 {

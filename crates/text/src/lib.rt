@@ -1,4 +1,5 @@
-// Text onto a lent page, and the lines that the program prints. A byte that finds no room is left out, so every method is total.
+// Text onto a lent page, and the lines that the program prints. A byte that finds no room is left out, so every method is total. It is written out and not
+// left to `Display`: the promise of `playing::play` is of every byte, and nothing is promised of what `write!` leaves in a lent buffer.
 #![tactic(auto)]
 
 ghost use Rattle.std.specs.Prelude.{◌≡◌, ◌+◌, ◌<◌, ◌≤◌, [], ◌∷◌, ◌++◌, length};
