@@ -37,7 +37,7 @@ number_of NoSuchRun = 12
 number_of UnknownType = 13
 number_of NotReserved = 14
 
--- "or the number of the refusal": what is done in place of an answer of its own
+-- refused, a call "returns only its number": that stands for the answer of its own that it then has not
 abbrev pub means : Result Reply Refused → Answer
 means (Ok (Node n)) = node n
 means (Ok Out) = out
@@ -63,12 +63,13 @@ number_or_0 (Some why) = number_of why
 abbrev pub means_run : Ran → run.Ran
 means_run r = run.ran r.steps (number_or_0 r.refusal)
 
--- of a call that gives nothing back where it is accepted: 0, or the number of its refusal
+-- "An accepted call with no other stated answer returns 0"; refused, it returns the number of its refusal
 abbrev pub means_done : Result (Unit {0}) Refused → ℕ
 means_done (Ok _) = 0
 means_done (Err why) = number_of why
 
--- "refusal 10 and the line, or N, S, K, the title's frame count and the rows"
+-- "Script reading gives N, S, K and 1,000 rows by value", and by 02 (iii) the title's frame count; of a script that is not well formed its number
+-- and "also the line"
 abbrev pub means_script : Result Script Wrong → script.Script
 means_script (Ok read) = record { refusal = 0; wrong = 0; n = read.n; s = read.s; k = read.k; title = read.title; rows = read.rows }
 means_script (Err bad) = script.bad_at bad.line
@@ -82,7 +83,7 @@ means_moved (Err bad) = moved (number_of bad.why) bad.place
 abbrev pub means_claim : Claim → comparison.Claim
 means_claim c = comparison.claim c.start c.end c.kind
 
--- "Node 0 is no node": where the rules say 0, there is none
+-- "Nodes are numbered 1 to N": where the rules say 0, there is none
 unfoldable pub node_if_any : ℕ → Option ℕ
 node_if_any zero = None
 node_if_any (suc m) = Some (suc m)

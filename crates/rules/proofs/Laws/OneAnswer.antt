@@ -220,7 +220,7 @@ one_done promised r r' t t' p q =
 pub one_script : (promised : reading.Script) (r r' : Result Script Wrong) → means_script r ≡ promised → means_script r' ≡ promised → r ≡ r'
 one_script promised r r' p q = sym (script_back r) ∙ ap script_of (p ∙ sym q) ∙ script_back r'
 
--- what a call leaves is the words of both tables, where their profile is among its arguments
+-- what a call leaves is the words of both tables: of which profile they are stands in the call's type
 abbrev pub both : List ℕ → List ℕ → List ℕ × List ℕ
 both nodes seats = (nodes, seats)
 
