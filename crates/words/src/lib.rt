@@ -479,4 +479,13 @@ impl<'a, P: Profile> Sound<'a, P> {
     {
         link::<P>(self.nodes, a)
     }
+
+    // the next of a node that there is: a walk has asked that already, so it pays for no test
+    pub fn next(&self, a: u32) -> u32
+        requires is_node { a ≡ 0 → ⊥ }
+        requires has_node { a ≤ table.node_count self.now }
+        ensures { result ≡ table.link self.now a }
+    {
+        next_within::<P>(self.nodes, a)
+    }
 }
