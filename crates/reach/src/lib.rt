@@ -35,7 +35,7 @@ fn reach<P: Profile>(tables: &Sound<P>, used: &mut NodeSet, hops: usize, a: u32)
     if hops == 1 {
         return;
     }
-    reach(tables, used, hops - 1, tables.link(a));
+    reach(tables, used, hops - 1, tables.next(a));
 }
 
 fn reach_seat<P: Profile>(tables: &Sound<P>, used: &mut NodeSet, hops: usize, r: u32)
@@ -82,7 +82,7 @@ fn kept_set<P: Profile>(tables: &Sound<P>) -> NodeSet
         if tables.node_word(cur, words::MARK) != 1 {
             listed.join(cur);
         }
-        cur = tables.link(cur);
+        cur = tables.next(cur);
     }
     listed
 }

@@ -16,7 +16,7 @@ reach-requires g t c =
       omega (arith, c.requires.some_hops),
       (
         outlives,
-        (next_small lent.sheet lent.nodes _ _ (links_within lent.sheet lent.nodes lent.seats c.are_sound.ensures) c.link.ensures, hops_left _ c.requires.some_hops c.if-hops-eq1.false),
+        (next_small lent.sheet lent.nodes _ _ (links_within lent.sheet lent.nodes lent.seats c.are_sound.ensures) c.next.ensures, hops_left _ c.requires.some_hops c.if-hops-eq1.false),
       ),
     )
 

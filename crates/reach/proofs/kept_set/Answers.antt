@@ -30,10 +30,10 @@ pub loop-preserved : goal.loop-preserved
 loop-preserved g c =
     let lent = c.args.tables.now in
     let gathered = c.loop.invariant.1 in (
-      next_small lent.sheet lent.nodes _ _ (links_within lent.sheet lent.nodes lent.seats c.are_sound.ensures) c.link-cur-in-loop.ensures,
+      next_small lent.sheet lent.nodes _ _ (links_within lent.sheet lent.nodes lent.seats c.are_sound.ensures) c.next-cur.ensures,
       elim c.if-node_word-ne1.branch [
-        | then-node_word-ne1 w ↦ kept_join _ _ _ _ _ _ gathered c.loop-test.true c.if-cur-eq0.false _ _ c.link-cur-in-loop.ensures c.node_word.ensures _ (w.listed-is ∙ w.join.ensures.1) w.if-node_word-ne1.true
-        | else-node_word-ne1 w ↦ rw w.listed-is (kept_skip _ _ _ _ _ _ gathered c.loop-test.true c.if-cur-eq0.false _ _ c.link-cur-in-loop.ensures c.node_word.ensures (search rules))
+        | then-node_word-ne1 w ↦ kept_join _ _ _ _ _ _ gathered c.loop-test.true c.if-cur-eq0.false _ _ c.next-cur.ensures c.node_word.ensures _ (w.listed-is ∙ w.join.ensures.1) w.if-node_word-ne1.true
+        | else-node_word-ne1 w ↦ rw w.listed-is (kept_skip _ _ _ _ _ _ gathered c.loop-test.true c.if-cur-eq0.false _ _ c.next-cur.ensures c.node_word.ensures (search rules))
       ],
     )
 
