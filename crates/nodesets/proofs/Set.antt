@@ -148,6 +148,9 @@ count_more ws i total c p q =
     (sym (count_split (64 * i) 64 (λ m. has ws (m + 1))
     ∙ ap (λ (n : ℕ). count (64 * i) (λ m. has ws (m + 1)) + n) (count_alike 64 (λ j. has ws (64 * i + j + 1)) (in_word (get_or ws i 0)) (has_at ws i))))
 
+pub count_done : (ws : List ℕ) (i total : ℕ) → total ≡ members ws (64 * i) → i ≤ 4 → 4 ≤ i → total ≡ members ws 256
+count_done ws i total p h b = let e : i ≡ 4 = omega arith in rw e at p
+
 -- the ones of the four words are the nodes of the set
 pub members_ones : (ws : List ℕ) → length ws ≡ 4 → ((i : ℕ) → get_or ws i 0 < 18446744073709551616) → sum_by ones ws ≡ members ws 256
 members_ones (a ∷ b ∷ c ∷ d ∷ []) l fits = more 3 _ (more 2 _ (more 1 _ (more 0 0 (sym (members_none _)))))

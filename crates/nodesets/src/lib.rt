@@ -56,6 +56,21 @@ impl NodeSet {
         NodeSet { words: [0; 4] }
     }
 
+    // Any four words are a set, so whoever holds four has one.
+    pub fn from_words(words: [u64; 4]) -> NodeSet
+        ensures { result ≡ words }
+    {
+        Self { words }
+    }
+
+    // The four words again, for whoever keeps or reads them as words.
+    pub fn words(self) -> [u64; 4]
+        ensures { result ≡ self }
+    {
+        let NodeSet { words } = self;
+        words
+    }
+
     // Node a joins the set. The answer says whether it was in it before.
     pub fn join(&mut self, a: u32) -> bool
         requires is_node { a ≢ 0 }
