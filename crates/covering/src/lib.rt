@@ -5,13 +5,13 @@
 
 ghost use Rattle.std.specs.Prelude.{◌≡◌, ◌+◌, ◌≤◌, ◌<◌, [], length};
 ghost use Rattle.rules.specs.Board.{covered_by};
-ghost use Rattle.covering.specs.Runs.{first_of, end_of, CoversOneMore};
+ghost use Rattle.covering.specs.Runs.{first_of, end_of, rows_in, Ordered, CoversOneMore};
 ghost use Rattle.covering.specs.Moving.{up_from, down_from, Lower, Higher, Ends, Put};
 
 use std::marker::Model;
 
 // So many runs, count of them, from the place low on. A clause sees the rows of the board that they would be.
-#[derive(Drop)]
+#[derive(Clone, Drop)]
 pub struct Runs {
     places: [u64; 128],
     low: usize,
@@ -30,6 +30,14 @@ impl Model for Runs {
     ghost invariant = { λ runs. Ordered runs.places runs.low runs.count };
 }
 
+// Runs with their places to be seen, for a caller that keeps the places itself.
+#[derive(Clone, Copy)]
+pub struct Placed {
+    pub places: [u64; 128],
+    pub low: usize,
+    pub count: usize,
+}
+
 impl Runs {
     pub fn none() -> Runs
         ensures { result ≡ [] }
@@ -38,6 +46,28 @@ impl Runs {
             places: [0; 128],
             low: 64,
             count: 0,
+        }
+    }
+
+    // Places in order are runs, whoever put them there.
+    pub fn placed(places: [u64; 128], low: usize, count: usize) -> Runs
+        requires { Ordered places low count }
+        ensures same { result ≡ rows_in places low count }
+        ensures all { length result ≡ count }
+    {
+        Runs { places, low, count }
+    }
+
+    // The places again: a clause sees the rows alone, so a caller that keeps places is told here what holds of them.
+    pub fn in_places(&self) -> Placed
+        ensures ordered { Ordered result.places result.low result.count }
+        ensures same { rows_in result.places result.low result.count ≡ self.now }
+        ensures all { result.count ≡ length self.now }
+    {
+        Placed {
+            places: self.places,
+            low: self.low,
+            count: self.count,
         }
     }
 
