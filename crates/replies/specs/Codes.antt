@@ -16,14 +16,23 @@ said code number run = record { code = code; number = number; run = run }
 abbrev pub said_plainly : ℕ → ℕ → Said
 said_plainly code number = said code number None
 
+-- of an answer, its refusal by any number
+abbrev pub said_by : Result Reply ℕ → Said
+said_by (Err number) = said_plainly 0 number
+said_by (Ok (Node n)) = said_plainly 1 n
+said_by (Ok Out) = said_plainly 2 0
+said_by (Ok On) = said_plainly 3 0
+said_by (Ok (Wait n first end)) = said 4 n (Some (record { first = first; end = end }))
+said_by (Ok Held) = said_plainly 5 0
+said_by (Ok Back) = said_plainly 6 0
+
+-- the refusals of 01 and 02, each by its number
+abbrev pub by_number : Result Reply Refused → Result Reply ℕ
+by_number (Err why) = Err (number_of why)
+by_number (Ok reply) = Ok reply
+
 abbrev pub said_of : Result Reply Refused → Said
-said_of (Err why) = said_plainly 0 (number_of why)
-said_of (Ok (Node n)) = said_plainly 1 n
-said_of (Ok Out) = said_plainly 2 0
-said_of (Ok On) = said_plainly 3 0
-said_of (Ok (Wait n first end)) = said 4 n (Some (record { first = first; end = end }))
-said_of (Ok Held) = said_plainly 5 0
-said_of (Ok Back) = said_plainly 6 0
+said_of reply = said_by (by_number reply)
 
 -- a wait at n, of a run; without one it would be no wait
 abbrev pub wait_of : ℕ → Option SharedRun → Answer

@@ -3,7 +3,7 @@
 
 ghost use Rattle.std.specs.Prelude.{◌≡◌};
 ghost use Rattle.rules.specs.Means.{number_of};
-ghost use Rattle.replies.specs.Codes.{said_plainly, said_of};
+ghost use Rattle.replies.specs.Codes.{said_plainly, said_by, said_of};
 
 use rules::{Refused, Reply, SharedRun};
 
@@ -33,22 +33,29 @@ fn plain(code: u32, number: u32) -> Said
     }
 }
 
+// An answer, its refusal by any number: one from elsewhere may be none of the 14 that `Refused` names.
+pub fn say(reply: Result<Reply, u32>) -> Said
+    ensures { result ≡ said_by reply }
+{
+    match reply {
+        Err(number) => plain(0, number),
+        Ok(Reply::Node(n)) => plain(1, n),
+        Ok(Reply::Out) => plain(2, 0),
+        Ok(Reply::On) => plain(3, 0),
+        Ok(Reply::Wait(n, first, end)) => Said {
+            code: 4,
+            number: n,
+            run: Some(SharedRun { first, end }),
+        },
+        Ok(Reply::Held) => plain(5, 0),
+        Ok(Reply::Back) => plain(6, 0),
+    }
+}
+
 impl From<Result<Reply, Refused>> for Said {
     ghost from_gives = { λ reply said. said ≡ said_of reply };
 
     fn from(reply: Result<Reply, Refused>) -> Said {
-        match reply {
-            Err(why) => plain(0, number(why)),
-            Ok(Reply::Node(n)) => plain(1, n),
-            Ok(Reply::Out) => plain(2, 0),
-            Ok(Reply::On) => plain(3, 0),
-            Ok(Reply::Wait(n, first, end)) => Said {
-                code: 4,
-                number: n,
-                run: Some(SharedRun { first, end }),
-            },
-            Ok(Reply::Held) => plain(5, 0),
-            Ok(Reply::Back) => plain(6, 0),
-        }
+        say(reply.map_err(number))
     }
 }
