@@ -34,10 +34,10 @@ by_number (Ok reply) = Ok reply
 abbrev pub said_of : Result Reply Refused → Said
 said_of reply = said_by (by_number reply)
 
--- a wait at n, of a run; without one it would be no wait
+-- a wait at n, of a run; 0 where there is none
 abbrev pub wait_of : ℕ → Option SharedRun → Answer
 wait_of n (Some run) = wait n run.first run.end
-wait_of n None = refused n
+wait_of n None = wait n 0 0
 
 unfoldable pub answer_by : Said → Answer
 answer_by s =
