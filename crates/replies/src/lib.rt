@@ -1,9 +1,9 @@
-// An answer as numbers: for callers that print it, or hand it on to those that know no enums.
+// An answer as numbers, and back: for callers that print it, or hand it on to those that know no enums.
 #![tactic(auto)]
 
 ghost use Rattle.std.specs.Prelude.{◌≡◌};
 ghost use Rattle.rules.specs.Means.{number_of};
-ghost use Rattle.replies.specs.Codes.{said_plainly, said_by, said_of};
+ghost use Rattle.replies.specs.Codes.{said_plainly, said_by, said_of, answer_by};
 
 use rules::{Refused, Reply, SharedRun};
 
@@ -57,5 +57,27 @@ impl From<Result<Reply, Refused>> for Said {
 
     fn from(reply: Result<Reply, Refused>) -> Said {
         say(reply.map_err(number))
+    }
+}
+
+impl Said {
+    // The answer that the numbers stand for, whoever made them: a wait with no run is one with 0 for both of its frames, and a code that is none of these
+    // refuses.
+    #[tactic(auto, using(crate::proofs::Codes::refused_other), unfolding(crate::specs::Codes::answer_by))]
+    pub fn answer(self) -> Result<Reply, u32>
+        ensures { answer_by (said_by result) ≡ answer_by self }
+    {
+        match self.code {
+            1 => Ok(Reply::Node(self.number)),
+            2 => Ok(Reply::Out),
+            3 => Ok(Reply::On),
+            4 => match self.run {
+                Some(run) => Ok(Reply::Wait(self.number, run.first, run.end)),
+                None => Ok(Reply::Wait(self.number, 0, 0)),
+            },
+            5 => Ok(Reply::Held),
+            6 => Ok(Reply::Back),
+            _ => Err(self.number),
+        }
     }
 }

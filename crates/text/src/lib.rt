@@ -3,12 +3,14 @@
 #![tactic(auto)]
 
 ghost use Rattle.std.specs.Prelude.{◌≡◌, ◌+◌, ◌<◌, ◌≤◌, [], ◌∷◌, ◌++◌, length};
-ghost use Rattle.rules.specs.Answers.{wait};
+ghost use Rattle.rules.specs.Answers.{wait, refused};
 ghost use Rattle.rules.specs.Means.{means};
 ghost use Rattle.rules.specs.Play.{ascii, decimal, answer_text, row_text};
+ghost use Rattle.replies.specs.Codes.{said_by, answer_by};
 ghost use Rattle.text.specs.Page.{Prints};
 ghost use Rattle.text.specs.Lines.{answer_line};
 
+use replies::Said;
 use rules::{Refused, Reply, Row};
 
 // A page: a lent buffer, and the place where the next byte goes.
@@ -95,8 +97,17 @@ impl Page<'_> {
         self.put_next(end);
     }
 
-    fn put_answer(&mut self, answer: Result<Reply, Refused>)
-        ensures is_printed { Prints self.old self.new (answer_text (means answer)) }
+    // `no n`
+    fn put_refusal(&mut self, number: u32)
+        ensures is_printed { Prints self.old self.new (answer_text (refused number)) }
+        ensures at_most { self.new.at ≤ self.old.at + 13 }
+    {
+        self.put_named(b"no ", number as u64);
+    }
+
+    // an answer, its refusal by any number
+    fn put_answer(&mut self, answer: Result<Reply, u32>)
+        ensures is_printed { Prints self.old self.new (answer_text (answer_by (said_by answer))) }
         ensures at_most { self.new.at ≤ self.old.at + 37 }
     {
         match answer {
@@ -106,8 +117,18 @@ impl Page<'_> {
             Ok(Reply::Wait(n, first, end)) => self.put_wait(n, first, end),
             Ok(Reply::Held) => self.put_text(b"held"),
             Ok(Reply::Back) => self.put_text(b"back"),
-            Err(why) => self.put_named(b"no ", replies::number(why) as u64),
+            Err(number) => self.put_refusal(number),
         }
+    }
+
+    fn put_call(&mut self, number: u32, answer: Result<Reply, u32>)
+        ensures is_printed { Prints self.old self.new (answer_line number (answer_by (said_by answer))) }
+        ensures at_most { number < 10000 → self.new.at ≤ self.old.at + 43 }
+    {
+        self.put_number(number as u64);
+        self.put_byte(b' ');
+        self.put_answer(answer);
+        self.put_byte(b'\n');
     }
 
     // A call's line: its number and its answer. No script has 10,000 calls.
@@ -115,9 +136,14 @@ impl Page<'_> {
         ensures is_printed { Prints self.old self.new (answer_line number (means answer)) }
         ensures at_most { number < 10000 → self.new.at ≤ self.old.at + 43 }
     {
-        self.put_number(number as u64);
-        self.put_byte(b' ');
-        self.put_answer(answer);
-        self.put_byte(b'\n');
+        self.put_call(number, answer.map_err(replies::number));
+    }
+
+    // The same of an answer as numbers, whoever made them.
+    pub fn put_said(&mut self, number: u32, said: Said)
+        ensures is_printed { Prints self.old self.new (answer_line number (answer_by said)) }
+        ensures at_most { number < 10000 → self.new.at ≤ self.old.at + 43 }
+    {
+        self.put_call(number, said.answer());
     }
 }
