@@ -1,4 +1,4 @@
--- N, S, K and the title of a script that is read are within their bounds, and there are 1,000 rows, whatever the bytes.
+-- N, S, K and the title of what is read are within their bounds, and there are 1,000 rows, whatever the bytes.
 use Rattle.std.specs.Prelude.{Some, Ok, if◌then◌else◌}
 use Prim.Native.Nat.{ℕ, zero, suc, ◌+◌, ◌≤◌}
 use native.Mathlib.Omega.{arith}
@@ -12,10 +12,9 @@ use Rattle.rules.specs.declared.Line.{Line}
 use Rattle.rules.specs.declared.Contents.{Contents}
 use Rattle.rules.specs.declared.Script.{Script}
 use Rattle.rules.specs.Means.{means_script}
-use Rattle.rules.specs.Script as reading
 use Rattle.rules.specs.Script.{nowhere, no_line, no_lines, body_at, in_bounds, contents_of, bad_at, good_script, bodies_from, read_script}
 use Rattle.rules.proofs.Ground.Logic.{all6, branch}
-use Rattle.script.specs.Bounded.{Bounded}
+use Rattle.script.specs.Bounded.{Bounded, ReadOrRefused}
 use Rattle.script.specs.There.{contents_there}
 use Rattle.script.proofs.Reading.{found_it}
 
@@ -53,45 +52,62 @@ contents_bounded src h = in_bounds_law _ _ _ _ _ _ _ refl h
 pub contents_calls : (src : List ℕ) (top : Contents) → Some top ≡ contents_there src (contents_of src) → top.k ≤ 1000
 contents_calls src top e = let w = found_it src _ _ top e in rw w.0 (contents_bounded src w.1).calls
 
--- ---- a script that is not refused is within its bounds
-abbrev Within : reading.Script → Type 0
-Within s = s.refusal ≡ 0 → Top s.n s.s s.k s.title × (length s.rows ≡ 1000)
+-- ---- what is read of any bytes
+no_lines_length : length no_lines ≡ 1000
+no_lines_length = length-replicate 1000 no_line
 
-bad_within : (wrong : ℕ) → Within (bad_at wrong)
+bad_within : (wrong : ℕ) → ReadOrRefused (bad_at wrong)
 unfolding bad_at
-bad_within wrong e = absurd (omega arith)
+bad_within wrong = record {
+  nodes = omega arith;
+  seats = omega arith;
+  calls = omega arith;
+  rows = no_lines_length;
+  some_nodes = λ e. absurd (omega arith);
+  some_seats = λ e. absurd (omega arith);
+  some_frames = λ e. absurd (omega arith);
+}
 
-good_within : (top : Contents) (rows : List Line) → Right top → length rows ≡ 1000 → Within (good_script top rows)
+good_within : (top : Contents) (rows : List Line) → Right top → length rows ≡ 1000 → ReadOrRefused (good_script top rows)
 unfolding good_script
-good_within top rows h e z = (h, e)
+good_within top rows h e = record {
+  nodes = h.nodes;
+  seats = h.seats;
+  calls = h.calls;
+  rows = e;
+  some_nodes = λ z. h.some_nodes;
+  some_seats = λ z. h.some_seats;
+  some_frames = λ z. h.some_frames;
+}
 
-bodies_within : (src : List ℕ) (top : Contents) (left i at : ℕ) (rows : List Line) → Right top → length rows ≡ 1000 → Within (bodies_from src top left i at rows)
+bodies_within : (src : List ℕ) (top : Contents) (left i at : ℕ) (rows : List Line) → Right top → length rows ≡ 1000 → ReadOrRefused (bodies_from src top left i at rows)
 unfolding bodies_from
 bodies_within src top zero i at rows h e =
-    branch Within (at is length src) (λ f. good_within top rows h e) (λ f. bad_within (i + 2))
+    branch ReadOrRefused (at is length src) (λ f. good_within top rows h e) (λ f. bad_within (i + 2))
 bodies_within src top (suc left) i at rows h e =
-    branch Within ((body_at src at).next is nowhere src) (λ f. bad_within (i + 2))
+    branch ReadOrRefused ((body_at src at).next is nowhere src) (λ f. bad_within (i + 2))
     (λ f. bodies_within src top left (i + 1) (body_at src at).next (set rows i (body_at src at).line) h (length-set rows i (body_at src at).line ∙ e))
 
-read_within : (src : List ℕ) → Within (read_script src)
+pub read_or_refused : (src : List ℕ) → ReadOrRefused (read_script src)
 unfolding read_script
-read_within src =
-    branch Within (16384 <? length src) (λ f. bad_within 0)
-    (λ f. branch Within ((contents_of src).next is nowhere src) (λ f. bad_within 1)
-    (λ f. bodies_within src (contents_of src) _ _ _ _ (contents_bounded src (eqb-false (contents_of src).next (nowhere src) f)) (length-replicate 1000 no_line)))
+read_or_refused src =
+    branch ReadOrRefused (16384 <? length src) (λ f. bad_within 0)
+    (λ f. branch ReadOrRefused ((contents_of src).next is nowhere src) (λ f. bad_within 1)
+    (λ f. bodies_within src (contents_of src) _ _ _ _ (contents_bounded src (eqb-false (contents_of src).next (nowhere src) f)) no_lines_length))
 
 pub read_rows : (src : List ℕ) → (read_script src).refusal ≡ 0 → length (read_script src).rows ≡ 1000
-read_rows src e = (read_within src e).1
+read_rows src e = (read_or_refused src).rows
 
+-- ---- a script that is not refused, as the code gives it
 pub read_bounded : (src : List ℕ) (script : Script) → means_script (Ok script) ≡ read_script src → Bounded script
 read_bounded src script e =
-    let w = subst Within (sym e) (read_within src) refl in
+    let w = subst ReadOrRefused (sym e) (read_or_refused src) in
     record {
-      nodes = w.0.nodes;
-      seats = w.0.seats;
-      calls = w.0.calls;
-      rows = w.1;
-      some_nodes = w.0.some_nodes;
-      some_seats = w.0.some_seats;
-      some_frames = w.0.some_frames;
+      nodes = w.nodes;
+      seats = w.seats;
+      calls = w.calls;
+      rows = w.rows;
+      some_nodes = w.some_nodes refl;
+      some_seats = w.some_seats refl;
+      some_frames = w.some_frames refl;
     }

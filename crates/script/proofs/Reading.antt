@@ -408,6 +408,9 @@ module _ {A : Type 0} (o : Option A) (w : Wrong) where
       go (Some b) h = cc
 
 -- ---- the bodies: what is still to be read gives the whole, q
+pub bodies_start : (src : List ℕ) (top : Contents) (at : ℕ) (rows : List Line) (k : ℕ) → bodies_from src top (k - 0) 0 at rows ≡ bodies_from src top k 0 at rows
+bodies_start src top at rows k = let f : k - 0 ≡ k = omega arith in rw f
+
 module _ (q : Script) (src : List ℕ) (top : Contents) (i at : ℕ) (rows : List Line) (k : ℕ) (rest : bodies_from src top (k - i) i at rows ≡ q) where
   module _ (more : i < k) where
     one_more : k - i ≡ suc (k - (i + 1))
