@@ -1,9 +1,10 @@
 -- The list, node by node: what is still to be listed, on the page so far, gives the whole.
 use Prim.Native.Nat.{ℕ, zero, suc}
-use mathlib.Core.List.{◌++◌}
-use mathlib.Core.Path.{◌≡◌}
+use mathlib.Core.List.{List, ◌++◌}
+use mathlib.Core.Path.{◌≡◌, refl}
+use mathlib.Core.Bool.{false}
 use borrow.Author.Tests.{eq-eqb, ne_eqb}
-use Rattle.rules.specs.Tables.{Tables, link, node_count}
+use Rattle.rules.specs.Tables.{Tables, tables, link, link_word, node_count}
 use Rattle.rules.specs.Reach.{nodes_from, list_of}
 use Rattle.rules.specs.Play.{ascii, decimal, numbers_text, list_text}
 use Rattle.text.specs.Page.{Page, page_of, puts, Prints}
@@ -27,6 +28,16 @@ module _ (t : Tables) (whole p : Page) (left a : ℕ) (rest : puts p (numbers_te
   pub listed_all : left ≡ 0 → p ≡ whole
   unfolding nodes_from numbers_text puts
   listed_all e = rw e at rest
+
+-- seats do not matter to the list
+nodes_from_nodes : (nodes seats other : List ℕ) (left a : ℕ) → nodes_from left (tables false nodes seats) a ≡ nodes_from left (tables false nodes other) a
+unfolding nodes_from
+nodes_from_nodes nodes seats other zero a = refl
+nodes_from_nodes nodes seats other (suc left) a = rw (nodes_from_nodes nodes seats other left (link_word false nodes a))
+
+pub list_of_nodes : (nodes seats other : List ℕ) → list_text (tables false nodes seats) ≡ list_text (tables false nodes other)
+unfolding list_text list_of
+list_of_nodes nodes seats other = rw (nodes_from_nodes nodes seats other)
 
 pub list_is : (t : Tables) (p q r s : Lent) (n h : ℕ) → Prints p q (ascii "list") → Prints q r (numbers_text (nodes_from n t h)) → Prints r s (ascii "\n") → n ≡ node_count t → h ≡ link t 0 → Prints p s (list_text t)
 unfolding list_text list_of
