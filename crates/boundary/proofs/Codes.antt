@@ -16,7 +16,7 @@ use Rattle.rules.specs.Answers.{Answer, Done, done}
 use Rattle.rules.specs.FreeCount.{Counted}
 use Rattle.rules.specs.Board.{Boarded, Shown, shown}
 use Rattle.std.specs.Prelude.{Option, None, Some, Result, Ok, Err}
-use Rattle.rules.specs.Means.{means, means_count, means_board, means_run, means_script}
+use Rattle.rules.specs.Means.{number_of, means, means_count, means_board, means_run, means_script}
 use Rattle.rules.specs.declared.Refused.{Refused}
 use Rattle.rules.specs.declared.Reply.{Reply}
 use Rattle.rules.specs.declared.Reply.TheVariants.{Node, Out, On, Wait, Held, Back}
@@ -96,6 +96,12 @@ pub step_told_is : (d : Done Answer) (r : Result Reply Refused) (t : Tables) (l 
 step_told_is d r t l l' h e f q = rw (e, f, ← q)
 
 -- ---- the other answers
+pub count_is : (r : Result ℕ Refused) (k : ℕ) (h : Halves) → h ≡ halves 1 k → r ≡ Ok k → h ≡ encode_count (means_count r)
+count_is r k h p q = rw (q, p)
+
+pub count_refused_is : (r : Result ℕ Refused) (why : Refused) (h : Halves) → h ≡ halves 0 (number_of why) → r ≡ Err why → h ≡ encode_count (means_count r)
+count_refused_is r why h p q = rw (q, p)
+
 pub counted_is : (d : Counted) (r : Result ℕ Refused) (h : Halves) → h ≡ encode_count (means_count r) → means_count r ≡ d → h ≡ encode_count d
 counted_is d r h p q = rw (p, q)
 
