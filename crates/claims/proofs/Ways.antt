@@ -7,8 +7,12 @@ use mathlib.Core.Logic.{◌≢◌}
 use native.Mathlib.Omega.{arith}
 use lib.ListN.{length}
 use borrow.Author.Tests.{eq-eqb, ne_eqb, le-leb, lt-leb, le-ltb, lt-ltb, not-true, not-false}
-use Rattle.rules.specs.Tables.{tables, title_at, put_top, title, zeros, fresh, seat_word, seat_count_of, phase_at, seat_width}
-use Rattle.std.specs.Prelude.{Option, None, Some}
+use Rattle.rules.specs.Tables.{Tables, tables, title_at, put_top, title, zeros, fresh, seat_word, seat_count_of, phase_at, seat_width}
+use Rattle.std.specs.Prelude.{Option, None, Some, Result, Ok, Err}
+use Rattle.rules.specs.declared.Refused.{Refused}
+use Rattle.rules.specs.declared.Reply.{Reply}
+use Rattle.rules.specs.Means.{means, means_done, means_count, number_of}
+use Rattle.rules.proofs.Laws.Meanings.{some_number}
 use Rattle.rules.specs.Comparison.{Claim, claim}
 use Rattle.rules.specs.Shape.{lengths_fit, sound, may_claim}
 use Rattle.rules.specs.Reach.{count_free}
@@ -29,6 +33,8 @@ use Rattle.steps.proofs.OwnWords as own
 use Rattle.phases.specs.Parts.{unanswered}
 use Rattle.phases.proofs.Ways.{its_refusal, its_tables}
 use Rattle.fetch.proofs.Ways.{Took, none_kept, none_is, node_is}
+use Rattle.shape.specs.Parts.{if_sound}
+use Rattle.shape.proofs.Tests.{lent_sound, not_lent}
 use Rattle.claims.specs.Parts.{reserve_fetching, reserve_claim, release_seat, enter_seat}
 
 -- ---- clear
@@ -180,3 +186,20 @@ module _ (sheet : Bool) (n t n' t' : List ℕ) (s r : ℕ) (stepped : done r (ta
   step_turned_away d =
       let said : (step (tables sheet n t) s).answer ≡ refused (refusal_of (step (tables sheet n t) s).answer) = refused_as (step (tables sheet n t) s).answer (λ e. d (refusal ∙ e)) in
       rw (refusal, after) (ap (λ (x : Answer). done x (step (tables sheet n t) s).after) (sym said))
+
+-- the same of what the step hands on: where it is refused, so is the call, with the same number
+pub step_refused : (sheet : Bool) (n t n' t' : List ℕ) (s : ℕ) (r : Result (Unit {0}) Refused) (q : Result Reply Refused) → done (means_done r) (tables sheet n' t') ≡ unanswered (step (tables sheet n t) s)
+    → (why : Refused) → r ≡ Err why → q ≡ Err why → done (means q) (tables sheet n' t') ≡ step (tables sheet n t) s
+step_refused sheet n t n' t' s r q stepped why is told = rw told (step_turned_away sheet n t n' t' s (number_of why) (rw is at stepped) (some_number why))
+
+-- free count, by what the test of its tables hands on: their refusal, or the tables as they are
+module _ (t : Tables) (r : Result Tables Refused) (lent : r ≡ if_sound t) where
+  pub count_refused : (why : Refused) (q : Result ℕ Refused) → r ≡ Err why → q ≡ Err why → means_count q ≡ free_count t
+  count_refused why q is told =
+      let damaged = not_lent t why (sym is ∙ lent) in
+      rw (told, damaged.1) (count_damaged t.sheet t.nodes t.seats 0 (sound t) refl damaged.0)
+
+  pub count_answered : (u : Tables) (k : ℕ) → r ≡ Ok u → k ≡ count_free u → Counted.counted k ≡ free_count t
+  count_answered u k is counts =
+      let same = lent_sound t u (sym is ∙ lent) in
+      count_sound t.sheet t.nodes t.seats 0 (sound t) refl k (rw same.1 at counts) same.0

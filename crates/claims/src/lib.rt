@@ -130,6 +130,7 @@ pub fn enter<P: Profile>(nodes: &[u32], seats: &mut [u32], s: u32) -> Result<Rep
 // ---- step
 
 // the step, and the answer from the seat's new phase
+#[tactic(auto, using(crate::proofs::Ways::step_refused))]
 fn step_and_answer<P: Profile>(
     nodes: &mut [u32],
     seats: &mut [u32],
@@ -186,6 +187,7 @@ pub fn release<P: Profile>(nodes: &mut [u32], seats: &mut [u32], s: u32) -> Resu
 
 // ---- free count
 
+#[tactic(auto, using(crate::proofs::Ways::count_refused, crate::proofs::Ways::count_answered))]
 pub fn free_count<P: Profile>(nodes: &[u32], seats: &[u32]) -> Result<u32, Refused>
     ensures { means_count result ≡ count.free_count (tables P.SHEET nodes.now seats.now) }
 {
