@@ -225,6 +225,7 @@ fn put_claims(title: u32, locks: &[i64], claims: &mut [u32])
 }
 
 // Import and export stay two: what they look at, refuse and store is of two kinds, and a promise for both would name each.
+#[tactic(auto, using(crate::proofs::Calls::import_no_title, crate::proofs::Calls::import_refused, crate::proofs::Calls::import_short, crate::proofs::Calls::import_accepted))]
 pub fn import(title: u32, locks: &[i64], claims: &mut [u32]) -> Result<(), BadRecord>
     ensures { listed (means_moved result) claims.new ≡ import_locks title locks.now claims.old }
 {
@@ -264,6 +265,7 @@ fn put_locks(title: u32, claims: &[u32], locks: &mut [i64])
     }
 }
 
+#[tactic(auto, using(crate::proofs::Calls::export_no_title, crate::proofs::Calls::export_refused, crate::proofs::Calls::export_short, crate::proofs::Calls::export_accepted))]
 pub fn export(title: u32, claims: &[u32], locks: &mut [i64]) -> Result<(), BadRecord>
     ensures { listed (means_moved result) locks.new ≡ export_claims title claims.now locks.old }
 {
