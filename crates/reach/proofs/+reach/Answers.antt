@@ -1,6 +1,6 @@
 -- `reach::reach` meets its promise.
 use Rattle.std.proofs.Common.{arith}
-use Rattle.reach.proofs.Ways.{node_within, links_within, next_small, hops_left, reach_end, reach_stop, reach_last, reach_on}
+use Rattle.reach.proofs.Ways.{node_within, links_within, next_small, reach_end, reach_stop, reach_last, reach_on}
 use Rattle.reach.proofs.+reach.Goals as goal
 
 pub returns-then-a-eq0 : goal.returns-then-a-eq0
@@ -16,7 +16,7 @@ reach-requires g t c =
       omega (arith, c.requires.some_hops),
       (
         outlives,
-        (next_small lent.sheet lent.nodes _ _ (links_within lent.sheet lent.nodes lent.seats c.are_sound.ensures) c.next.ensures, hops_left _ c.requires.some_hops c.if-hops-eq1.false),
+        (next_small lent.sheet lent.nodes _ _ (links_within lent.sheet lent.nodes lent.seats c.are_sound.ensures) c.next.ensures, omega (arith, c.requires.some_hops)),
       ),
     )
 
